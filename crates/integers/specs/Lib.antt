@@ -1,0 +1,6 @@
+-- Laws of ℤ that the kit lacks, each stated once. Nothing here must be believed: all is proved.
+pub mod Parts
+pub mod Sizes
+pub mod Ring
+pub mod Order
+pub mod Words

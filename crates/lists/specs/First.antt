@@ -1,0 +1,85 @@
+-- The first bad place of a search.
+use Prim.Native.Nat.{ℕ, zero, suc, _+_, _≤_, _<_}
+use native.Mathlib.Omega.{arith}
+use mathlib.Core.Path.{_≡_, refl, sym, ap, _∙_}
+use mathlib.Core.Logic.{_⊎_, inl, inr}
+use mathlib.Core.Bool.{Bool, true, false, cond}
+use Rattle.lists.specs.Tests.{lt-or-le, true-or-false, not-both}
+
+pub data Found : Type 0 where
+  nowhere : Found
+  at : ℕ → Found
+
+-- what was found, or else what the next place gives
+unfoldable pub orNext : Found → Found → Found
+orNext nowhere next = next
+orNext (at k) next = at k
+
+-- the first of the places 0 .. n - 1 that is bad
+unfoldable pub first : ℕ → (ℕ → Bool) → Found
+first zero bad = nowhere
+first (suc n) bad = orNext (first n bad) (cond (bad n) (at n) nowhere)
+
+-- ---- laws
+
+-- the places below n are good
+abbrev pub Good : ℕ → (ℕ → Bool) → Type 0
+Good n bad = (k : ℕ) → k < n → bad k ≡ false
+
+-- k is bad, and the first
+pub record FirstAt (n : ℕ) (bad : ℕ → Bool) (k : ℕ) : Type 0 where
+  pub inside : k < n
+  pub here : bad k ≡ true
+  pub before : Good k bad
+
+pub good-more : (n m : ℕ) (bad : ℕ → Bool) → m ≡ n + 1 → Good n bad → bad n ≡ false → Good m bad
+good-more n m bad e g h k l = go (lt-or-le k n)
+  where
+    go : (k < n) ⊎ (n ≤ k) → bad k ≡ false
+    go (inl p) = g k p
+    go (inr p) = let q : k ≡ n = omega arith in rw q h
+
+pub good-first : (n : ℕ) (bad : ℕ → Bool) → Good n bad → first n bad ≡ nowhere
+unfolding first orNext
+good-first zero bad g = refl
+good-first (suc n) bad g = rw (good-first n bad (λ k h. g k (omega arith)), g n (omega arith))
+
+pub bad-first : (n : ℕ) (bad : ℕ → Bool) (k : ℕ) → FirstAt n bad k → first n bad ≡ at k
+unfolding first orNext
+bad-first zero bad k f = absurd (omega (arith, f .inside))
+bad-first (suc n) bad k f = go (lt-or-le k n) (λ p. bad-first n bad k (record { inside = p; here = f .here; before = f .before }))
+  where
+    go : (k < n) ⊎ (n ≤ k) → (k < n → first n bad ≡ at k) → orNext (first n bad) (cond (bad n) (at n) nowhere) ≡ at k
+    go (inl p) r = rw (r p)
+    go (inr p) r =
+        let e : n ≡ k = omega (arith, f .inside) in
+        rw e (rw (good-first k bad (f .before), f .here))
+
+-- and what was found is so
+pub data Search (n : ℕ) (bad : ℕ → Bool) : Type 0 where
+  all-good : first n bad ≡ nowhere → Good n bad → Search n bad
+  bad-at : (k : ℕ) → first n bad ≡ at k → FirstAt n bad k → Search n bad
+
+pub search : (n : ℕ) (bad : ℕ → Bool) → Search n bad
+search zero bad = all-good (unfold first in refl) (λ k h. absurd (omega arith))
+search (suc n) bad = go (search n bad) (true-or-false (bad n))
+  where
+    bad-here : Good n bad → bad n ≡ true → FirstAt (suc n) bad n
+    bad-here g t = record { inside = omega arith; here = t; before = g }
+
+    later : (k : ℕ) → FirstAt n bad k → FirstAt (suc n) bad k
+    later k f = record { inside = omega (arith, f .inside); here = f .here; before = f .before }
+
+    go : Search n bad → (bad n ≡ true) ⊎ (bad n ≡ false) → Search (suc n) bad
+    go (bad-at k e f) b = bad-at k (bad-first (suc n) bad k (later k f)) (later k f)
+    go (all-good e g) (inl t) = bad-at n (bad-first (suc n) bad n (bad-here g t)) (bad-here g t)
+    go (all-good e g) (inr t) =
+        let h : Good (suc n) bad = good-more n (suc n) bad (omega arith) g t in
+        all-good (good-first (suc n) bad h) h
+
+pub first-good : (n : ℕ) (bad : ℕ → Bool) → first n bad ≡ nowhere → Good n bad
+first-good n bad e = go (search n bad)
+  where
+    go : Search n bad → Good n bad
+    go (all-good q g) = g
+    go (bad-at k q f) = absurd (let z : _≡_ {A = ℕ} 0 1 = cc in omega arith)

@@ -1,0 +1,9 @@
+-- Lists as loops make them: by a function of the index, summed, searched, filtered. Nothing here must be believed but the short
+-- definitions tab, total, upTo, first and keep, which the scheme cites.
+pub mod Tests
+pub mod Tab
+pub mod Filled
+pub mod Sums
+pub mod First
+pub mod Members
+pub mod Keep

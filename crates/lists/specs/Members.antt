@@ -1,0 +1,51 @@
+-- What holds of each element of a list, or of some.
+use Prim.Native.Nat.{ℕ, _+_, _≤_, _<_}
+use native.Mathlib.Omega.{arith}
+use mathlib.Core.Path.{_≡_}
+use mathlib.Core.Logic.{_⊎_, inl, inr}
+use mathlib.Core.List.{List, [], _∷_, map}
+use Rattle.lists.specs.Tests.{lt-or-le}
+use Rattle.lists.specs.Sums.{total}
+
+-- P holds of each
+pub data All {A : Type 0} (P : A → Type 0) : List A → Type 0 where
+  none : All P []
+  more : {a : A} {xs : List A} → P a → All P xs → All P (a ∷ xs)
+
+-- P holds of some
+pub data Some {A : Type 0} (P : A → Type 0) : List A → Type 0 where
+  here : {a : A} {xs : List A} → P a → Some P (a ∷ xs)
+  later : {a : A} {xs : List A} → Some P xs → Some P (a ∷ xs)
+
+-- ---- laws
+
+pub all-map : {A B : Type 0} (P : A → Type 0) (Q : B → Type 0) (f : A → B) → ((a : A) → P a → Q (f a)) → {xs : List A} → All P xs → All Q (map f xs)
+all-map P Q f g none = none
+all-map P Q f g (more {a = a} h r) = more (g a h) (all-map P Q f g r)
+
+pub all-also : {A : Type 0} (P Q : A → Type 0) → ((a : A) → P a → Q a) → {xs : List A} → All P xs → All Q xs
+all-also P Q f none = none
+all-also P Q f (more {a = a} h r) = more (f a h) (all-also P Q f r)
+
+pub all-of : {A : Type 0} (P : A → Type 0) → ((a : A) → P a) → (xs : List A) → All P xs
+all-of P f [] = none
+all-of P f (a ∷ xs) = more (f a) (all-of P f xs)
+
+pub some-also : {A : Type 0} (P Q : A → Type 0) → ((a : A) → P a → Q a) → {xs : List A} → Some P xs → Some Q xs
+some-also P Q f (here {a = a} h) = here (f a h)
+some-also P Q f (later r) = later (some-also P Q f r)
+
+-- a sum of naturals is above 0 exactly where some share is
+pub some-share : {A : Type 0} (f : A → ℕ) (xs : List A) → 0 < total 0 _+_ f xs → Some (λ a. 0 < f a) xs
+unfolding total
+some-share f [] h = absurd (omega arith)
+some-share f (a ∷ xs) h = go (lt-or-le 0 (f a)) (some-share f xs)
+  where
+    go : (0 < f a) ⊎ (f a ≤ 0) → (0 < total 0 _+_ f xs → Some (λ a. 0 < f a) xs) → Some (λ a. 0 < f a) (a ∷ xs)
+    go (inl p) r = here p
+    go (inr p) r = later (r (unfold total in omega arith))
+
+pub share-some : {A : Type 0} (f : A → ℕ) {xs : List A} → Some (λ a. 0 < f a) xs → 0 < total 0 _+_ f xs
+unfolding total
+share-some f (here h) = omega arith
+share-some f (later r) = omega (arith, share-some f r)

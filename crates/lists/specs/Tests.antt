@@ -1,0 +1,43 @@
+-- Tests: what a boolean says, and what follows for a choice by it.
+use Prim.Native.Nat.{ℕ, _≤_, _<_}
+use native.Mathlib.Omega.{arith}
+use mathlib.Core.Path.{_≡_, refl}
+use mathlib.Core.Logic.{_⊎_, inl, inr}
+use mathlib.Core.Bool.{Bool, true, false, not, cond, _&&_, _||_}
+use lib.Dec.{T, ltb, ltb→lt, nltb→le}
+
+pub lt-or-le : (a b : ℕ) → (a < b) ⊎ (b ≤ a)
+lt-or-le a b = go (ltb a b) (ltb→lt a b) (nltb→le a b)
+  where
+    go : (t : Bool) → (T t → a < b) → (T (not t) → b ≤ a) → (a < b) ⊎ (b ≤ a)
+    go true f g = inl (f tt)
+    go false f g = inr (g tt)
+
+pub true-or-false : (b : Bool) → (b ≡ true) ⊎ (b ≡ false)
+true-or-false true = inl refl
+true-or-false false = inr refl
+
+pub not-both : true ≡ false → ⊥
+not-both e = let z : _≡_ {A = ℕ} 0 1 = cc in omega arith
+
+pub and-true : (a b : Bool) → a && b ≡ true → (a ≡ true) × (b ≡ true)
+and-true true b e = (refl, e)
+and-true false b e = absurd (not-both (cc))
+
+pub true-and : (a b : Bool) → a ≡ true → b ≡ true → a && b ≡ true
+true-and a b p q = rw (p, q)
+
+pub or-false : (a b : Bool) → a || b ≡ false → (a ≡ false) × (b ≡ false)
+or-false true b e = absurd (not-both e)
+or-false false b e = (refl, e)
+
+-- a choice by a test is settled by what the test says
+module _ {A : Type 0} where
+  pub cond-same : (b : Bool) (x y z : A) → (b ≡ true → x ≡ z) → (b ≡ false → y ≡ z) → cond b x y ≡ z
+  cond-same true x y z f g = f refl
+  cond-same false x y z f g = g refl
+
+-- and what holds of both holds of the choice
+pub cond-both : {A : Type 0} (P : A → Type 0) (b : Bool) (x y : A) → (b ≡ true → P x) → (b ≡ false → P y) → P (cond b x y)
+cond-both P true x y f g = f refl
+cond-both P false x y f g = g refl

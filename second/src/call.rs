@@ -1,0 +1,108 @@
+//! What a C call receives and gives, as plain columns and numbers.
+
+use crate::field::Shape;
+
+/// The raw arguments of a whole analysis or a window query, good or bad.
+/// Of the result slices only the lengths matter to the outcome.
+#[derive(Clone, Debug, Default, PartialEq, Eq)]
+pub struct Call {
+    pub nx: u32,
+    pub ny: u32,
+    pub first_guess: Vec<i32>,
+    pub x: Vec<i32>,
+    pub y: Vec<i32>,
+    pub value: Vec<i32>,
+    pub observed: Vec<u32>,
+    pub from: Vec<u32>,
+    pub until: Vec<u32>,
+    pub scans: u32,
+    pub radius: Vec<i32>,
+    pub limit: Vec<i32>,
+    pub smooth: bool,
+    pub time: u32,
+    pub age: u32,
+    pub grid_len: usize,
+    pub support_len: usize,
+    pub verdict_len: usize,
+}
+
+impl Call {
+    /// The grid's shape; it means something once refusal 1 is ruled out.
+    pub fn shape(&self) -> Shape {
+        Shape { nx: self.nx as usize, ny: self.ny as usize }
+    }
+
+    /// Gives the result slices the lengths that a whole analysis asks for.
+    pub fn fit_results(&mut self) {
+        self.grid_len = self.first_guess.len();
+        self.support_len = self.first_guess.len();
+        self.verdict_len = self.x.len();
+    }
+}
+
+/// The four ends of a window; they count from 0 and are inside it.
+#[derive(Clone, Copy, Debug, PartialEq, Eq)]
+pub struct Window {
+    pub left: u32,
+    pub right: u32,
+    pub top: u32,
+    pub bottom: u32,
+}
+
+impl Window {
+    pub fn new(left: u32, right: u32, top: u32, bottom: u32) -> Self {
+        Window { left, right, top, bottom }
+    }
+
+    /// The number of points in a window whose ends are in order.
+    pub fn area(&self) -> usize {
+        let columns = (self.right - self.left) as usize + 1;
+        let rows = (self.bottom - self.top) as usize + 1;
+        columns * rows
+    }
+}
+
+/// The raw arguments of a point reading; a summary takes all but the support
+/// and the place.
+#[derive(Clone, Debug, PartialEq, Eq)]
+pub struct Query {
+    pub nx: u32,
+    pub ny: u32,
+    pub field: Vec<i32>,
+    pub support: Vec<u8>,
+    pub x: i32,
+    pub y: i32,
+}
+
+/// A refusal number of the table and the place it names.
+#[derive(Clone, Copy, Debug, PartialEq, Eq)]
+pub struct Refusal {
+    pub number: u32,
+    pub place: u32,
+}
+
+impl Refusal {
+    pub fn new(number: u32, place: u32) -> Self {
+        Refusal { number, place }
+    }
+
+    /// The one u32 in which the C calls return it.
+    pub fn code(&self) -> u32 {
+        self.number * 65_536 + self.place
+    }
+}
+
+/// The results of an accepted whole analysis.
+#[derive(Clone, Debug, PartialEq, Eq)]
+pub struct Analysis {
+    pub grid: Vec<i32>,
+    pub support: Vec<u8>,
+    pub verdict: Vec<u8>,
+}
+
+/// The results of an accepted window query, row by row.
+#[derive(Clone, Debug, PartialEq, Eq)]
+pub struct WindowAnswer {
+    pub grid: Vec<i32>,
+    pub support: Vec<u8>,
+}

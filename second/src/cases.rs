@@ -1,0 +1,296 @@
+//! The five kinds of comparison: analysis, window, reading, summary, text.
+
+use crate::call::{Analysis, Call, Query, Refusal, Window};
+use crate::compare::{read, Case, Results, Subject};
+use crate::generate;
+use crate::guarded::{Guarded, BYTE_PATTERN, GRID_PATTERN};
+use crate::reading::Reading;
+use crate::scheme::analyse;
+use crate::shrink;
+use crate::summary::{summarise, Summary};
+use crate::tally::{Floor, Tally};
+use crate::text;
+use crate::window::{pick, whole};
+use crate::write::{listing, printf_form, rerun_form};
+
+const VERDICTS: [u32; 12] = [0, 1, 2, 3, 4, 5, 11, 12, 13, 14, 15, 16];
+const NOT_OFFERED: &str = "the subject does not offer this call";
+
+/// The floors of the kinds that run the scheme.
+fn scheme_floors(accepted: u64, refusals: &[u32]) -> Vec<Floor> {
+    let mut floors = vec![Floor::accepted_share(accepted), Floor::times("big", 0, 300)];
+    floors.extend(refusals.iter().map(|n| Floor::times("refusal", *n, 200)));
+    floors.extend([6, 7, 8].map(|n| Floor::times("refusal with a place", n, 200)));
+    floors.extend(VERDICTS.map(|n| Floor::times("verdict", n, 200)));
+    floors
+}
+
+fn count_scheme(call: &Call, outcome: &Result<Analysis, Refusal>, tally: &mut Tally) {
+    match outcome {
+        Ok(analysis) => tally.add_analysis(call, analysis),
+        Err(refusal) => tally.add_refusal(refusal),
+    }
+}
+
+fn unlike_code<T>(code: Option<u32>, outcome: &Result<T, Refusal>) -> Option<String> {
+    let Some(code) = code else {
+        return Some(NOT_OFFERED.to_string());
+    };
+    let (number, place) = match outcome {
+        Ok(_) => (0, 0),
+        Err(refusal) => (refusal.number, refusal.place),
+    };
+    let (given, at) = (code / 65_536, code % 65_536);
+    ((given, at) != (number, place))
+        .then(|| format!("refusal {given} at {at}, not refusal {number} at {place}"))
+}
+
+#[derive(Clone, Debug, PartialEq, Eq)]
+pub struct AnalysisCase(pub Call);
+
+impl Case for AnalysisCase {
+    const KIND: &'static str = "analysis";
+    type Expected = Result<Analysis, Refusal>;
+
+    fn generate(seed: u64, index: u64) -> Self {
+        AnalysisCase(generate::analysis(seed, index))
+    }
+
+    fn expected(&self) -> Self::Expected {
+        analyse(&self.0)
+    }
+
+    fn count(&self, expected: &Self::Expected, tally: &mut Tally) {
+        count_scheme(&self.0, expected, tally);
+    }
+
+    fn difference(&self, expected: &Self::Expected, subject: &dyn Subject) -> Option<String> {
+        let call = &self.0;
+        let mut grid = Guarded::new("grid", call.grid_len, GRID_PATTERN);
+        let mut support = Guarded::new("support", call.support_len, BYTE_PATTERN);
+        let mut verdict = Guarded::new("verdict", call.verdict_len, BYTE_PATTERN);
+        let results =
+            Results { grid: grid.lent(), support: support.lent(), verdict: verdict.lent() };
+        let code = subject.analyse(call, results);
+        let answer = expected.as_ref().ok();
+        unlike_code(code, expected)
+            .or_else(|| verdict.difference(answer.map(|a| &a.verdict[..])))
+            .or_else(|| support.difference(answer.map(|a| &a.support[..])))
+            .or_else(|| grid.difference(answer.map(|a| &a.grid[..])))
+    }
+
+    fn smaller(&self) -> Box<dyn Iterator<Item = Self> + '_> {
+        Box::new(shrink::smaller_calls(&self.0).map(AnalysisCase))
+    }
+
+    fn rerun_form(&self) -> String {
+        rerun_form(&self.0)
+    }
+
+    fn floors() -> Vec<Floor> {
+        scheme_floors(10_000, &[1, 3, 4, 5, 6, 7, 8])
+    }
+}
+
+#[derive(Clone, Debug, PartialEq, Eq)]
+pub struct WindowCase {
+    pub call: Call,
+    pub window: Window,
+}
+
+impl Case for WindowCase {
+    const KIND: &'static str = "window";
+    /// The whole grid's analysis, so that its verdicts can be counted.
+    type Expected = Result<Analysis, Refusal>;
+
+    fn generate(seed: u64, index: u64) -> Self {
+        let (call, window) = generate::window(seed, index);
+        WindowCase { call, window }
+    }
+
+    fn expected(&self) -> Self::Expected {
+        whole(&self.call, &self.window)
+    }
+
+    fn count(&self, expected: &Self::Expected, tally: &mut Tally) {
+        count_scheme(&self.call, expected, tally);
+    }
+
+    fn difference(&self, expected: &Self::Expected, subject: &dyn Subject) -> Option<String> {
+        let (call, window) = (&self.call, &self.window);
+        let mut grid = Guarded::new("grid", call.grid_len, GRID_PATTERN);
+        let mut support = Guarded::new("support", call.support_len, BYTE_PATTERN);
+        let results = Results { grid: grid.lent(), support: support.lent(), verdict: &mut [] };
+        let code = subject.window(call, window, results);
+        let answer = expected.as_ref().ok();
+        let answer = answer.map(|analysis| pick(call.shape(), analysis, window));
+        unlike_code(code, expected)
+            .or_else(|| support.difference(answer.as_ref().map(|a| &a.support[..])))
+            .or_else(|| grid.difference(answer.as_ref().map(|a| &a.grid[..])))
+    }
+
+    fn smaller(&self) -> Box<dyn Iterator<Item = Self> + '_> {
+        let cases = shrink::smaller_windows(&self.call, &self.window);
+        Box::new(cases.map(|(call, window)| WindowCase { call, window }))
+    }
+
+    fn rerun_form(&self) -> String {
+        let Window { left, right, top, bottom } = self.window;
+        let ends = text::line("left,right,top,bottom", &[left, right, top, bottom]);
+        ends + &listing(&self.call)
+    }
+
+    fn floors() -> Vec<Floor> {
+        scheme_floors(10_000, &[1, 2, 3, 4, 5, 6, 7, 8])
+    }
+}
+
+fn query_form(query: &Query) -> String {
+    [
+        text::line("nx,ny", &[query.nx, query.ny]),
+        text::line("field", &query.field),
+        text::line("support", &query.support),
+        text::line("x,y", &[query.x, query.y]),
+    ]
+    .concat()
+}
+
+#[derive(Clone, Debug, PartialEq, Eq)]
+pub struct ReadingCase(pub Query);
+
+impl Case for ReadingCase {
+    const KIND: &'static str = "reading";
+    type Expected = Reading;
+
+    fn generate(seed: u64, index: u64) -> Self {
+        ReadingCase(generate::reading(seed, index))
+    }
+
+    fn expected(&self) -> Reading {
+        read(&self.0)
+    }
+
+    fn count(&self, expected: &Reading, tally: &mut Tally) {
+        tally.add("kind", expected.kind());
+    }
+
+    fn difference(&self, expected: &Reading, subject: &dyn Subject) -> Option<String> {
+        let kind = subject.reading_kind(&self.0);
+        let value = subject.reading_value(&self.0);
+        let (Some(kind), Some(value)) = (kind, value) else {
+            return Some(NOT_OFFERED.to_string());
+        };
+        let same = kind == expected.kind() && value.to_bits() == expected.value().to_bits();
+        (!same).then(|| format!("kind {kind} with {value:?}, not {expected:?}"))
+    }
+
+    fn smaller(&self) -> Box<dyn Iterator<Item = Self> + '_> {
+        Box::new(shrink::smaller_queries(&self.0).map(ReadingCase))
+    }
+
+    fn rerun_form(&self) -> String {
+        query_form(&self.0)
+    }
+
+    fn floors() -> Vec<Floor> {
+        [0, 1, 2, 3].map(|n| Floor::times("kind", n, 200)).to_vec()
+    }
+}
+
+#[derive(Clone, Debug, PartialEq, Eq)]
+pub struct SummaryCase(pub Query);
+
+impl Case for SummaryCase {
+    const KIND: &'static str = "summary";
+    type Expected = Summary;
+
+    fn generate(seed: u64, index: u64) -> Self {
+        SummaryCase(generate::summary(seed, index))
+    }
+
+    fn expected(&self) -> Summary {
+        summarise(self.0.nx, self.0.ny, &self.0.field)
+    }
+
+    fn count(&self, expected: &Summary, tally: &mut Tally) {
+        tally.add("refusal", expected.refusal);
+    }
+
+    fn difference(&self, expected: &Summary, subject: &dyn Subject) -> Option<String> {
+        let Some(given) = subject.summary(&self.0) else {
+            return Some(NOT_OFFERED.to_string());
+        };
+        let bits = |s: &Summary| [s.lowest, s.highest, s.span].map(f64::to_bits);
+        let same = (given.refusal, given.place) == (expected.refusal, expected.place)
+            && bits(&given) == bits(expected);
+        (!same).then(|| format!("{given:?}, not {expected:?}"))
+    }
+
+    fn smaller(&self) -> Box<dyn Iterator<Item = Self> + '_> {
+        Box::new(shrink::smaller_queries(&self.0).map(SummaryCase))
+    }
+
+    fn rerun_form(&self) -> String {
+        query_form(&self.0)
+    }
+
+    fn floors() -> Vec<Floor> {
+        [0, 1].map(|n| Floor::times("refusal", n, 200)).to_vec()
+    }
+}
+
+#[derive(Clone, Debug, PartialEq, Eq)]
+pub struct TextCase(pub Vec<u8>);
+
+impl Case for TextCase {
+    const KIND: &'static str = "text";
+    type Expected = Result<(Call, Analysis), Refusal>;
+
+    fn generate(seed: u64, index: u64) -> Self {
+        TextCase(generate::text(seed, index))
+    }
+
+    fn expected(&self) -> Self::Expected {
+        text::decide(&self.0)
+    }
+
+    fn count(&self, expected: &Self::Expected, tally: &mut Tally) {
+        match expected {
+            Ok((call, analysis)) => tally.add_analysis(call, analysis),
+            Err(refusal) => tally.add_refusal(refusal),
+        }
+    }
+
+    fn difference(&self, expected: &Self::Expected, subject: &dyn Subject) -> Option<String> {
+        let Some(given) = subject.text(&self.0) else {
+            return Some(NOT_OFFERED.to_string());
+        };
+        let asked = text::print(expected);
+        let lines = |bytes: &[u8]| -> Vec<String> {
+            let lines = bytes.split_inclusive(|byte| *byte == b'\n');
+            lines.map(|line| line.escape_ascii().to_string()).collect()
+        };
+        let (given, asked) = (lines(&given), lines(&asked));
+        let most = given.len().max(asked.len());
+        let at = (0..most).find(|at| given.get(*at) != asked.get(*at))?;
+        let show = |lines: &[String]| lines.get(at).map_or("absent".to_string(), String::clone);
+        let (given, asked) = (show(&given), show(&asked));
+        Some(format!("answer line {} is {given}, not {asked}", at + 1))
+    }
+
+    fn smaller(&self) -> Box<dyn Iterator<Item = Self> + '_> {
+        Box::new(shrink::smaller_texts(&self.0).map(TextCase))
+    }
+
+    fn rerun_form(&self) -> String {
+        printf_form(&self.0)
+    }
+
+    fn plain(&self) -> Vec<u8> {
+        self.0.clone()
+    }
+
+    fn floors() -> Vec<Floor> {
+        scheme_floors(6_667, &[6, 7, 8, 9, 10])
+    }
+}

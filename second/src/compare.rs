@@ -1,0 +1,152 @@
+//! The harness: a subject's calls beside the second program's, over a seed
+//! and a count, with a tally and the smallest failing case.
+
+use crate::call::{Call, Query, Refusal, Window};
+use crate::reading::{reading, Reading};
+use crate::scheme::analyse;
+use crate::shrink::smallest;
+use crate::summary::{summarise, Summary};
+use crate::tally::{Floor, Tally};
+use crate::text;
+use crate::window::window;
+
+/// The result slices that are lent to a subject. A window query has no
+/// verdicts and is lent none.
+pub struct Results<'a> {
+    pub grid: &'a mut [i32],
+    pub support: &'a mut [u8],
+    pub verdict: &'a mut [u8],
+}
+
+/// A program under comparison, behind the interface of the C calls. A call
+/// that a subject does not offer gives nothing, and a run that needs it fails.
+pub trait Subject {
+    fn analyse(&self, _call: &Call, _results: Results) -> Option<u32> {
+        None
+    }
+
+    fn window(&self, _call: &Call, _window: &Window, _results: Results) -> Option<u32> {
+        None
+    }
+
+    fn reading_kind(&self, _query: &Query) -> Option<u32> {
+        None
+    }
+
+    fn reading_value(&self, _query: &Query) -> Option<f64> {
+        None
+    }
+
+    fn summary(&self, _query: &Query) -> Option<Summary> {
+        None
+    }
+
+    fn text(&self, _request: &[u8]) -> Option<Vec<u8>> {
+        None
+    }
+}
+
+/// The second program itself, behind the same interface.
+pub struct Own;
+
+impl Subject for Own {
+    fn analyse(&self, call: &Call, results: Results) -> Option<u32> {
+        Some(written(analyse(call), |analysis| {
+            results.grid.copy_from_slice(&analysis.grid);
+            results.support.copy_from_slice(&analysis.support);
+            results.verdict.copy_from_slice(&analysis.verdict);
+        }))
+    }
+
+    fn window(&self, call: &Call, ends: &Window, results: Results) -> Option<u32> {
+        Some(written(window(call, ends), |answer| {
+            results.grid.copy_from_slice(&answer.grid);
+            results.support.copy_from_slice(&answer.support);
+        }))
+    }
+
+    fn reading_kind(&self, query: &Query) -> Option<u32> {
+        Some(read(query).kind())
+    }
+
+    fn reading_value(&self, query: &Query) -> Option<f64> {
+        Some(read(query).value())
+    }
+
+    fn summary(&self, query: &Query) -> Option<Summary> {
+        Some(summarise(query.nx, query.ny, &query.field))
+    }
+
+    fn text(&self, request: &[u8]) -> Option<Vec<u8>> {
+        Some(text::answer(request))
+    }
+}
+
+pub fn read(query: &Query) -> Reading {
+    reading(query.nx, query.ny, &query.field, &query.support, query.x, query.y)
+}
+
+/// The code of an outcome, after an accepted one has been written.
+fn written<T>(outcome: Result<T, Refusal>, write: impl FnOnce(T)) -> u32 {
+    match outcome {
+        Ok(answer) => {
+            write(answer);
+            0
+        }
+        Err(refusal) => refusal.code(),
+    }
+}
+
+/// One kind of comparison: how its cases are made, answered, counted,
+/// compared, made smaller and written down.
+pub trait Case: Clone {
+    const KIND: &'static str;
+    /// What the second program says of a case.
+    type Expected;
+
+    fn generate(seed: u64, index: u64) -> Self;
+    fn expected(&self) -> Self::Expected;
+    fn count(&self, expected: &Self::Expected, tally: &mut Tally);
+    fn difference(&self, expected: &Self::Expected, subject: &dyn Subject) -> Option<String>;
+    fn smaller(&self) -> Box<dyn Iterator<Item = Self> + '_>;
+    fn rerun_form(&self) -> String;
+    fn floors() -> Vec<Floor>;
+
+    /// The case as plain bytes, for the `generate` command.
+    fn plain(&self) -> Vec<u8> {
+        self.rerun_form().into_bytes()
+    }
+
+    fn differs(&self, subject: &dyn Subject) -> Option<String> {
+        self.difference(&self.expected(), subject)
+    }
+}
+
+/// A case that the subject answers otherwise, made as small as can be.
+pub struct Failure<C> {
+    pub index: u64,
+    pub difference: String,
+    pub smallest: C,
+}
+
+pub struct Run<C> {
+    pub tally: Tally,
+    pub failure: Option<Failure<C>>,
+}
+
+/// Compares the cases 0..count of a seed, up to the first that differs.
+pub fn run<C: Case>(subject: &dyn Subject, seed: u64, count: u64) -> Run<C> {
+    let mut tally = Tally::default();
+    for index in 0..count {
+        let case = C::generate(seed, index);
+        let expected = case.expected();
+        tally.count += 1;
+        case.count(&expected, &mut tally);
+        if let Some(difference) = case.difference(&expected, subject) {
+            let smallest = smallest(case, &|case: &C| case.differs(subject).is_some());
+            let difference = smallest.differs(subject).unwrap_or(difference);
+            return Run { tally, failure: Some(Failure { index, difference, smallest }) };
+        }
+    }
+    Run { tally, failure: None }
+}

@@ -1,0 +1,350 @@
+//! The generator's harm: numbers pushed to their bounds, and calls, windows,
+//! queries and texts broken on purpose.
+
+use crate::call::{Call, Query, Window};
+use crate::rng::Rng;
+use crate::units::{MISSING, MOST_STATIONS, NO_END};
+
+const SIDES: [u32; 4] = [0, 1, 65, u32::MAX];
+const BAD_VALUES: [i32; 4] = [1_000_001, -1_000_001, i32::MAX, i32::MIN + 1];
+const EDGE_VALUES: [i32; 4] = [1_000_000, -1_000_000, MISSING, 32_767];
+
+/// Breaks a call so that it earns a refusal, sometimes in a second way too.
+pub fn break_call(rng: &mut Rng, call: &mut Call, number: u32) {
+    break_one(rng, call, number);
+    if rng.one_in(4) {
+        let other = rng.pick(&[1, 3, 4, 5, 6, 7, 8, number]);
+        break_one(rng, call, other);
+    }
+}
+
+pub fn break_one(rng: &mut Rng, call: &mut Call, number: u32) {
+    match number {
+        1 => break_shape(rng, call),
+        3 => break_results(rng, call),
+        4 => break_columns(rng, call),
+        5 => break_scan_count(rng, call),
+        6 => set_plan(rng, call, true),
+        7 => set_guess(rng, call, true),
+        _ => set_row(rng, call, true),
+    }
+}
+
+fn break_shape(rng: &mut Rng, call: &mut Call) {
+    match rng.below(4) {
+        0 => call.nx = rng.pick(&SIDES),
+        1 => call.ny = rng.pick(&SIDES),
+        2 => call.first_guess.push(0),
+        _ => {
+            call.first_guess.pop();
+        }
+    }
+}
+
+fn break_results(rng: &mut Rng, call: &mut Call) {
+    let length = match rng.below(3) {
+        0 => &mut call.grid_len,
+        1 => &mut call.support_len,
+        _ => &mut call.verdict_len,
+    };
+    *length = rng.pick(&[*length + 1, length.checked_sub(1).unwrap_or(2)]);
+}
+
+/// One column longer or shorter than the rest, or a row too many. Verdicts
+/// are mostly kept as long as x, so that refusal 3 does not come first.
+fn break_columns(rng: &mut Rng, call: &mut Call) {
+    let column = rng.below(7);
+    match column {
+        0 => change_length(rng, &mut call.x, 0),
+        1 => change_length(rng, &mut call.y, 0),
+        2 => change_length(rng, &mut call.value, 640),
+        3 => change_length(rng, &mut call.observed, 0),
+        4 => change_length(rng, &mut call.from, 0),
+        5 => change_length(rng, &mut call.until, NO_END),
+        _ => set_rows(call, MOST_STATIONS + 1),
+    }
+    if !rng.one_in(5) {
+        call.verdict_len = call.x.len();
+    }
+}
+
+fn change_length<T>(rng: &mut Rng, column: &mut Vec<T>, entry: T) {
+    if column.is_empty() || rng.one_in(2) {
+        column.push(entry);
+    } else {
+        column.pop();
+    }
+}
+
+/// Repeats or drops rows until there are so many. The first of all stands at
+/// the origin and agrees with the first guess there.
+fn set_rows(call: &mut Call, rows: usize) {
+    let guess = call.first_guess.first().copied().unwrap_or(0);
+    resize(&mut call.x, rows, 0);
+    resize(&mut call.y, rows, 0);
+    resize(&mut call.value, rows, guess);
+    resize(&mut call.observed, rows, call.time);
+    resize(&mut call.from, rows, 0);
+    resize(&mut call.until, rows, NO_END);
+    call.verdict_len = rows;
+}
+
+fn resize<T: Copy>(column: &mut Vec<T>, rows: usize, first: T) {
+    for row in column.len()..rows {
+        column.push(if row == 0 { first } else { column[row / 2] });
+    }
+    column.truncate(rows);
+}
+
+fn break_scan_count(rng: &mut Rng, call: &mut Call) {
+    let shorter = rng.below(call.scans.clamp(1, 6) as usize);
+    match rng.below(5) {
+        0 => call.scans = 0,
+        1 => call.scans = u32::MAX,
+        2 => {
+            call.scans = 7;
+            call.radius.resize(7, 1);
+            call.limit.resize(7, 100);
+        }
+        3 => call.radius.truncate(shorter),
+        _ => call.limit.truncate(shorter),
+    }
+}
+
+/// One entry of the plan on a bound, or past it if bad. Neighbours follow a
+/// good radius, so that none rises.
+fn set_plan(rng: &mut Rng, call: &mut Call, bad: bool) {
+    let scans = call.scans.clamp(1, 6) as usize;
+    let scan = rng.below(scans).max(rng.below(scans));
+    if scan >= call.radius.len().min(call.limit.len()) {
+        return;
+    }
+    let before = scan.checked_sub(1).map_or(1024, |before| call.radius[before]);
+    let rising = before.saturating_add(1);
+    match (rng.below(5), bad) {
+        (0 | 1, true) => call.limit[scan] = rng.pick(&[-1, 2_000_001, i32::MAX, i32::MIN]),
+        (0 | 1, false) => call.limit[scan] = rng.pick(&[0, 2_000_000]),
+        (_, true) => call.radius[scan] = rng.pick(&[0, -1, 1025, rising, rising, i32::MAX]),
+        (2, false) => call.radius[scan..].fill(1),
+        (3, false) => call.radius[..=scan].fill(1024),
+        (_, false) => call.radius[scan] = before,
+    }
+}
+
+fn set_guess(rng: &mut Rng, call: &mut Call, bad: bool) {
+    let point = rng.below(call.first_guess.len().max(1));
+    if let Some(value) = call.first_guess.get_mut(point) {
+        *value = match bad {
+            true => rng.pick(&[1_000_001, -1_000_001, i32::MAX, MISSING]),
+            false => rng.pick(&[1_000_000, -1_000_000]),
+        };
+    }
+}
+
+/// One field of a row on a bound, or past it if bad.
+fn set_row(rng: &mut Rng, call: &mut Call, bad: bool) {
+    if call.x.is_empty() {
+        set_rows(call, 1);
+    }
+    let columns = [call.y.len(), call.value.len(), call.from.len(), call.until.len()];
+    let rows = columns.into_iter().fold(call.x.len().min(call.observed.len()), usize::min);
+    if rows == 0 {
+        return;
+    }
+    let row = rng.below(rows);
+    let (last_x, last_y) = call.shape().far_corner();
+    match rng.below(if bad { 4 } else { 5 }) {
+        0 => call.value[row] = rng.pick(if bad { &BAD_VALUES } else { &EDGE_VALUES }),
+        1 => call.x[row] = edge_position(rng, last_x, bad),
+        2 => call.y[row] = edge_position(rng, last_y, bad),
+        3 => set_service(rng, call, row, bad),
+        _ => {
+            let oldest = call.time.saturating_sub(call.age);
+            let ends = [oldest, oldest.saturating_sub(1), call.time, u32::MAX, 0];
+            call.observed[row] = rng.pick(&ends);
+        }
+    }
+}
+
+fn edge_position(rng: &mut Rng, last: i64, bad: bool) -> i32 {
+    let far = rng.pick(&[1_000_000, -1_000_000]);
+    let past = rng.pick(&[1_000_001, -1_000_001, i32::MAX, i32::MIN]);
+    let last = i32::try_from(last).unwrap_or(0);
+    if bad {
+        past
+    } else {
+        rng.pick(&[far, far, -1, 0, last, last + 1])
+    }
+}
+
+fn set_service(rng: &mut Rng, call: &mut Call, row: usize, bad: bool) {
+    let (time, observed, until) = (call.time, call.observed[row], call.until[row]);
+    let from_then = |minute: u32| (minute.min(NO_END - 1), minute.saturating_add(1));
+    (call.from[row], call.until[row]) = match bad {
+        true => {
+            let below = until.saturating_sub(1);
+            rng.pick(&[(until, until), (until, below), (0, 0), (NO_END, NO_END)])
+        }
+        false => rng.pick(&[from_then(observed), from_then(time), (0, 1), (0, time.max(1))]),
+    };
+}
+
+/// The analysis minute at its ends, and an age that just holds or does not.
+fn set_times(rng: &mut Rng, call: &mut Call) {
+    if rng.one_in(2) {
+        call.time = rng.pick(&[0, 1, u32::MAX - 1, u32::MAX]);
+    }
+    let row = rng.below(call.observed.len().max(1));
+    let observed = call.observed.get(row).copied().unwrap_or(0);
+    let age = call.time.saturating_sub(observed);
+    call.age = rng.pick(&[0, u32::MAX, age, age.saturating_sub(1)]);
+}
+
+/// Sets some numbers exactly to their bounds, now and then to one past.
+pub fn push_to_bounds(rng: &mut Rng, call: &mut Call) {
+    for _ in 0..1 + rng.below(4) {
+        let past = rng.one_in(9);
+        match rng.below(9) {
+            0 | 1 => set_plan(rng, call, past),
+            2 => set_guess(rng, call, past),
+            3 => set_times(rng, call),
+            4 if rng.one_in(4) => {
+                set_rows(call, rng.pick(&[0, 1, MOST_STATIONS]) + usize::from(past));
+            }
+            5 if past => break_results(rng, call),
+            6 if past => break_scan_count(rng, call),
+            _ => set_row(rng, call, past),
+        }
+    }
+}
+
+/// A window with a wrong end, sometimes on a call with another fault.
+pub fn bad_window(rng: &mut Rng, mut call: Call, good: Window) -> (Call, Window) {
+    let mut bad = good;
+    match rng.below(8) {
+        0 => bad.left = good.right + 1,
+        1 => bad.top = good.bottom + 1,
+        2 => bad.right = call.nx,
+        3 => bad.bottom = call.ny,
+        4 => bad.right = u32::MAX,
+        5 => bad.bottom = u32::MAX,
+        6 => (bad.left, bad.right) = (call.nx, call.nx),
+        _ => (bad.top, bad.bottom) = (u32::MAX, u32::MAX),
+    }
+    if rng.one_in(4) {
+        let other = rng.pick(&[1, 3, 4, 5, 6, 7, 8]);
+        break_one(rng, &mut call, other);
+    }
+    (call, bad)
+}
+
+/// A reading or summary whose shape or lengths are wrong.
+pub fn break_query(rng: &mut Rng, query: &mut Query) {
+    match rng.below(7) {
+        0 => query.nx = rng.pick(&SIDES),
+        1 => query.ny = rng.pick(&SIDES),
+        2 => {
+            query.nx = 65;
+            query.field.resize(65 * query.ny as usize, 7);
+            query.support.resize(65 * query.ny as usize, 1);
+        }
+        3 => query.field.push(0),
+        4 => {
+            query.field.pop();
+        }
+        5 => query.support.push(1),
+        _ => {
+            query.support.pop();
+        }
+    }
+}
+
+/// Breaks a text in one of many small ways; some leave it in form.
+pub fn break_text(rng: &mut Rng, text: &mut Vec<u8>) {
+    match rng.below(9) {
+        0 | 1 => break_bytes(rng, text),
+        2 | 3 => break_lines(rng, text),
+        4 => break_end(rng, text),
+        _ => break_number(rng, text),
+    }
+}
+
+fn break_bytes(rng: &mut Rng, text: &mut Vec<u8>) {
+    let at = rng.below(text.len().max(1));
+    if at >= text.len() {
+        return;
+    }
+    match rng.below(4) {
+        0 => text[at] ^= 1 << rng.below(8),
+        1 => {
+            text.remove(at);
+        }
+        2 => text.insert(at, text[at]),
+        _ => text.insert(at, rng.pick(b" \t\r\n,=-+0M\0\xC3")),
+    }
+}
+
+fn break_lines(rng: &mut Rng, text: &mut Vec<u8>) {
+    let mut lines: Vec<Vec<u8>> =
+        text.split_inclusive(|byte| *byte == b'\n').map(<[u8]>::to_vec).collect();
+    if lines.is_empty() {
+        return;
+    }
+    let (one, other) = (rng.below(lines.len()), rng.below(lines.len()));
+    match rng.below(5) {
+        0 => lines.swap(one, other),
+        1 => lines.insert(one, lines[one].clone()),
+        2 => {
+            lines.remove(one);
+        }
+        3 => lines[one].make_ascii_uppercase(),
+        _ => {
+            let end = lines[one].len() - 1;
+            lines[one].insert(end, rng.pick(b"\r ,"));
+        }
+    }
+    *text = lines.concat();
+}
+
+fn break_end(rng: &mut Rng, text: &mut Vec<u8>) {
+    match rng.below(5) {
+        0 => {
+            text.pop();
+        }
+        1 => text.clear(),
+        2 => text.truncate(rng.below(text.len().max(1))),
+        3 => text.extend(rng.pick(&[&b"x"[..], b"\n", b" ", b"\r\n", b"\0"])),
+        _ => text.extend(rng.pick(&[&b"st=0,0,0,0,0,1\n"[..], b"stations=0\n", b"age=60"])),
+    }
+}
+
+/// Writes one of the text's numbers in another way, often a wrong one.
+fn break_number(rng: &mut Rng, text: &mut Vec<u8>) {
+    let numeric = |byte: &u8| byte.is_ascii_digit() || *byte == b'-';
+    let starts: Vec<usize> = (0..text.len())
+        .filter(|at| numeric(&text[*at]) && (*at == 0 || !numeric(&text[*at - 1])))
+        .collect();
+    if starts.is_empty() {
+        return;
+    }
+    // The first numbers of a text are its counts and switches; half of the
+    // harm goes there.
+    let among = rng.pick(&[starts.len(), starts.len().min(8)]);
+    let start = starts[rng.below(among)];
+    let length = text[start..].iter().take_while(|byte| numeric(byte)).count();
+    let old = text[start..start + length].to_vec();
+    let new = match rng.below(5) {
+        0 => [rng.pick(&[&b"0"[..], b"+", b"-", b" ", b"00"]), &old].concat(),
+        1 => rng
+            .pick(&[&b"-0"[..], b"", b"-", b"M", b"m", b"open", b"Open", b"1e3", b"0x1"])
+            .to_vec(),
+        2 => rng
+            .pick(&[&b"2147483648"[..], b"-2147483649", b"4294967296", b"18446744073709551617"])
+            .to_vec(),
+        3 => rng
+            .pick(&[&b"2147483647"[..], b"-2147483648", b"4294967295", b"-1", b"10000000000"])
+            .to_vec(),
+        _ => rng.pick(&[&b"0"[..], b"1", b"2", b"6", b"7", b"64", b"65", b"512", b"513"]).to_vec(),
+    };
+    text.splice(start..start + length, new);
+}

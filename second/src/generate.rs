@@ -1,0 +1,449 @@
+//! The seeded generator: calls, windows, readings, summaries and texts, each
+//! valid, heavy with bounds, or damaged by a schedule over the index.
+
+use crate::call::{Call, Query, Window};
+use crate::damage;
+use crate::field::Shape;
+use crate::rng::Rng;
+use crate::scan::difference;
+use crate::scheme::run;
+use crate::units::{rounded, CELL, DEFAULT_AGE, MISSING, MOST_TEXT, NO_END, VALUE};
+use crate::window::{reach, widened};
+use crate::write::{request_text, Style};
+
+/// Every so many indices a request is big: both sides 48 or more and at least
+/// 300 stations. A little more than the floor asks for, since they are slow.
+const BIG_EVERY: u64 = 55;
+/// Every so many indices a text stands at the length limit or one past it.
+const LIMIT_EVERY: u64 = 97;
+/// The flavours come round in turns of this length.
+const TURNS: u64 = 24;
+const BOUNDARY_TURNS: u64 = 5;
+
+enum Flavour {
+    Big,
+    Valid,
+    Boundary,
+    /// The refusal number that the damage aims at.
+    Damaged(u32),
+}
+
+fn flavour(index: u64, damages: &[u32]) -> Flavour {
+    if index.is_multiple_of(BIG_EVERY) {
+        return Flavour::Big;
+    }
+    let turn = index % TURNS;
+    match damages.get(turn as usize) {
+        Some(number) => Flavour::Damaged(*number),
+        None if turn < damages.len() as u64 + BOUNDARY_TURNS => Flavour::Boundary,
+        None => Flavour::Valid,
+    }
+}
+
+/// The arguments of a whole analysis.
+pub fn analysis(seed: u64, index: u64) -> Call {
+    let mut rng = Rng::for_case(seed, 1, index);
+    let rng = &mut rng;
+    match flavour(index, &[1, 3, 4, 5, 6, 7, 8]) {
+        Flavour::Big => big_call(rng),
+        Flavour::Valid => small_call(rng),
+        Flavour::Boundary => boundary_call(rng),
+        Flavour::Damaged(number) => {
+            let mut call = small_call(rng);
+            damage::break_call(rng, &mut call, number);
+            call
+        }
+    }
+}
+
+/// The arguments of a window query.
+pub fn window(seed: u64, index: u64) -> (Call, Window) {
+    let mut rng = Rng::for_case(seed, 2, index);
+    let rng = &mut rng;
+    match flavour(index, &[1, 2, 3, 4, 5, 6, 7, 8]) {
+        Flavour::Big => with_window(rng, big_call),
+        Flavour::Valid => with_window(rng, small_call),
+        Flavour::Boundary => {
+            let (mut call, window) = with_window(rng, edge_call);
+            damage::push_to_bounds(rng, &mut call);
+            (call, window)
+        }
+        Flavour::Damaged(2) => {
+            let (call, window) = with_window(rng, small_call);
+            damage::bad_window(rng, call, window)
+        }
+        Flavour::Damaged(number) => {
+            let (mut call, window) = with_window(rng, small_call);
+            damage::break_call(rng, &mut call, number);
+            (call, window)
+        }
+    }
+}
+
+/// A call with a good window, results as long as it, and some stations moved
+/// to the edges of its cut and just outside them.
+fn with_window(rng: &mut Rng, make: fn(&mut Rng) -> Call) -> (Call, Window) {
+    let mut call = make(rng);
+    let (left, right) = ends(rng, call.nx);
+    let (top, bottom) = ends(rng, call.ny);
+    let window = Window::new(left, right, top, bottom);
+    let part = widened(&call, &window, reach(&call));
+    for row in 0..call.x.len() {
+        if rng.one_in(6) {
+            call.x[row] = near_edge(rng, part.left, part.right);
+        }
+        if rng.one_in(6) {
+            call.y[row] = near_edge(rng, part.top, part.bottom);
+        }
+    }
+    tune_limits(rng, &mut call);
+    call.grid_len = window.area();
+    call.support_len = window.area();
+    (call, window)
+}
+
+fn ends(rng: &mut Rng, side: u32) -> (u32, u32) {
+    if rng.one_in(8) {
+        return (0, side - 1);
+    }
+    let first = rng.up_to(side - 1);
+    let last = if rng.one_in(3) { first } else { first + rng.up_to((side - 1 - first).min(4)) };
+    (first, last)
+}
+
+fn near_edge(rng: &mut Rng, low: u32, high: u32) -> i32 {
+    64 * rng.pick(&[low, high]) as i32 + rng.pick(&[-1, 0, 1])
+}
+
+fn small_call(rng: &mut Rng) -> Call {
+    let most = if rng.one_in(12) { 28 } else { 12 };
+    let nx = rng.between(2, most) as u32;
+    let ny = rng.between(2, most) as u32;
+    let stations = if rng.one_in(12) { 0 } else { rng.below(21) };
+    call_of(rng, nx, ny, stations)
+}
+
+fn big_call(rng: &mut Rng) -> Call {
+    let nx = rng.between(48, 64) as u32;
+    let ny = rng.between(48, 64) as u32;
+    let stations = 300 + rng.below(213);
+    let mut call = call_of(rng, nx, ny, stations);
+    if !rng.one_in(8) {
+        // Most big ones have short radii: they take less time and the cuts
+        // of their windows are smaller than the grid.
+        call.radius.iter_mut().for_each(|radius| *radius = 1 + *radius / 4);
+    }
+    call
+}
+
+/// A call whose sides lie within their bounds, some exactly on them.
+fn edge_call(rng: &mut Rng) -> Call {
+    let side = rng.between(2, 12) as u32;
+    let nx = rng.pick(&[side, side, side, 2, 64]);
+    let ny = rng.pick(&[side, side, side, 2, 3]);
+    let (nx, ny) = rng.pick(&[(nx, ny), (ny, nx)]);
+    let stations = rng.below(21);
+    call_of(rng, nx, ny, stations)
+}
+
+fn boundary_call(rng: &mut Rng) -> Call {
+    let mut call = if rng.one_in(9) {
+        // Out of bounds, but with lengths that fit.
+        let side = rng.pick(&[0, 1, 65]);
+        let (nx, ny) = rng.pick(&[(side, 3), (2, side), (64, side)]);
+        call_of(rng, nx, ny, 3)
+    } else {
+        edge_call(rng)
+    };
+    damage::push_to_bounds(rng, &mut call);
+    call
+}
+
+/// A call with plausible values: most stations are accepted at first, and
+/// some are rejected in each of the scans.
+pub fn call_of(rng: &mut Rng, nx: u32, ny: u32, stations: usize) -> Call {
+    let spread = rng.pick(&[3, 40, 300, 2_000]);
+    let time = rng.pick(&[0, 1_000, 1_000, 1_000, 30_000_000, u32::MAX - 1, u32::MAX]);
+    let short = rng.up_to(300);
+    let age = rng.pick(&[DEFAULT_AGE, DEFAULT_AGE, 60, 0, short, u32::MAX]);
+    let mut call = Call {
+        nx,
+        ny,
+        first_guess: first_guess(rng, nx, ny, spread),
+        scans: rng.pick(&[1, 2, 2, 3, 4, 5, 6, 6, 6]),
+        smooth: rng.one_in(2),
+        time,
+        age,
+        ..Call::default()
+    };
+    plan(rng, &mut call, spread);
+    for _ in 0..stations {
+        station(rng, &mut call, spread);
+    }
+    tune_limits(rng, &mut call);
+    call.fit_results();
+    call
+}
+
+/// A slope with some noise. The level 32767 makes that value a proper one
+/// that stations report.
+fn first_guess(rng: &mut Rng, nx: u32, ny: u32, spread: i32) -> Vec<i32> {
+    let level = rng.between(-20_000, 20_000);
+    let level = rng.pick(&[level, level, 640, 32_767, 999_000, -999_000]);
+    let slope_x = rng.between(-spread, spread);
+    let slope_y = rng.between(-spread, spread);
+    let noise = rng.pick(&[0, 1, spread]);
+    (0..ny as i32)
+        .flat_map(|j| (0..nx as i32).map(move |i| level + i * slope_x + j * slope_y))
+        .map(|value| clamp_value(value + rng.between(-noise, noise)))
+        .collect()
+}
+
+fn clamp_value(value: i32) -> i32 {
+    value.clamp(*VALUE.start(), *VALUE.end())
+}
+
+/// Falling radii, many of them whole grid steps so that d2 = R² occurs, and
+/// limits about as wide as the stations' deviations. Some plans let all pass
+/// in their first scans, so that the later ones have someone to reject.
+fn plan(rng: &mut Rng, call: &mut Call, spread: i32) {
+    let any = rng.between(1, 1024);
+    let short = rng.between(1, 200);
+    let mut radius = rng.pick(&[any, short, short, 64, 96, 128, 192, 320, 1024]);
+    let some = rng.up_to(call.scans);
+    let lenient = rng.pick(&[0, some]);
+    for scan in 0..call.scans {
+        call.radius.push(radius);
+        let wide = rng.between(spread / 3, 2 * spread);
+        let tight = rng.between(0, spread / 3);
+        let limit = rng.pick(&[wide, wide, wide, wide, tight, 2 * spread, 2_000_000]);
+        call.limit.push(if scan < lenient { 2_000_000 } else { limit });
+        let shorter = radius - rng.between(0, radius / 2);
+        radius = rng.pick(&[radius, shorter, shorter, (radius / 128 * 64).max(1)]);
+    }
+    if rng.one_in(8) {
+        // Entries past the scan count are not read.
+        call.radius.push(rng.pick(&[0, 1024, -5]));
+        call.limit.extend([-1, 3]);
+    }
+}
+
+fn station(rng: &mut Rng, call: &mut Call, spread: i32) {
+    let (x, y) = position(rng, call);
+    call.x.push(x);
+    call.y.push(y);
+    call.value.push(observation(rng, call, x, y, spread));
+    minutes(rng, call);
+}
+
+fn position(rng: &mut Rng, call: &Call) -> (i32, i32) {
+    let (last_x, last_y) = (64 * call.nx as i32 - 64, 64 * call.ny as i32 - 64);
+    let x = rng.between(0, last_x.max(0));
+    let y = rng.between(0, last_y.max(0));
+    match rng.below(24) {
+        0..=9 => (x, y),
+        10..=14 => (x / 64 * 64, y / 64 * 64),
+        15 | 16 => (last_x, y),
+        17 | 18 => (x, last_y),
+        19 => (x / 64 * 64, y),
+        20 | 21 if !call.x.is_empty() => {
+            let shared = rng.below(call.x.len());
+            (call.x[shared], call.y[shared])
+        }
+        22 => rng.pick(&[(-1, y), (last_x + 1, y), (x, -1), (x, last_y + 1)]),
+        23 => rng.pick(&[(-1_000_000, y), (x, 1_000_000), (-64, -64), (x + 7_000, y)]),
+        _ => (0, 0),
+    }
+}
+
+/// The first guess at the place and a deviation of about the limits' size.
+fn observation(rng: &mut Rng, call: &Call, x: i32, y: i32, spread: i32) -> i32 {
+    let shape = call.shape();
+    let sizable = shape.nx >= 2 && shape.ny >= 2 && shape.holds(x, y);
+    let guess = if sizable {
+        rounded(shape.interpolation_sum(&call.first_guess, x, y), CELL) as i32
+    } else {
+        640
+    };
+    let deviation = match rng.below(8) {
+        0 => rng.between(-4 * spread, 4 * spread),
+        1 => 0,
+        _ => rng.between(-spread, spread),
+    };
+    match rng.below(30) {
+        0 | 1 => MISSING,
+        2 => 32_767,
+        _ => clamp_value(guess + deviation),
+    }
+}
+
+/// The three minutes of a row: mostly in service and fresh, otherwise meant
+/// for verdict 2, 3 or 4. From is always below until.
+fn minutes(rng: &mut Rng, call: &mut Call) {
+    let time = call.time;
+    let fresh = time.saturating_sub(rng.up_to(call.age.min(200)));
+    let later = time.saturating_add(1 + rng.up_to(500));
+    let earlier = fresh.saturating_sub(rng.up_to(900));
+    let open_or_later = rng.pick(&[NO_END, NO_END, later]);
+    let stale = time.saturating_sub(call.age).saturating_sub(rng.up_to(2));
+    let (observed, from, until) = match rng.below(24) {
+        0 => (fresh, earlier, rng.pick(&[fresh, time])),
+        1 => (fresh, rng.pick(&[later, time, fresh.saturating_add(1)]), open_or_later),
+        2 | 3 => (rng.pick(&[later, time.saturating_add(1)]), earlier, NO_END),
+        4 | 5 => (stale, 0, open_or_later),
+        _ => (fresh, earlier, open_or_later),
+    };
+    let until = until.max(1);
+    call.observed.push(observed);
+    call.from.push(from.min(until - 1));
+    call.until.push(until);
+}
+
+/// Sets the limits of some scans to exactly the size of a station's D there,
+/// or to one less, so that this station stays or goes in that very scan.
+fn tune_limits(rng: &mut Rng, call: &mut Call) {
+    if call.nx < 2 || call.ny < 2 {
+        return;
+    }
+    let last = call.scans - 1;
+    let one = rng.up_to(last);
+    for scan in [one, last] {
+        let before = run(&Call { scans: scan, ..call.clone() });
+        let left: Vec<usize> = (0..call.x.len()).filter(|row| before.verdict[*row] == 0).collect();
+        if !left.is_empty() && !rng.one_in(4) {
+            let row = rng.pick(&left);
+            let size = difference(call, &before.grid, row).abs() as i32;
+            call.limit[scan as usize] = (size - rng.pick(&[0, 1])).clamp(0, 2_000_000);
+        }
+    }
+}
+
+/// The arguments of a point reading.
+pub fn reading(seed: u64, index: u64) -> Query {
+    query(seed, 3, index)
+}
+
+/// The arguments of a summary: a query of which only the field counts.
+pub fn summary(seed: u64, index: u64) -> Query {
+    query(seed, 4, index)
+}
+
+fn query(seed: u64, kind: u64, index: u64) -> Query {
+    let mut rng = Rng::for_case(seed, kind, index);
+    let rng = &mut rng;
+    let (nx, ny) = (rng.between(2, 9) as u32, rng.between(2, 9) as u32);
+    let (nx, ny) = rng.pick(&[(nx, ny), (nx, ny), (nx, ny), (64, ny), (nx, 64)]);
+    let shape = Shape { nx: nx as usize, ny: ny as usize };
+    let field = any_field(rng, shape.points());
+    let bare = rng.pick(&[2, 8, 8, 1_000]);
+    let support = (0..shape.points())
+        .map(|_| if rng.one_in(bare) { 0 } else { rng.between(1, 255) as u8 })
+        .collect();
+    let (x, y) = reading_place(rng, shape);
+    let mut query = Query { nx, ny, field, support, x, y };
+    if index.is_multiple_of(6) {
+        damage::break_query(rng, &mut query);
+    }
+    query
+}
+
+/// Any i32 may stand in a field that is read or summed up.
+fn any_field(rng: &mut Rng, points: usize) -> Vec<i32> {
+    let wide = (i32::MIN, i32::MAX);
+    let (low, high) = rng.pick(&[(0, 0), (-5, 5), (-50_000, 50_000), (0, 13_000_000), wide, wide]);
+    let value = |rng: &mut Rng| match rng.below(12) {
+        0 => rng.pick(&[low, high, 0]),
+        _ => rng.between(low, high),
+    };
+    (0..points).map(|_| value(rng)).collect()
+}
+
+fn reading_place(rng: &mut Rng, shape: Shape) -> (i32, i32) {
+    let (last_x, last_y) = shape.far_corner();
+    let (last_x, last_y) = (last_x as i32, last_y as i32);
+    let (x, y) = (rng.between(0, last_x), rng.between(0, last_y));
+    let off = rng.pick(&[-1, last_x + 1, i32::MIN, i32::MAX, -64]);
+    match rng.below(12) {
+        0..=3 => (x, y),
+        4 => (x / 64 * 64, y),
+        5 => (x, y / 64 * 64),
+        6 => (x / 64 * 64, y / 64 * 64),
+        7 => (last_x, y),
+        8 => (x, last_y),
+        9 => (last_x, last_y),
+        10 => (off, y),
+        _ => (x, rng.pick(&[-1, last_y + 1, i32::MIN, i32::MAX])),
+    }
+}
+
+/// A request text.
+pub fn text(seed: u64, index: u64) -> Vec<u8> {
+    let mut rng = Rng::for_case(seed, 5, index);
+    let rng = &mut rng;
+    if index % LIMIT_EVERY == 5 {
+        let past = index / LIMIT_EVERY % 2;
+        return text_of_length(rng, MOST_TEXT + past as usize);
+    }
+    match flavour(index, &[6, 7, 8, 9, 10, 9, 9]) {
+        Flavour::Big => written(rng, big_call),
+        Flavour::Valid => written(rng, small_call),
+        Flavour::Boundary => written(rng, boundary_call),
+        Flavour::Damaged(9) => {
+            let mut text = written(rng, small_call);
+            for _ in 0..rng.pick(&[1, 1, 1, 2]) {
+                damage::break_text(rng, &mut text);
+            }
+            text
+        }
+        Flavour::Damaged(10) => {
+            let mut text = written(rng, small_call);
+            let filler = rng.pick(&[b'\n', b'0', b'x', 0xFF]);
+            let surplus = rng.pick(&[0, 1, 2, 900]);
+            text.resize(MOST_TEXT + surplus, filler);
+            text
+        }
+        Flavour::Damaged(number) => {
+            let mut call = small_call(rng);
+            damage::break_one(rng, &mut call, number);
+            text_form(rng, &call).unwrap_or_default()
+        }
+    }
+}
+
+/// The text of a made call. Where bounds made it unsayable, another is made.
+fn written(rng: &mut Rng, make: fn(&mut Rng) -> Call) -> Vec<u8> {
+    loop {
+        let call = make(rng);
+        if let Some(text) = text_form(rng, &call) {
+            return text;
+        }
+    }
+}
+
+fn text_form(rng: &mut Rng, call: &Call) -> Option<Vec<u8>> {
+    let style = Style { marks_as_digits: rng.one_in(3), age_left_out: rng.one_in(2) };
+    request_text(call, style)
+}
+
+/// A proper request of an exact length near the limit: the longest numbers
+/// that all rows may have, then one byte less in as many points as needed.
+fn text_of_length(rng: &mut Rng, length: usize) -> Vec<u8> {
+    let mut call = call_of(rng, 64, 64, 512);
+    call.time = 4_294_967_000;
+    call.first_guess = vec![-1_000_000; 64 * 64];
+    call.radius.iter_mut().for_each(|radius| *radius = 1 + *radius / 8);
+    for row in 0..call.x.len() {
+        if row % 8 < 6 {
+            (call.x[row], call.y[row]) = (-1_000_000, -1_000_000);
+        }
+        call.value[row] = rng.between(-1_000_000, -999_000);
+        call.observed[row] = call.time - rng.up_to(200);
+        call.from[row] = 1_000_000_000;
+        call.until[row] = NO_END;
+    }
+    let style = Style { marks_as_digits: true, age_left_out: false };
+    let whole = request_text(&call, style).map_or(0, |text| text.len());
+    let surplus = whole.saturating_sub(length).min(call.first_guess.len());
+    call.first_guess[..surplus].fill(-999_999);
+    request_text(&call, style).unwrap_or_default()
+}

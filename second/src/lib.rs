@@ -1,0 +1,24 @@
+//! The independent second program: document 01 worked out plainly, to be
+//! compared number for number with the proved implementation.
+
+pub mod call;
+pub mod cases;
+pub mod compare;
+pub mod damage;
+pub mod field;
+pub mod generate;
+pub mod guarded;
+pub mod reading;
+pub mod refusals;
+pub mod rng;
+pub mod scan;
+pub mod scheme;
+pub mod shrink;
+pub mod summary;
+pub mod survey;
+pub mod tally;
+pub mod text;
+pub mod units;
+pub mod verdicts;
+pub mod window;
+pub mod write;

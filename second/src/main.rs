@@ -1,0 +1,114 @@
+//! The command line of the second program: text, generate and survey.
+
+use second::cases::{AnalysisCase, ReadingCase, SummaryCase, TextCase, WindowCase};
+use second::compare::{Case, Own};
+use second::survey::survey;
+use second::text;
+use std::env::{args, var_os};
+use std::io::{self, Read, Write};
+use std::process::ExitCode;
+
+const SEED: u64 = 20_261_947;
+const COUNT: u64 = 20_000;
+const USAGE: &str =
+    "use: second text | second generate KIND SEED COUNT | second survey [SEED [COUNT]]";
+
+/// What went wrong, with the exit code that says whose fault it was.
+enum Wrong {
+    Asked(String),
+    Found(String),
+}
+
+fn main() -> ExitCode {
+    let arguments: Vec<String> = args().skip(1).collect();
+    let arguments: Vec<&str> = arguments.iter().map(String::as_str).collect();
+    let outcome = match arguments[..] {
+        ["text"] => answer_text(),
+        ["generate", kind, seed, count] => generate(kind, seed, count),
+        ["survey"] => run_survey(None, None),
+        ["survey", seed] => run_survey(Some(seed), None),
+        ["survey", seed, count] => run_survey(Some(seed), Some(count)),
+        [] => Err(Wrong::Asked(format!("no command given; {USAGE}"))),
+        _ => {
+            let given = arguments.join(" ");
+            Err(Wrong::Asked(format!("not a command: {given:?}; {USAGE}")))
+        }
+    };
+    match outcome {
+        Ok(()) => ExitCode::SUCCESS,
+        Err(Wrong::Found(message)) => {
+            eprintln!("second: {message}");
+            ExitCode::FAILURE
+        }
+        Err(Wrong::Asked(message)) => {
+            eprintln!("second: {message}");
+            ExitCode::from(2)
+        }
+    }
+}
+
+fn answer_text() -> Result<(), Wrong> {
+    let mut request = Vec::new();
+    io::stdin()
+        .read_to_end(&mut request)
+        .map_err(|error| Wrong::Found(format!("the request could not be read: {error}")))?;
+    print(&text::answer(&request))
+}
+
+fn generate(kind: &str, seed: &str, count: &str) -> Result<(), Wrong> {
+    let seed = number("SEED", seed)?;
+    let count = number("COUNT", count)?;
+    match kind {
+        "analysis" => print_cases::<AnalysisCase>(seed, count),
+        "window" => print_cases::<WindowCase>(seed, count),
+        "reading" => print_cases::<ReadingCase>(seed, count),
+        "summary" => print_cases::<SummaryCase>(seed, count),
+        "text" => print_cases::<TextCase>(seed, count),
+        _ => Err(Wrong::Asked(format!(
+            "no such kind: {kind:?}; give analysis, window, reading, summary or text"
+        ))),
+    }
+}
+
+/// Each case is preceded by a line that gives its length in bytes.
+fn print_cases<C: Case>(seed: u64, count: u64) -> Result<(), Wrong> {
+    for index in 0..count {
+        let case = C::generate(seed, index).plain();
+        print(format!("{}\n", case.len()).as_bytes())?;
+        print(&case)?;
+    }
+    Ok(())
+}
+
+fn print(bytes: &[u8]) -> Result<(), Wrong> {
+    let mut out = io::stdout().lock();
+    out.write_all(bytes)
+        .and_then(|()| out.flush())
+        .map_err(|error| Wrong::Found(format!("the output could not be written: {error}")))
+}
+
+fn run_survey(seed: Option<&str>, count: Option<&str>) -> Result<(), Wrong> {
+    let seed = setting("SOSNYAVIK_SEED", seed, SEED)?;
+    let count = setting("SOSNYAVIK_COUNT", count, COUNT)?;
+    if count == 0 {
+        let message = "a survey of 0 cases shows nothing; give a count of 1 or more";
+        return Err(Wrong::Asked(message.to_string()));
+    }
+    survey(&Own, seed, count, &mut io::stdout()).map_err(Wrong::Found)
+}
+
+/// The environment's number where it is set, else the argument's, else the
+/// default.
+fn setting(name: &str, argument: Option<&str>, default: u64) -> Result<u64, Wrong> {
+    match (var_os(name), argument) {
+        (Some(value), _) => number(name, &value.to_string_lossy()),
+        (None, Some(argument)) => number("the argument", argument),
+        (None, None) => Ok(default),
+    }
+}
+
+fn number(name: &str, value: &str) -> Result<u64, Wrong> {
+    value.parse().map_err(|_| {
+        Wrong::Asked(format!("{name} is {value:?}; give a whole number from 0 to {}", u64::MAX))
+    })
+}

@@ -1,0 +1,114 @@
+//! One scan: differences and the E test, weights, corrections, smoothing.
+
+use crate::call::Call;
+use crate::field::Shape;
+use crate::units::{rounded, CELL, STEP, WEIGHT_SCALE};
+use crate::verdicts::{ACCEPTED, REJECTED};
+
+/// A station that takes part in a scan, with its difference D.
+#[derive(Clone, Copy, Debug)]
+pub struct Accepted {
+    pub x: i64,
+    pub y: i64,
+    pub difference: i64,
+}
+
+/// D of one row: its observation less the rounded field at its position.
+pub fn difference(call: &Call, field: &[i32], row: usize) -> i64 {
+    let sum = call.shape().interpolation_sum(field, call.x[row], call.y[row]);
+    i64::from(call.value[row]) - rounded(sum, CELL)
+}
+
+/// Judges every station against the field as the scan finds it and gives
+/// those still accepted. `scan` counts from 0. A rejected row never returns,
+/// because only rows with verdict 0 are looked at.
+pub fn judge(call: &Call, field: &[i32], scan: usize, verdict: &mut [u8]) -> Vec<Accepted> {
+    let mut accepted = Vec::new();
+    for (row, verdict) in verdict.iter_mut().enumerate() {
+        if *verdict != ACCEPTED {
+            continue;
+        }
+        let difference = difference(call, field, row);
+        if difference.abs() > i64::from(call.limit[scan]) {
+            *verdict = REJECTED + 1 + scan as u8;
+        } else {
+            accepted.push(Accepted {
+                x: i64::from(call.x[row]),
+                y: i64::from(call.y[row]),
+                difference,
+            });
+        }
+    }
+    accepted
+}
+
+/// The weight of a station at squared distance `d2`, for a squared radius.
+pub fn weight(r2: i64, d2: i64) -> i64 {
+    if d2 >= r2 {
+        0
+    } else {
+        WEIGHT_SCALE * (r2 - d2) / (r2 + d2)
+    }
+}
+
+/// The sum of weights and the sum of weight times D at the point (i, j).
+pub fn sums(i: usize, j: usize, radius: i32, accepted: &[Accepted]) -> (i64, i64) {
+    let (px, py) = (STEP * i as i64, STEP * j as i64);
+    let r2 = i64::from(radius) * i64::from(radius);
+    let (mut weights, mut weighted) = (0, 0);
+    for station in accepted {
+        let (dx, dy) = (station.x - px, station.y - py);
+        let w = weight(r2, dx * dx + dy * dy);
+        weights += w;
+        weighted += w * station.difference;
+    }
+    (weights, weighted)
+}
+
+/// Corrects all points. The differences were taken before, so no corrected
+/// point can feed them.
+pub fn correct(
+    call: &Call,
+    scan: usize,
+    accepted: &[Accepted],
+    field: &mut [i32],
+    support: &mut [u8],
+) {
+    let shape = call.shape();
+    let radius = i64::from(call.radius[scan]);
+    for j in 0..shape.ny {
+        // A station this far off in y alone has no weight in the whole row.
+        let beside = |station: &&Accepted| (station.y - STEP * j as i64).abs() < radius;
+        let near: Vec<Accepted> = accepted.iter().filter(beside).copied().collect();
+        for i in 0..shape.nx {
+            let (weights, weighted) = sums(i, j, call.radius[scan], &near);
+            if weights > 0 {
+                let point = shape.index(i, j);
+                // A correction is at most E in size, so i32 holds the sum.
+                field[point] += rounded(weighted, weights) as i32;
+                support[point] |= 1 << scan;
+            }
+        }
+    }
+}
+
+const PATTERN: [[i64; 3]; 3] = [[1, 2, 1], [2, 4, 2], [1, 2, 1]];
+const PATTERN_SUM: i64 = 16;
+
+/// The smoothed field: inner points all at once, border points kept.
+pub fn smoothed(shape: Shape, field: &[i32]) -> Vec<i32> {
+    let mut smooth = field.to_vec();
+    for j in 1..shape.ny - 1 {
+        for i in 1..shape.nx - 1 {
+            let mut sum = 0;
+            for (dj, shares) in PATTERN.iter().enumerate() {
+                for (di, share) in shares.iter().enumerate() {
+                    sum += share * i64::from(field[shape.index(i + di - 1, j + dj - 1)]);
+                }
+            }
+            // A mean of nine points lies between them, so i32 holds it.
+            smooth[shape.index(i, j)] = rounded(sum, PATTERN_SUM) as i32;
+        }
+    }
+    smooth
+}

@@ -1,0 +1,95 @@
+//! What a run has covered, and the floors below which a run fails.
+
+use crate::call::{Analysis, Call, Refusal};
+use std::collections::BTreeMap;
+use std::fmt::{Display, Formatter};
+
+/// Floors are given for a run of this many; smaller runs scale them down.
+const FULL_RUN: u64 = 20_000;
+
+/// How often something was seen, by its name and number.
+#[derive(Clone, Debug, Default, PartialEq, Eq)]
+pub struct Tally {
+    pub count: u64,
+    pub seen: BTreeMap<(&'static str, u32), u64>,
+}
+
+#[derive(Clone, Copy, Debug)]
+pub struct Floor {
+    pub name: &'static str,
+    pub number: u32,
+    /// The least in a full run.
+    pub least: u64,
+    /// Whether longer runs raise it: a share does, a number of times does not.
+    pub share: bool,
+}
+
+impl Floor {
+    pub fn times(name: &'static str, number: u32, least: u64) -> Self {
+        Floor { name, number, least, share: false }
+    }
+
+    pub fn accepted_share(least: u64) -> Self {
+        Floor { name: "accepted", number: 0, least, share: true }
+    }
+
+    fn scaled(&self, count: u64) -> u64 {
+        let count = if self.share { count } else { count.min(FULL_RUN) };
+        self.least * count / FULL_RUN
+    }
+}
+
+impl Tally {
+    pub fn add(&mut self, name: &'static str, number: u32) {
+        *self.seen.entry((name, number)).or_default() += 1;
+    }
+
+    pub fn of(&self, name: &'static str, number: u32) -> u64 {
+        self.seen.get(&(name, number)).copied().unwrap_or(0)
+    }
+
+    pub fn add_refusal(&mut self, refusal: &Refusal) {
+        self.add("refusal", refusal.number);
+        if refusal.place > 0 {
+            self.add("refusal with a place", refusal.number);
+        }
+    }
+
+    pub fn add_analysis(&mut self, call: &Call, analysis: &Analysis) {
+        self.add("accepted", 0);
+        if call.nx >= 48 && call.ny >= 48 && call.x.len() >= 300 {
+            self.add("big", 0);
+        }
+        for verdict in &analysis.verdict {
+            self.add("verdict", u32::from(*verdict));
+        }
+    }
+
+    /// One line about the first floor that was missed.
+    pub fn missed(&self, floors: &[Floor]) -> Option<String> {
+        let short = |floor: &&Floor| self.of(floor.name, floor.number) < floor.scaled(self.count);
+        floors.iter().find(short).map(|floor| {
+            let (name, number) = (floor.name, floor.number);
+            let (seen, least) = (self.of(name, number), floor.scaled(self.count));
+            format!("floor missed: {name} {number} was seen {seen} times, at least {least} asked")
+        })
+    }
+}
+
+impl Display for Tally {
+    fn fmt(&self, out: &mut Formatter) -> std::fmt::Result {
+        let mut last = "";
+        for ((name, number), seen) in &self.seen {
+            if *name != last {
+                let opening = if last.is_empty() { "" } else { "\n" };
+                write!(out, "{opening}  {name}:")?;
+                last = name;
+            }
+            match *name {
+                "accepted" | "big" => write!(out, " {seen}")?,
+                _ => write!(out, " {number}={seen}")?,
+            }
+        }
+        writeln!(out)
+    }
+}

@@ -1,0 +1,42 @@
+//! Units, sizes and marks of the paper, and its one rounding rule.
+
+use std::ops::RangeInclusive;
+
+/// The lowest i32 marks a missing observation.
+pub const MISSING: i32 = i32::MIN;
+/// This `until` means that the service has no end.
+pub const NO_END: u32 = u32::MAX;
+/// Position units between neighbouring grid points.
+pub const STEP: i64 = 64;
+/// Shares of a cell's four corners add up to this.
+pub const CELL: i64 = STEP * STEP;
+/// An interpolation sum over this gives whole units: 4096ths of 1/64 unit.
+pub const READING_DIVISOR: f64 = 262_144.0;
+/// Values are whole numbers of one over this.
+pub const UNIT: f64 = 64.0;
+/// Weights are whole hundredths.
+pub const WEIGHT_SCALE: i64 = 100;
+
+pub const SIDE: RangeInclusive<u32> = 2..=64;
+pub const VALUE: RangeInclusive<i32> = -1_000_000..=1_000_000;
+pub const POSITION: RangeInclusive<i32> = -1_000_000..=1_000_000;
+pub const SCANS: RangeInclusive<u32> = 1..=6;
+pub const RADIUS: RangeInclusive<i32> = 1..=1024;
+pub const LIMIT: RangeInclusive<i32> = 0..=2_000_000;
+pub const MOST_STATIONS: usize = 512;
+
+/// The greatest age where a request text leaves its line out.
+pub const DEFAULT_AGE: u32 = 120;
+/// The longest request text, in bytes.
+pub const MOST_TEXT: usize = 65_536;
+
+/// The quotient to the nearest whole number, halves away from zero.
+/// Every divisor of the paper is above 0.
+pub fn rounded(dividend: i64, divisor: i64) -> i64 {
+    let size = (2 * dividend.abs() + divisor) / (2 * divisor);
+    if dividend < 0 {
+        -size
+    } else {
+        size
+    }
+}

@@ -1,0 +1,40 @@
+//! Verdicts before the first scan: the first that fits each row.
+
+use crate::call::Call;
+use crate::units::{MISSING, NO_END};
+
+pub const ACCEPTED: u8 = 0;
+pub const MISSING_VALUE: u8 = 1;
+pub const OUT_OF_SERVICE: u8 = 2;
+pub const AFTER_TIME: u8 = 3;
+pub const TOO_OLD: u8 = 4;
+pub const OFF_GRID: u8 = 5;
+/// A station rejected in scan k, counted from 1, gets this plus k.
+pub const REJECTED: u8 = 10;
+
+pub fn before_first_scan(call: &Call) -> Vec<u8> {
+    (0..call.x.len()).map(|row| first_that_fits(call, row)).collect()
+}
+
+fn first_that_fits(call: &Call, row: usize) -> u8 {
+    let (observed, time) = (call.observed[row], call.time);
+    let serves = |minute| in_service(call.from[row], call.until[row], minute);
+    if call.value[row] == MISSING {
+        MISSING_VALUE
+    } else if !serves(observed) || !serves(time) {
+        OUT_OF_SERVICE
+    } else if observed > time {
+        AFTER_TIME
+    } else if time - observed > call.age {
+        TOO_OLD
+    } else if !call.shape().holds(call.x[row], call.y[row]) {
+        OFF_GRID
+    } else {
+        ACCEPTED
+    }
+}
+
+/// With no end the upper test holds, even at the last minute of all.
+fn in_service(from: u32, until: u32, minute: u32) -> bool {
+    from <= minute && (until == NO_END || minute < until)
+}

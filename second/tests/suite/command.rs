@@ -1,0 +1,63 @@
+//! The command line: answers, exit codes and one-line messages.
+
+use crate::{ANSWER, REQUEST};
+use std::io::Write;
+use std::process::{Command, Output, Stdio};
+
+fn second(arguments: &[&str], environment: &[(&str, &str)], input: &str) -> Output {
+    let mut child = Command::new(env!("CARGO_BIN_EXE_second"))
+        .args(arguments)
+        .env_remove("SOSNYAVIK_SEED")
+        .env_remove("SOSNYAVIK_COUNT")
+        .envs(environment.iter().copied())
+        .stdin(Stdio::piped())
+        .stdout(Stdio::piped())
+        .stderr(Stdio::piped())
+        .spawn()
+        .expect("the program starts");
+    child.stdin.take().expect("piped").write_all(input.as_bytes()).expect("it is read");
+    child.wait_with_output().expect("it ends")
+}
+
+#[test]
+fn text_answers_with_success_also_when_refused() {
+    let output = second(&["text"], &[], REQUEST);
+    assert_eq!((output.status.code(), &output.stdout[..]), (Some(0), ANSWER.as_bytes()));
+    let output = second(&["text"], &[], "");
+    assert_eq!((output.status.code(), &output.stdout[..]), (Some(0), &b"refusal=9\nplace=1\n"[..]));
+}
+
+#[test]
+fn generate_prints_lengths_and_texts() {
+    let output = second(&["generate", "text", "3", "2"], &[], "");
+    let first = second::generate::text(3, 0);
+    let start = [format!("{}\n", first.len()).as_bytes(), &first].concat();
+    assert!(output.status.success() && output.stdout.starts_with(&start));
+}
+
+#[test]
+fn the_environment_overrides_seed_and_count() {
+    let environment = [("SOSNYAVIK_SEED", "9"), ("SOSNYAVIK_COUNT", "50")];
+    let output = second(&["survey", "1", "20"], &environment, "");
+    assert!(output.status.success() && output.stdout.starts_with(b"seed 9, count 50\n"));
+}
+
+#[test]
+fn bad_arguments_give_one_line_and_two() {
+    let wrong = |arguments: &[&str], environment: &[(&str, &str)]| {
+        let output = second(arguments, environment, "");
+        assert_eq!(output.status.code(), Some(2), "{arguments:?}");
+        let message = String::from_utf8_lossy(&output.stderr).into_owned();
+        assert_eq!((message.lines().count(), output.stdout.len()), (1, 0), "{message}");
+    };
+    wrong(&[], &[]);
+    wrong(&["analyse"], &[]);
+    wrong(&["text", "more"], &[]);
+    wrong(&["survey", "x"], &[]);
+    wrong(&["survey", "1", "-5"], &[]);
+    wrong(&["survey", "1", "0"], &[]);
+    wrong(&["generate", "maps", "1", "1"], &[]);
+    wrong(&["generate", "text", "1", "many"], &[]);
+    wrong(&["survey"], &[("SOSNYAVIK_COUNT", "1e3")]);
+    wrong(&["survey"], &[("SOSNYAVIK_SEED", "")]);
+}

@@ -1,0 +1,176 @@
+//! Subjects with one planted fault each, to show that the harness sees it.
+
+use second::call::{Analysis, Call, Query, Window};
+use second::compare::{Own, Results, Subject};
+use second::field::Shape;
+use second::scan::{correct, difference, judge, smoothed, sums, Accepted};
+use second::scheme::analyse;
+use second::summary::Summary;
+use second::units::{rounded, MISSING};
+use second::verdicts::before_first_scan;
+use second::window::{cut, pick, widened};
+
+#[derive(Clone, Copy, Debug, PartialEq, Eq)]
+pub enum Fault {
+    HalvesTowardZero,
+    Missing32767,
+    TakenBack,
+    FedBySameScan,
+    WritesBeforeRefusal,
+    SupportOffByOneBit,
+    VerdictOffByOne,
+    SmoothsBorder,
+    WidenedByLargestOnly,
+    IdleCornersCount,
+    NegativeZero,
+    RefusedSummaryFilled,
+    CarriageReturns,
+}
+
+pub struct Faulty(pub Fault);
+
+impl Subject for Faulty {
+    fn analyse(&self, call: &Call, results: Results) -> Option<u32> {
+        if self.0 == Fault::WritesBeforeRefusal {
+            results.grid.iter_mut().for_each(|value| *value = 0);
+        }
+        if let Err(refusal) = analyse(call) {
+            return Some(refusal.code());
+        }
+        let analysis = faulty_run(call, self.0);
+        results.grid.copy_from_slice(&analysis.grid);
+        results.support.copy_from_slice(&analysis.support);
+        results.verdict.copy_from_slice(&analysis.verdict);
+        Some(0)
+    }
+
+    fn window(&self, call: &Call, ends: &Window, results: Results) -> Option<u32> {
+        let (grid, support) = (results.grid, results.support);
+        let code = Own.window(call, ends, Results { grid, support, verdict: &mut [] });
+        if code == Some(0) && self.0 == Fault::WidenedByLargestOnly {
+            let part = widened(call, ends, call.radius[0].unsigned_abs().div_ceil(64));
+            let cut = cut(call, &part);
+            let (left, right) = (ends.left - part.left, ends.right - part.left);
+            let (top, bottom) = (ends.top - part.top, ends.bottom - part.top);
+            let whole = faulty_run(&cut, self.0);
+            let answer = pick(cut.shape(), &whole, &Window::new(left, right, top, bottom));
+            grid.copy_from_slice(&answer.grid);
+            support.copy_from_slice(&answer.support);
+        }
+        code
+    }
+
+    fn reading_kind(&self, query: &Query) -> Option<u32> {
+        let kind = Own.reading_kind(query)?;
+        if kind != 2 || self.0 != Fault::IdleCornersCount {
+            return Some(kind);
+        }
+        let shape = Shape { nx: query.nx as usize, ny: query.ny as usize };
+        let corners = shape.corners(query.x, query.y);
+        Some(if corners.iter().any(|corner| query.support[corner.0] == 0) { 1 } else { 2 })
+    }
+
+    fn reading_value(&self, query: &Query) -> Option<f64> {
+        let value = Own.reading_value(query)?;
+        Some(if self.0 == Fault::NegativeZero && value == 0.0 { -0.0 } else { value })
+    }
+
+    fn summary(&self, query: &Query) -> Option<Summary> {
+        let mut summary = Own.summary(query)?;
+        if self.0 == Fault::RefusedSummaryFilled && summary.refusal != 0 {
+            summary.span = 1.0;
+        }
+        Some(summary)
+    }
+
+    fn text(&self, request: &[u8]) -> Option<Vec<u8>> {
+        if self.0 == Fault::CarriageReturns {
+            let kept = request.iter().copied().filter(|byte| *byte != b'\r');
+            return Own.text(&kept.collect::<Vec<u8>>());
+        }
+        Own.text(request)
+    }
+}
+
+/// The scheme with a fault in it.
+fn faulty_run(call: &Call, fault: Fault) -> Analysis {
+    let mut call = call.clone();
+    if fault == Fault::Missing32767 {
+        let marks = call.value.iter_mut().filter(|value| **value == 32_767);
+        marks.for_each(|value| *value = MISSING);
+    }
+    let mut grid = call.first_guess.clone();
+    let mut support = vec![0; grid.len()];
+    let mut verdict = before_first_scan(&call);
+    for scan in 0..call.scans as usize {
+        if fault == Fault::TakenBack {
+            verdict.iter_mut().filter(|verdict| **verdict > 10).for_each(|verdict| *verdict = 0);
+        }
+        let accepted = judge(&call, &grid, scan, &mut verdict);
+        match fault {
+            Fault::HalvesTowardZero => halves_down(&call, scan, &accepted, &mut grid, &mut support),
+            Fault::FedBySameScan => feeding(&call, scan, &verdict, &mut grid, &mut support),
+            _ => correct(&call, scan, &accepted, &mut grid, &mut support),
+        }
+        if call.smooth {
+            grid = match fault {
+                Fault::SmoothsBorder => smoothed_to_the_border(call.shape(), &grid),
+                _ => smoothed(call.shape(), &grid),
+            };
+        }
+    }
+    if fault == Fault::SupportOffByOneBit {
+        support.iter_mut().for_each(|byte| *byte <<= 1);
+    }
+    if fault == Fault::VerdictOffByOne {
+        verdict.iter_mut().filter(|verdict| **verdict > 10).for_each(|verdict| *verdict -= 1);
+    }
+    Analysis { grid, support, verdict }
+}
+
+fn halves_down(call: &Call, scan: usize, from: &[Accepted], grid: &mut [i32], support: &mut [u8]) {
+    let shape = call.shape();
+    for point in 0..shape.points() {
+        let (i, j) = (point % shape.nx, point / shape.nx);
+        let (weights, weighted) = sums(i, j, call.radius[scan], from);
+        if weights > 0 {
+            let exact_half = 2 * (weighted % weights).abs() == weights;
+            let change = if exact_half { weighted / weights } else { rounded(weighted, weights) };
+            grid[point] += change as i32;
+            support[point] |= 1 << scan;
+        }
+    }
+}
+
+/// Takes the differences afresh before each point, from the changing field.
+fn feeding(call: &Call, scan: usize, verdict: &[u8], grid: &mut [i32], support: &mut [u8]) {
+    let shape = call.shape();
+    for point in 0..shape.points() {
+        let rows = (0..verdict.len()).filter(|row| verdict[*row] == 0);
+        let accepted: Vec<Accepted> = rows
+            .map(|row| Accepted {
+                x: call.x[row].into(),
+                y: call.y[row].into(),
+                difference: difference(call, grid, row),
+            })
+            .collect();
+        let (i, j) = (point % shape.nx, point / shape.nx);
+        let (weights, weighted) = sums(i, j, call.radius[scan], &accepted);
+        if weights > 0 {
+            grid[point] += rounded(weighted, weights) as i32;
+            support[point] |= 1 << scan;
+        }
+    }
+}
+
+/// Smooths border points too, with the border repeated outside.
+fn smoothed_to_the_border(shape: Shape, field: &[i32]) -> Vec<i32> {
+    let wide = Shape { nx: shape.nx + 2, ny: shape.ny + 2 };
+    let inner = |at: usize, side: usize| at.clamp(1, side) - 1;
+    let point = |at: usize| (inner(at % wide.nx, shape.nx), inner(at / wide.nx, shape.ny));
+    let framed: Vec<i32> =
+        (0..wide.points()).map(|at| field[shape.index(point(at).0, point(at).1)]).collect();
+    let smooth = smoothed(wide, &framed);
+    let columns = |j: usize| (0..shape.nx).map(move |i| wide.index(i + 1, j + 1));
+    (0..shape.ny).flat_map(columns).map(|at| smooth[at]).collect()
+}
