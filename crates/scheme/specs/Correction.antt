@@ -1,0 +1,44 @@
+-- "One scan", Correction: and the support of a point.
+use Prim.Native.Nat.{ℕ, _+_, _*_, _^_}
+use mathlib.Core.Bool.{Bool, cond}
+use mathlib.Core.List.{List}
+use lib.Dec.{ltb, eqb}
+use lib.IntN.{ℤ, pos, _+ℤ_, _*ℤ_}
+use Rattle.lists.specs.Sums.{total}
+use Rattle.scheme.specs.Units.{Station}
+use Rattle.scheme.specs.Verdicts.{isAccepted}
+use Rattle.scheme.specs.Rounding.{rounded}
+use Rattle.scheme.specs.Difference.{Row}
+use Rattle.scheme.specs.Weight.{squaredDistance, weight}
+
+-- the weight that a row has at point (i, j): none, unless it is accepted
+unfoldable pub weightOf : (radius i j : ℕ) → Row → ℕ
+weightOf radius i j r = cond (isAccepted (r .verdict)) (weight (radius * radius) (squaredDistance i j (r .station))) 0
+
+-- the sum of weights, and the sum of weight·D
+pub record Sums : Type 0 where
+  pub weights : ℕ
+  pub pulls : ℤ
+
+abbrev pub nothing : Sums
+nothing = record { weights = 0; pulls = pos 0 }
+
+abbrev pub plus : Sums → Sums → Sums
+plus a b = record { weights = a .weights + b .weights; pulls = a .pulls +ℤ b .pulls }
+
+-- what a row gives to point (i, j)
+unfoldable pub share : (radius : ℕ) (D : Station → ℤ) (i j : ℕ) → Row → Sums
+share radius D i j r =
+    let w = weightOf radius i j r in
+    record { weights = w; pulls = pos w *ℤ D (r .station) }
+
+unfoldable pub sums : (radius : ℕ) (D : Station → ℤ) → List Row → (i j : ℕ) → Sums
+sums radius D rows i j = total nothing plus (share radius D i j) rows
+
+-- The sum of weight·D over accepted stations, divided by the sum of weights, rounded; 0 if that sum is 0
+unfoldable pub correction : Sums → ℤ
+correction s = cond (eqb (s .weights) 0) (pos 0) (rounded (s .pulls) (s .weights))
+
+-- A point's support byte gets bit scan-1 set exactly where the sum of weights is above 0. In scan number m + 1 that is bit m
+unfoldable pub backedBy : ℕ → Sums → ℕ → ℕ
+backedBy m s support = support + cond (ltb 0 (s .weights)) (2 ^ m) 0

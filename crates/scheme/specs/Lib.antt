@@ -1,0 +1,19 @@
+-- Document 01, "The scope and its exact rules".
+--
+-- MUST BE BELIEVED, a file for each section, in the paper's order and words. Read them beside the paper.
+pub mod Units
+pub mod Refusals
+pub mod Verdicts
+pub mod Rounding
+pub mod Value
+pub mod Difference
+pub mod Weight
+pub mod Correction
+pub mod Smoothing
+pub mod Scan
+pub mod Reach
+pub mod Readings
+pub mod Text
+-- PROVED: theorems about the definitions above.
+pub mod Support
+pub mod Table

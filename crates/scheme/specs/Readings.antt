@@ -1,0 +1,123 @@
+-- "Readings as doubles": the point reading, the summary, and the numbers by which both and the refusals cross to C.
+use Prim.Native.Nat.{ℕ, _+_, _-_, _*_}
+use mathlib.Core.Bool.{Bool, true, false, cond, _&&_, _||_}
+use mathlib.Core.List.{List, [], _∷_}
+use lib.Dec.{eqb}
+use lib.ListN.{length}
+use lib.IntN.{ℤ, pos, _-ℤ_}
+use lib.Signed.{leZ}
+use lib.Ieee.{Float, binary64, div, ofInt}
+use Rattle.scheme.specs.declared.Reading.{Reading}
+use Rattle.scheme.specs.declared.Reading.the-variants.{Backed, FirstGuess, OffGrid, Refused}
+use Rattle.scheme.specs.declared.Units.{Units}
+use Rattle.scheme.specs.declared.Summary.{Summary}
+use Rattle.scheme.specs.Units.{Field, partsOfUnit, fieldOf, step}
+use Rattle.scheme.specs.Refusals.{Refusal, accepted, refused, numberOf, placeOf, readingRefusal, summaryRefusal}
+use Rattle.scheme.specs.Verdicts.{onAxis}
+use Rattle.scheme.specs.Value.{place, cell, sumAt}
+
+-- n / d as a double
+unfoldable pub double : ℤ → ℕ → Float
+double n d = div binary64 (ofInt binary64 n) (ofInt binary64 (pos d))
+
+-- Zero is positive zero
+unfoldable pub positiveZero : Float
+positiveZero = ofInt binary64 (pos 0)
+
+-- ---- the point reading
+
+-- the interpolation sum, unrounded, divided by 262,144
+unfoldable pub readingValue : (nx ny : ℕ) → Field ℤ → (x y : ℕ) → Float
+readingValue nx ny z x y = double (sumAt nx ny z x y) 262144
+
+-- a corner with a share of that many parts: a nonzero one needs a nonzero support byte
+unfoldable pub cornerBacked : (share support : ℕ) → Bool
+cornerBacked share support = eqb share 0 || cond (eqb support 0) false true
+
+-- every corner with a nonzero share has a nonzero support byte
+unfoldable pub isBacked : (nx ny : ℕ) → Field ℕ → (x y : ℕ) → Bool
+isBacked nx ny support x y =
+    let m = cell nx x in
+    let n = cell ny y in
+    let a = x - step * m in
+    let b = y - step * n in
+    cornerBacked ((64 - a) * (64 - b)) (support m n) && cornerBacked (a * (64 - b)) (support (m + 1) n)
+    && cornerBacked ((64 - a) * b) (support m (n + 1))
+    && cornerBacked (a * b) (support (m + 1) (n + 1))
+
+-- It says 'backed' with the value, 'first guess' with the value if not, or 'off grid'
+unfoldable pub readingIn : (nx ny : ℕ) → Field ℤ → Field ℕ → (x y : ℤ) → Reading
+readingIn nx ny z support x y =
+    let px = place nx x in
+    let py = place ny y in
+    let value = readingValue nx ny z px py in
+    cond (onAxis nx x && onAxis ny y) (cond (isBacked nx ny support px py) (Backed value) (FirstGuess value)) OffGrid
+
+abbrev pub unlessRefused : {A : Type 0} → Refusal → A → A → A
+unlessRefused accepted answer other = answer
+unlessRefused (refused number place) answer other = other
+
+-- of any field of i32 and its support, at any i32 (x, y)
+unfoldable pub reading : (nx ny : ℕ) → List ℤ → List ℕ → (x y : ℤ) → Reading
+reading nx ny field support x y =
+    unlessRefused (readingRefusal nx ny (length field) (length support))
+    (readingIn nx ny (fieldOf (pos 0) nx field) (fieldOf 0 nx support) x y) Refused
+
+-- its kind: 0 off grid, 1 first guess, 2 backed, 3 refused
+unfoldable pub kindOf : Reading → ℕ
+kindOf OffGrid = 0
+kindOf (FirstGuess value) = 1
+kindOf (Backed value) = 2
+kindOf Refused = 3
+
+-- and its double, positive zero for kinds 0 and 3
+unfoldable pub valueOf : Reading → Float
+valueOf OffGrid = positiveZero
+valueOf (FirstGuess value) = value
+valueOf (Backed value) = value
+valueOf Refused = positiveZero
+
+-- ---- the summary
+
+unfoldable pub lesser : ℤ → ℤ → ℤ
+lesser a b = cond (leZ a b) a b
+
+unfoldable pub greater : ℤ → ℤ → ℤ
+greater a b = cond (leZ a b) b a
+
+unfoldable pub lowest : ℤ → List ℤ → ℤ
+lowest v [] = v
+lowest v (w ∷ rest) = lowest (lesser v w) rest
+
+unfoldable pub highest : ℤ → List ℤ → ℤ
+highest v [] = v
+highest v (w ∷ rest) = highest (greater v w) rest
+
+abbrev pub inUnits : ℤ → Float
+inUnits v = double v partsOfUnit
+
+abbrev pub zeros : Units
+zeros = record { lowest = positiveZero; highest = positiveZero; span = positiveZero }
+
+-- lowest, highest and their span as doubles, each exact in units
+unfoldable pub unitsOf : List ℤ → Units
+unitsOf [] = zeros
+unitsOf (v ∷ rest) =
+    let low = lowest v rest in
+    let high = highest v rest in
+    record { lowest = inUnits low; highest = inUnits high; span = inUnits (high -ℤ low) }
+
+-- a refused summary holds three zeros
+unfoldable pub summary : (nx ny : ℕ) → List ℤ → Summary
+summary nx ny field =
+    let refusal = summaryRefusal nx ny (length field) in
+    record {
+      refusal = numberOf refusal;
+      place = placeOf refusal;
+      units = unlessRefused refusal (unitsOf field) zeros;
+    }
+
+-- ---- Analysis and window query return refusal·65,536 + place as one u32
+
+unfoldable pub packed : Refusal → ℕ
+packed r = numberOf r * 65536 + placeOf r

@@ -1,0 +1,68 @@
+-- "One scan", whole, and the run of scans.
+use Prim.Native.Nat.{ℕ, zero, suc}
+use mathlib.Core.Bool.{cond}
+use mathlib.Core.List.{List, map}
+use lib.IntN.{ℤ, _+ℤ_}
+use Rattle.scheme.specs.Units.{Request, Field, stored, guess, stations, R}
+use Rattle.scheme.specs.Verdicts.{beforeScans}
+use Rattle.scheme.specs.Difference.{Row, difference, judged}
+use Rattle.scheme.specs.Correction.{Sums, sums, correction, backedBy}
+use Rattle.scheme.specs.Smoothing.{smoothed}
+
+-- what a scan finds, and what it leaves
+pub record State : Type 0 where
+  pub field : Field ℤ
+  pub support : Field ℕ
+  pub rows : List Row
+
+unfoldable pub start : Request → State
+start q =
+    record {
+      field = guess q;
+      support = λ i j. 0;
+      rows = map (λ s. record { station = s; verdict = beforeScans q s }) (stations q);
+    }
+
+-- ---- scan number m + 1, from the state that it finds
+
+module _ (q : Request) (m : ℕ) (found : State) where
+  -- All stations are judged before any point changes
+  unfoldable pub rowsJudged : List Row
+  rowsJudged = map (judged q m (found .field)) (found .rows)
+
+  unfoldable pub sumsAt : Field Sums
+  sumsAt i j = sums (R q m) (difference q (found .field)) rowsJudged i j
+
+  -- All points change together
+  unfoldable pub corrected : Field ℤ
+  corrected i j = found .field i j +ℤ correction (sumsAt i j)
+
+  unfoldable pub scan : State
+  scan =
+      record {
+        field = cond (q .smooth) (smoothed (q .nx) (q .ny) corrected) corrected;
+        support = λ i j. backedBy m (sumsAt i j) (found .support i j);
+        rows = rowsJudged;
+      }
+
+-- ---- the state after the first m scans
+
+unfoldable pub after : Request → ℕ → State
+after q zero = start q
+after q (suc m) = scan q m (after q m)
+
+-- ---- The work gives the analysed grid, the support of each point and a verdict for each station
+
+pub record Analysis : Type 0 where
+  pub grid : List ℤ
+  pub support : List ℕ
+  pub verdict : List ℕ
+
+unfoldable pub analysis : Request → Analysis
+analysis q =
+    let end = after q (q .scans) in
+    record {
+      grid = stored (q .nx) (q .ny) (end .field);
+      support = stored (q .nx) (q .ny) (end .support);
+      verdict = map (λ r. r .verdict) (end .rows);
+    }

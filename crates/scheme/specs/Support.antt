@@ -1,0 +1,174 @@
+-- The support byte: bit scan-1 is set exactly where some accepted row has a nonzero weight in that scan, and without smoothing a point
+-- with no support keeps its first guess.
+use Prim.Native.Nat.{ℕ, zero, suc, _+_, _-_, _*_, _/_, _%_, _≤_, _<_, _^_}
+use native.Mathlib.Omega.{arith}
+use native.Mathlib.Nat.{pow-suc, two-pow-succ, div-eq-of-lt, add-div-right, add-mul-div-right, add-zero}
+use mathlib.Core.Path.{_≡_, refl, sym, ap, _∙_}
+use mathlib.Core.Logic.{_⊎_, inl, inr, _↔_}
+use mathlib.Core.Bool.{Bool, true, false, cond}
+use mathlib.Core.List.{List, [], _∷_, map}
+use borrow.Author.Tests.{ltb-true, ltb-false, lt-ltb, eq-eqb}
+use lib.Dec.{ltb, eqb}
+use lib.Pow.{pow-pos, pow-add}
+use lib.IntN.{ℤ, pos, _+ℤ_, +ℤ-idr}
+use Rattle.lists.specs.Tests.{lt-or-le, true-or-false, not-both}
+use Rattle.lists.specs.Sums.{total}
+use Rattle.lists.specs.Members.{Some, some-also, some-share, share-some}
+use Rattle.scheme.specs.Units.{Request, Station, guess, stations, R}
+use Rattle.scheme.specs.Verdicts.{isAccepted}
+use Rattle.scheme.specs.Difference.{Row, difference, judged}
+use Rattle.scheme.specs.Weight.{squaredDistance, weight}
+use Rattle.scheme.specs.Correction.{Sums, nothing, plus, weightOf, share, sums, correction, backedBy}
+use Rattle.scheme.specs.Scan.{State, start, rowsJudged, sumsAt, corrected, scan, after}
+
+-- bit k of a number
+unfoldable pub bit : ℕ → ℕ → Bool
+bit k n = eqb (n / 2 ^ k % 2) 1
+
+-- ---- bits of a byte that is made bit by bit, from the lowest on
+
+bit-new : (m n : ℕ) (b : Bool) → n < 2 ^ m → bit m (n + cond b (2 ^ m) 0) ≡ b
+unfolding bit
+bit-new m n true h =
+    let e : (n + 2 ^ m) / 2 ^ m ≡ 1 = add-div-right n (pow-pos m) ∙ ap (λ (t : ℕ). t + 1) (div-eq-of-lt h) in
+    rw e
+bit-new m n false h =
+    let e : (n + 0) / 2 ^ m ≡ 0 = div-eq-of-lt (omega arith) in
+    rw e
+
+bit-old : (k m n : ℕ) (b : Bool) → k < m → bit k (n + cond b (2 ^ m) 0) ≡ bit k n
+unfolding bit
+bit-old k m n false h = rw (add-zero n)
+bit-old k m n true h =
+    let e : (n + 2 ^ m) / 2 ^ k ≡ n / 2 ^ k + 2 * 2 ^ (m - suc k) =
+    ap (λ (t : ℕ). (n + t) / 2 ^ k) higher ∙ add-mul-div-right n (2 * 2 ^ (m - suc k)) (pow-pos k) in
+    let f : (n / 2 ^ k + 2 * 2 ^ (m - suc k)) % 2 ≡ n / 2 ^ k % 2 = omega arith in
+    rw (e, f)
+  where
+    higher : 2 ^ m ≡ 2 * 2 ^ (m - suc k) * 2 ^ k
+    higher =
+        let s : m ≡ m - suc k + suc k = omega arith in
+        ap (λ (t : ℕ). 2 ^ t) s ∙ pow-add 2 (m - suc k) (suc k) ∙ omega (arith, ap (λ (t : ℕ). 2 ^ (m - suc k) * t) (pow-suc 2 k))
+
+module _ (q : Request) (i j : ℕ) where
+  -- the sum of weights at the point, in scan number k + 1
+  abbrev pub weightsIn : ℕ → ℕ
+  weightsIn k = sumsAt q k (after q k) i j .weights
+
+  support-next : (m : ℕ) → after q (suc m) .support i j ≡ after q m .support i j + cond (ltb 0 (weightsIn m)) (2 ^ m) 0
+  unfolding after scan backedBy
+  support-next m = refl
+
+  -- no bit is set but those of the scans made
+  pub support-small : (m : ℕ) → after q m .support i j < 2 ^ m
+  unfolding after start
+  support-small zero = omega arith
+  support-small (suc m) = go (ltb 0 (weightsIn m)) (support-small m) (support-next m)
+    where
+      go : {s : ℕ} (b : Bool) → after q m .support i j < 2 ^ m → s ≡ after q m .support i j + cond b (2 ^ m) 0 → s < 2 ^ suc m
+      go true h e = omega (arith, two-pow-succ m)
+      go false h e = omega (arith, two-pow-succ m)
+
+  pub support-bit : (m k : ℕ) → k < m → bit k (after q m .support i j) ≡ ltb 0 (weightsIn k)
+  support-bit zero k h = absurd (omega arith)
+  support-bit (suc m) k h = ap (bit k) (support-next m) ∙ go (lt-or-le k m) (support-bit m k)
+    where
+      go : (k < m) ⊎ (m ≤ k) → (k < m → bit k (after q m .support i j) ≡ ltb 0 (weightsIn k))
+          → bit k (after q m .support i j + cond (ltb 0 (weightsIn m)) (2 ^ m) 0) ≡ ltb 0 (weightsIn k)
+      go (inl l) r = bit-old k m (after q m .support i j) (ltb 0 (weightsIn m)) l ∙ r l
+      go (inr l) r =
+          let e : k ≡ m = omega arith in
+          rw e (bit-new m (after q m .support i j) (ltb 0 (weightsIn m)) (support-small m))
+
+-- ---- a sum of weights is above 0 exactly where some accepted row has a nonzero weight
+
+-- the row is accepted, and has a nonzero weight at point (i, j)
+pub record Weighs (radius i j : ℕ) (r : Row) : Type 0 where
+  pub is-accepted : isAccepted (r .verdict) ≡ true
+  pub nonzero : 0 < weight (radius * radius) (squaredDistance i j (r .station))
+
+weighs : (radius i j : ℕ) (r : Row) → 0 < weightOf radius i j r → Weighs radius i j r
+unfolding weightOf
+weighs radius i j r = go (true-or-false (isAccepted (r .verdict)))
+  where
+    go : (isAccepted (r .verdict) ≡ true) ⊎ (isAccepted (r .verdict) ≡ false)
+        → 0 < cond (isAccepted (r .verdict)) (weight (radius * radius) (squaredDistance i j (r .station))) 0 → Weighs radius i j r
+    go (inl e) h = record { is-accepted = e; nonzero = rw e at h }
+    go (inr e) h = absurd (let l : 0 < 0 = rw e at h in omega arith)
+
+weighed : (radius i j : ℕ) (r : Row) → Weighs radius i j r → 0 < weightOf radius i j r
+unfolding weightOf
+weighed radius i j r w = rw (w .is-accepted) (w .nonzero)
+
+weights-total : (radius : ℕ) (D : Station → ℤ) (i j : ℕ) (rows : List Row) → sums radius D rows i j .weights ≡ total 0 _+_ (weightOf radius i j) rows
+unfolding sums total share
+weights-total radius D i j [] = refl
+weights-total radius D i j (r ∷ rows) = ap (λ (t : ℕ). weightOf radius i j r + t) (weights-total radius D i j rows)
+
+-- bit k, of a scan that has been made, is set exactly where some accepted row has a nonzero weight in that scan
+pub supported-exactly-where-a-mast-weighs : (q : Request) (m k i j : ℕ) → k < m
+    → (bit k (after q m .support i j) ≡ true) ↔ Some (Weighs (R q k) i j) (rowsJudged q k (after q k))
+supported-exactly-where-a-mast-weighs q m k i j h = (there, back)
+  where
+    same : weightsIn q i j k ≡ total 0 _+_ (weightOf (R q k) i j) (rowsJudged q k (after q k))
+    same = unfold sumsAt in weights-total (R q k) (difference q (after q k .field)) i j (rowsJudged q k (after q k))
+
+    there : bit k (after q m .support i j) ≡ true → Some (Weighs (R q k) i j) (rowsJudged q k (after q k))
+    there e =
+        let l = ltb-true 0 (weightsIn q i j k) (sym (support-bit q i j m k h) ∙ e) in
+        some-also (λ r. 0 < weightOf (R q k) i j r) (Weighs (R q k) i j) (weighs (R q k) i j)
+        (some-share (weightOf (R q k) i j) (rowsJudged q k (after q k)) (rw same at l))
+
+    back : Some (Weighs (R q k) i j) (rowsJudged q k (after q k)) → bit k (after q m .support i j) ≡ true
+    back s =
+        let l = share-some (weightOf (R q k) i j) (some-also (Weighs (R q k) i j) (λ r. 0 < weightOf (R q k) i j r) (weighed (R q k) i j) s) in
+        support-bit q i j m k h ∙ lt-ltb 0 (weightsIn q i j k) (rw same l)
+
+-- ---- without smoothing, a point with no support keeps its first guess
+
+no-correction : (s : Sums) → s .weights ≡ 0 → correction s ≡ pos 0
+unfolding correction
+no-correction s e = rw (eq-eqb (s .weights) 0 e)
+
+module _ (q : Request) (rough : q .smooth ≡ false) (i j : ℕ) where
+  pub unsupported-point-keeps-first-guess : (m : ℕ) → after q m .support i j ≡ 0 → after q m .field i j ≡ guess q i j
+  unfolding after start scan
+  unsupported-point-keeps-first-guess zero e = refl
+  unsupported-point-keeps-first-guess (suc m) e =
+      let (old, none) = parts (after q m .support i j) (ltb 0 (weightsIn q i j m)) (sym (support-next q i j m) ∙ e) in
+      let w : weightsIn q i j m ≡ 0 = zeroth (ltb-false 0 (weightsIn q i j m) none) in
+      same-field ∙ unmoved w ∙ unsupported-point-keeps-first-guess m old
+    where
+      parts : (s : ℕ) (b : Bool) → s + cond b (2 ^ m) 0 ≡ 0 → (s ≡ 0) × (b ≡ false)
+      parts s true e = absurd (omega (arith, pow-pos m))
+      parts s false e = (omega arith, refl)
+
+      zeroth : {n : ℕ} → n ≤ 0 → n ≡ 0
+      zeroth h = omega arith
+
+      same-field : scan q m (after q m) .field i j ≡ corrected q m (after q m) i j
+      same-field = unfold scan in rw rough
+
+      unmoved : weightsIn q i j m ≡ 0 → corrected q m (after q m) i j ≡ after q m .field i j
+      unmoved w =
+          unfold corrected in
+          ap (λ (c : ℤ). after q m .field i j +ℤ c) (no-correction (sumsAt q m (after q m) i j) w) ∙ +ℤ-idr (after q m .field i j)
+
+-- ---- with no stations there is no support
+
+module _ (q : Request) (empty : stations q ≡ []) where
+  no-rows : (m : ℕ) → after q m .rows ≡ []
+  unfolding after start scan rowsJudged
+  no-rows zero = rw empty
+  no-rows (suc m) = rw (no-rows m)
+
+  no-weights : (m i j : ℕ) → weightsIn q i j m ≡ 0
+  unfolding sumsAt sums total rowsJudged
+  no-weights m i j =
+      ap (λ (rows : List Row). sums (R q m) (difference q (after q m .field)) (map (judged q m (after q m .field)) rows) i j .weights)
+      (no-rows m)
+
+  pub no-stations-no-support : (m i j : ℕ) → after q m .support i j ≡ 0
+  unfolding after start
+  no-stations-no-support zero i j = refl
+  no-stations-no-support (suc m) i j = support-next q i j m ∙ rw (no-weights m i j, no-stations-no-support m i j)
