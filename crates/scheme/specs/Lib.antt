@@ -15,5 +15,10 @@ pub mod Reach
 pub mod Readings
 pub mod Text
 -- PROVED: theorems about the definitions above.
+pub mod Accepted
+pub mod Nearest
+pub mod Weights
+pub mod Bounds
 pub mod Support
+pub mod DeadMasts
 pub mod Table

@@ -1,0 +1,198 @@
+-- What an accepted request is: each test of the refusal table, turned into the fact that it leaves.
+use Prim.Native.Nat.{ℕ, zero, suc, _+_, _*_, _≤_, _<_}
+use native.Mathlib.Omega.{arith}
+use mathlib.Core.Path.{_≡_, refl, sym, ap, _∙_}
+use mathlib.Core.Logic.{_⊎_, inl, inr}
+use mathlib.Core.Bool.{Bool, true, false, not, cond, _&&_, _||_}
+use mathlib.Core.List.{List, [], _∷_}
+use borrow.Author.Tests.{ltb-false, leb-true, leb-false, eqb-true, not-false}
+use lib.Dec.{ltb, eqb}
+use lib.ListN.{length, getD}
+use lib.Seq.{ext-getD}
+use lib.IntN.{ℤ, pos, negsuc, natAbs}
+use lib.Signed.{leZ, ltZ}
+use Rattle.integers.specs.Parts.{up, dn}
+use Rattle.integers.specs.Order.{most-parts, not-less-parts}
+use Rattle.lists.specs.Tests.{and-true, or-false, not-both, lt-or-le}
+use Rattle.lists.specs.First.{Found, nowhere, at, first, first-good}
+use Rattle.lists.specs.Members.{All, none, more}
+use Rattle.scheme.specs.Units.{Request, Columns, Station, stationAt, sideInRange, valueInRange, mostValue, positionInRange, mostPosition, isMissing, mostStations, mostScans, mostRadius, mostLimit, R, E, guess, fieldOf}
+use Rattle.scheme.specs.Refusals.{Refusal, accepted, refused, inOrder, refusedIf, refusedAt, Lengths, Window, badShape, badWindow, badLengths, badWindowLengths, badColumns, badScans, rising, badScan, badGuess, badStation, fromFour, analysisRefusal, windowRefusal}
+
+-- ---- lists of tests
+
+pub all-accepted : (rs : List Refusal) → inOrder rs ≡ accepted → All (λ r. r ≡ accepted) rs
+unfolding inOrder
+all-accepted [] e = none
+all-accepted (accepted ∷ rs) e = more refl (all-accepted rs e)
+all-accepted (refused n p ∷ rs) e = absurd (let z : _≡_ {A = ℕ} 0 1 = cc in omega arith)
+
+pub not-refused : (n : ℕ) (bad : Bool) → refusedIf n bad ≡ accepted → bad ≡ false
+unfolding refusedIf
+not-refused n true e = absurd (let z : _≡_ {A = ℕ} 0 1 = cc in omega arith)
+not-refused n false e = refl
+
+pub nowhere-refused : (n : ℕ) (f : Found) → refusedAt n f ≡ accepted → f ≡ nowhere
+unfolding refusedAt
+nowhere-refused n nowhere e = refl
+nowhere-refused n (at k) e = absurd (let z : _≡_ {A = ℕ} 0 1 = cc in omega arith)
+
+-- ---- 1: the shape
+
+pub record Shaped (nx ny len : ℕ) : Type 0 where
+  pub two-columns : 2 ≤ nx
+  pub few-columns : nx ≤ 64
+  pub two-rows : 2 ≤ ny
+  pub few-rows : ny ≤ 64
+  pub whole : len ≡ nx * ny
+
+side : (n : ℕ) → not (sideInRange n) ≡ false → (2 ≤ n) × (n ≤ 64)
+side n e = let (p, r) = and-true _ _ (not-false _ e) in (leb-true 2 n p, leb-true n 64 r)
+
+pub shaped : (nx ny len : ℕ) → badShape nx ny len ≡ false → Shaped nx ny len
+unfolding badShape
+shaped nx ny len e =
+    let (e', c) = or-false _ _ e in
+    let (a, b) = or-false _ _ e' in
+    let (p, r) = side nx a in
+    let (s, t) = side ny b in
+    record { two-columns = p; few-columns = r; two-rows = s; few-rows = t; whole = eqb-true len (nx * ny) (not-false _ c) }
+
+-- ---- 4: the columns
+
+pub record Equal (c : Columns) : Type 0 where
+  pub y : length (c .y) ≡ length (c .x)
+  pub value : length (c .value) ≡ length (c .x)
+  pub observed : length (c .observed) ≡ length (c .x)
+  pub from : length (c .from) ≡ length (c .x)
+  pub until : length (c .until) ≡ length (c .x)
+  pub few : length (c .x) ≤ mostStations
+
+same : (a b : ℕ) → not (eqb a b) ≡ false → a ≡ b
+same a b e = eqb-true a b (not-false _ e)
+
+pub equal : (c : Columns) → badColumns c ≡ false → Equal c
+unfolding badColumns
+equal c e =
+    let (e1, few) = or-false _ _ e in
+    let (e2, until) = or-false _ _ e1 in
+    let (e3, from) = or-false _ _ e2 in
+    let (e4, observed) = or-false _ _ e3 in
+    let (y, value) = or-false _ _ e4 in
+    record {
+      y = same _ _ y;
+      value = same _ _ value;
+      observed = same _ _ observed;
+      from = same _ _ from;
+      until = same _ _ until;
+      few = ltb-false mostStations (length (c .x)) few;
+    }
+
+-- ---- 5 and 6: the plan
+
+-- a number in low..high, as the natural that it is
+natural : (low high : ℕ) (z : ℤ) → not (leZ (pos low) z && leZ z (pos high)) ≡ false → (z ≡ pos (natAbs z)) × (low ≤ natAbs z) × (natAbs z ≤ high)
+natural low high (pos n) e =
+    let (p, r) = and-true _ _ (not-false _ e) in
+    (refl, leb-true low n p, leb-true n high r)
+natural low high (negsuc n) e = absurd (not-both e)
+
+pub record Scanned (q : Request) (m : ℕ) : Type 0 where
+  pub radius-is : getD (q .radius) m (pos 0) ≡ pos (R q m)
+  pub radius-some : 1 ≤ R q m
+  pub radius-most : R q m ≤ mostRadius
+  pub not-rising : rising q m ≡ false
+  pub limit-is : getD (q .limit) m (pos 0) ≡ pos (E q m)
+  pub limit-most : E q m ≤ mostLimit
+
+pub scanned : (q : Request) (m : ℕ) → badScan q m ≡ false → Scanned q m
+unfolding badScan R E
+scanned q m e =
+    let (e1, c) = or-false _ _ e in
+    let (a, b) = or-false _ _ e1 in
+    let (r, r1, r2) = natural 1 mostRadius (getD (q .radius) m (pos 0)) a in
+    let (l, l1, l2) = natural 0 mostLimit (getD (q .limit) m (pos 0)) c in
+    record { radius-is = r; radius-some = r1; radius-most = r2; not-rising = b; limit-is = l; limit-most = l2 }
+
+-- radii do not rise
+pub fallen : (q : Request) (m : ℕ) → badScan q m ≡ false → badScan q (suc m) ≡ false → R q (suc m) ≤ R q m
+unfolding rising
+fallen q m e f = go (scanned q m e .radius-is) (scanned q (suc m) f .radius-is) (scanned q (suc m) f .not-rising)
+  where
+    go : {a b : ℤ} {r s : ℕ} → a ≡ pos r → b ≡ pos s → ltZ a b ≡ false → s ≤ r
+    go {r = r} {s = s} p t h = ltb-false r s (rw (p, t) at h)
+
+-- ---- 8: a station
+
+pub record Stationed (s : Station) : Type 0 where
+  pub value : isMissing (s .value) ≡ false → natAbs (s .value) ≤ mostValue
+  pub x : natAbs (s .x) ≤ mostPosition
+  pub y : natAbs (s .y) ≤ mostPosition
+  pub served : s .from < s .until
+
+pub stationed : (s : Station) → badStation s ≡ false → Stationed s
+unfolding badStation
+stationed s e =
+    let (e1, d) = or-false _ _ e in
+    let (e2, c) = or-false _ _ e1 in
+    let (a, b) = or-false _ _ e2 in
+    record {
+      value = λ m. leb-true _ _ (not-false _ (there (isMissing (s .value)) _ a m));
+      x = leb-true _ _ (not-false _ b);
+      y = leb-true _ _ (not-false _ c);
+      served = leb-false (s .until) (s .from) d;
+    }
+  where
+    there : (m v : Bool) → not m && v ≡ false → m ≡ false → v ≡ false
+    there true v e h = absurd (not-both h)
+    there false v e h = e
+
+-- ---- a request with none of the faults 1 and 4 to 8
+
+pub record Sound (q : Request) : Type 0 where
+  pub shape : Shaped (q .nx) (q .ny) (length (q .firstGuess))
+  pub columns : Equal (q .columns)
+  pub scans-some : 1 ≤ q .scans
+  pub scans-few : q .scans ≤ mostScans
+  pub radii : q .scans ≤ length (q .radius)
+  pub limits : q .scans ≤ length (q .limit)
+  pub plan : (m : ℕ) → m < q .scans → Scanned q m
+  pub falls : (m : ℕ) → suc m < q .scans → R q (suc m) ≤ R q m
+  pub first-guess : (k : ℕ) → k < length (q .firstGuess) → natAbs (getD (q .firstGuess) k (pos 0)) ≤ mostValue
+  pub stations : (k : ℕ) → k < length (q .columns .x) → Stationed (stationAt (q .columns) k)
+
+sound : (q : Request) → badShape (q .nx) (q .ny) (length (q .firstGuess)) ≡ false → All (λ r. r ≡ accepted) (fromFour q) → Sound q
+unfolding fromFour badScans badGuess
+sound q one (more four (more five (more six (more seven (more eight none))))) =
+    let (f1, limits) = or-false _ _ (not-refused 5 _ five) in
+    let (count, radii) = or-false _ _ f1 in
+    let (some, few) = and-true _ _ (not-false _ count) in
+    let plan = first-good (q .scans) (badScan q) (nowhere-refused 6 _ six) in
+    let values = first-good (length (q .firstGuess)) (badGuess q) (nowhere-refused 7 _ seven) in
+    let rows = first-good (length (q .columns .x)) (λ k. badStation (stationAt (q .columns) k)) (nowhere-refused 8 _ eight) in
+    record {
+      shape = shaped _ _ _ one;
+      columns = equal _ (not-refused 4 _ four);
+      scans-some = leb-true 1 (q .scans) some;
+      scans-few = leb-true (q .scans) mostScans few;
+      radii = ltb-false _ _ radii;
+      limits = ltb-false _ _ limits;
+      plan = λ m h. scanned q m (plan m h);
+      falls = λ m h. fallen q m (plan m (omega arith)) (plan (suc m) h);
+      first-guess = λ k h. leb-true _ _ (not-false _ (values k h));
+      stations = λ k h. stationed (stationAt (q .columns) k) (rows k h);
+    }
+
+pub analysis-sound : (q : Request) (l : Lengths) → analysisRefusal q l ≡ accepted → Sound q
+unfolding analysisRefusal
+analysis-sound q l e = go (all-accepted _ e)
+  where
+    go : All (λ r. r ≡ accepted) (refusedIf 1 (badShape (q .nx) (q .ny) (length (q .firstGuess))) ∷ refusedIf 3 (badLengths q l) ∷ fromFour q) → Sound q
+    go (more one (more three rest)) = sound q (not-refused 1 _ one) rest
+
+pub window-sound : (q : Request) (w : Window) (grid support : ℕ) → windowRefusal q w grid support ≡ accepted → Sound q
+unfolding windowRefusal
+window-sound q w grid support e = go (all-accepted _ e)
+  where
+    go : All (λ r. r ≡ accepted) (refusedIf 1 (badShape (q .nx) (q .ny) (length (q .firstGuess))) ∷ refusedIf 2 (badWindow q w) ∷ refusedIf 3 (badWindowLengths w grid support) ∷ fromFour q) → Sound q
+    go (more one (more two (more three rest))) = sound q (not-refused 1 _ one) rest

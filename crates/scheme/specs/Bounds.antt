@@ -1,0 +1,172 @@
+-- Every accepted run stays within -13,000,000..13,000,000 at every point, since each correction is at most E in size.
+use Prim.Native.Nat.{ℕ, zero, suc, _+_, _-_, _*_, _≤_, _<_}
+use native.Mathlib.Omega.{arith}
+use native.Mathlib.Nat.{mul-le-mul-left}
+use mathlib.Core.Path.{_≡_, refl, sym, ap, _∙_}
+use mathlib.Core.Logic.{_⊎_, inl, inr}
+use mathlib.Core.Bool.{Bool, true, false, cond, _&&_}
+use mathlib.Core.List.{List, [], _∷_, map}
+use borrow.Author.Tests.{ltb-false, eqb-true, eq-eqb, ne-eqb}
+use lib.Dec.{ltb, eqb}
+use lib.ListN.{length, getD, List·getD-eq-default}
+use lib.IntN.{ℤ, pos, natAbs, _+ℤ_, _*ℤ_}
+use Rattle.integers.specs.Sizes.{size-add, size-mul}
+use Rattle.lists.specs.Tests.{lt-or-le, true-or-false, not-both, cond-both}
+use Rattle.lists.specs.Sums.{total, upTo, upTo-size}
+use Rattle.lists.specs.Members.{All, none, more, all-map, all-of}
+use Rattle.scheme.specs.Units.{Request, Station, Field, fieldOf, guess, R, E, mostValue, mostLimit, mostScans}
+use Rattle.scheme.specs.Refusals.{accepted, Lengths, analysisRefusal}
+use Rattle.scheme.specs.Verdicts.{isAccepted}
+use Rattle.scheme.specs.Rounding.{rounded}
+use Rattle.scheme.specs.Difference.{Row, difference, afterTest, judged}
+use Rattle.scheme.specs.Correction.{Sums, nothing, plus, weightOf, share, sums, correction}
+use Rattle.scheme.specs.Smoothing.{patternAt, patternRow, patternSum, inner, smoothed}
+use Rattle.scheme.specs.Scan.{State, start, rowsJudged, sumsAt, corrected, scan, after}
+use Rattle.scheme.specs.Nearest.{rounded-size}
+use Rattle.scheme.specs.Accepted.{Sound, analysis-sound}
+
+-- a field whose values are all of that size at most
+abbrev pub Within : ℕ → Field ℤ → Type 0
+Within most z = (i j : ℕ) → natAbs (z i j) ≤ most
+
+-- ---- an accepted row has passed the E test
+
+abbrev Passed : ℕ → (Station → ℤ) → Row → Type 0
+Passed limit D r = isAccepted (r .verdict) ≡ true → natAbs (D (r .station)) ≤ limit
+
+passed : (scan limit : ℕ) (D : ℤ) (verdict : ℕ) → isAccepted (afterTest scan limit D verdict) ≡ true → natAbs D ≤ limit
+unfolding afterTest
+passed scan limit D verdict = go (true-or-false (isAccepted verdict)) (true-or-false (ltb limit (natAbs D)))
+  where
+    go : (isAccepted verdict ≡ true) ⊎ (isAccepted verdict ≡ false) → (ltb limit (natAbs D) ≡ true) ⊎ (ltb limit (natAbs D) ≡ false)
+        → isAccepted (cond (isAccepted verdict) (cond (ltb limit (natAbs D)) (10 + scan) 0) verdict) ≡ true → natAbs D ≤ limit
+    go (inr v) t e = absurd (not-both (sym (rw (v) at e) ∙ v))
+    go (inl v) (inr t) e = ltb-false limit (natAbs D) t
+    go (inl v) (inl t) e = absurd (let n : 10 + scan ≡ 0 = eqb-true (10 + scan) 0 (rw (v, t) at e) in omega arith)
+
+all-passed : (q : Request) (m : ℕ) (found : State) → All (Passed (E q m) (difference q (found .field))) (rowsJudged q m found)
+unfolding rowsJudged judged
+all-passed q m found =
+    all-map (λ r. Unit {0}) (Passed (E q m) (difference q (found .field))) (judged q m (found .field))
+    (λ r u. passed (m + 1) (E q m) (difference q (found .field) (r .station)) (r .verdict))
+    (all-of (λ r. Unit {0}) (λ r. tt) (found .rows))
+
+-- ---- so the sum of weight·D is at most E times the sum of weights, and their quotient at most E
+
+no-weight : (radius i j : ℕ) (r : Row) → isAccepted (r .verdict) ≡ false → weightOf radius i j r ≡ 0
+unfolding weightOf
+no-weight radius i j r e = rw e
+
+share-size : (radius limit : ℕ) (D : Station → ℤ) (i j : ℕ) (r : Row) → Passed limit D r
+    → natAbs (share radius D i j r .pulls) ≤ limit * share radius D i j r .weights
+unfolding share
+share-size radius limit D i j r h = go (true-or-false (isAccepted (r .verdict)))
+  where
+    go : (isAccepted (r .verdict) ≡ true) ⊎ (isAccepted (r .verdict) ≡ false)
+        → natAbs (pos (weightOf radius i j r) *ℤ D (r .station)) ≤ limit * weightOf radius i j r
+    go (inl e) =
+        omega (
+          arith,
+          size-mul (pos (weightOf radius i j r)) (D (r .station)),
+          mul-le-mul-left (weightOf radius i j r) (h e),
+        )
+    go (inr e) = rw (no-weight radius i j r e) (omega (arith, size-mul (pos 0) (D (r .station))))
+
+sums-size : (radius limit : ℕ) (D : Station → ℤ) (i j : ℕ) {rows : List Row} → All (Passed limit D) rows
+    → natAbs (sums radius D rows i j .pulls) ≤ limit * sums radius D rows i j .weights
+unfolding sums total
+sums-size radius limit D i j none = omega arith
+sums-size radius limit D i j (more {a = r} {xs = rows} h rest) =
+    omega (
+      arith,
+      size-add (share radius D i j r .pulls) (sums radius D rows i j .pulls),
+      share-size radius limit D i j r h,
+      sums-size radius limit D i j rest,
+    )
+
+correction-size : (limit : ℕ) (s : Sums) → natAbs (s .pulls) ≤ limit * s .weights → natAbs (correction s) ≤ limit
+unfolding correction
+correction-size limit s h =
+    cond-both (λ (c : ℤ). natAbs c ≤ limit) (eqb (s .weights) 0) (pos 0) (rounded (s .pulls) (s .weights))
+    (λ e. omega arith) (λ e. rounded-size (s .pulls) (s .weights) limit h)
+
+-- each correction is at most E in size, whatever state the scan finds
+pub correction-at-most-E : (q : Request) (m : ℕ) (found : State) (i j : ℕ) → natAbs (correction (sumsAt q m found i j)) ≤ E q m
+unfolding sumsAt
+correction-at-most-E q m found i j =
+    correction-size (E q m) _ (sums-size (R q m) (E q m) (difference q (found .field)) i j (all-passed q m found))
+
+-- ---- smoothing makes nothing larger
+
+pattern-row-size : (most : ℕ) (z : Field ℤ) → Within most z → (i j b : ℕ)
+    → natAbs (patternRow z i j b) ≤ upTo 0 _+_ 3 (λ a. patternAt a b * most)
+unfolding patternRow
+pattern-row-size most z h i j b =
+    upTo-size 3 (λ a. pos (patternAt a b) *ℤ z (i + a - 1) (j + b - 1)) (λ a. patternAt a b * most)
+    (λ a l. share a (z (i + a - 1) (j + b - 1)) (h (i + a - 1) (j + b - 1)))
+  where
+    share : (a : ℕ) (v : ℤ) → natAbs v ≤ most → natAbs (pos (patternAt a b) *ℤ v) ≤ patternAt a b * most
+    share a v k = rw (size-mul (pos (patternAt a b)) v) (mul-le-mul-left (patternAt a b) k)
+
+pattern-size : (most : ℕ) (z : Field ℤ) → Within most z → (i j : ℕ) → natAbs (patternSum z i j) ≤ most * 16
+unfolding patternSum
+pattern-size most z h i j =
+    omega (arith, all most, upTo-size 3 (patternRow z i j) (λ b. upTo 0 _+_ 3 (λ a. patternAt a b * most)) (λ b l. pattern-row-size most z h i j b))
+  where
+    all : (most : ℕ) → upTo 0 _+_ 3 (λ b. upTo 0 _+_ 3 (λ a. patternAt a b * most)) ≡ most * 16
+    all most = unfold upTo in omega arith
+
+smoothed-within : (most nx ny : ℕ) (z : Field ℤ) → Within most z → Within most (smoothed nx ny z)
+unfolding smoothed
+smoothed-within most nx ny z h i j =
+    cond-both (λ (v : ℤ). natAbs v ≤ most) (inner nx i && inner ny j) (rounded (patternSum z i j) 16) (z i j)
+    (λ e. rounded-size (patternSum z i j) 16 most (pattern-size most z h i j)) (λ e. h i j)
+
+-- ---- a scan adds at most E
+
+scan-within : (most : ℕ) (q : Request) (m : ℕ) (found : State) → Within most (found .field) → Within (most + E q m) (scan q m found .field)
+unfolding scan
+scan-within most q m found h =
+    cond-both (Within (most + E q m)) (q .smooth) (smoothed (q .nx) (q .ny) (corrected q m found)) (corrected q m found)
+    (λ e. smoothed-within (most + E q m) (q .nx) (q .ny) (corrected q m found) added) (λ e. added)
+  where
+    added : Within (most + E q m) (corrected q m found)
+    added i j =
+        unfold corrected in
+        omega (
+          arith,
+          size-add (found .field i j) (correction (sumsAt q m found i j)),
+          h i j,
+          correction-at-most-E q m found i j,
+        )
+
+-- ---- the run
+
+module _ (q : Request) (sound : Sound q) where
+  guess-within : Within mostValue (guess q)
+  unfolding guess fieldOf
+  guess-within i j = go (lt-or-le (j * q .nx + i) (length (q .firstGuess)))
+    where
+      go : (j * q .nx + i < length (q .firstGuess)) ⊎ (length (q .firstGuess) ≤ j * q .nx + i)
+          → natAbs (getD (q .firstGuess) (j * q .nx + i) (pos 0)) ≤ mostValue
+      go (inl h) = sound .first-guess (j * q .nx + i) h
+      go (inr h) = rw (List·getD-eq-default (q .firstGuess) (pos 0) h) (omega arith)
+
+  -- after m scans
+  after-within : (m : ℕ) → m ≤ q .scans → Within (mostValue + m * mostLimit) (after q m .field)
+  unfolding after start
+  after-within zero h = λ i j. omega (arith, guess-within i j)
+  after-within (suc m) h =
+      λ i j. omega (
+        arith,
+        scan-within (mostValue + m * mostLimit) q m (after q m) (after-within m (omega arith)) i j,
+        sound .plan m h .limit-most,
+      )
+
+  pub fields-stay-within : (m : ℕ) → m ≤ q .scans → Within 13000000 (after q m .field)
+  fields-stay-within m h i j = omega (arith, after-within m h i j, sound .scans-few)
+
+-- every field of an accepted run stays within -13,000,000..13,000,000
+pub accepted-run-stays-within : (q : Request) (l : Lengths) → analysisRefusal q l ≡ accepted → (m : ℕ) → m ≤ q .scans
+    → Within 13000000 (after q m .field)
+accepted-run-stays-within q l e = fields-stay-within q (analysis-sound q l e)
