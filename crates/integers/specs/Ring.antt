@@ -1,5 +1,5 @@
 -- The ring laws that the kit's ℤ lacks, and differences of moved ends.
-use Prim.Native.Nat.{ℕ, _+_, _-_, _*_, _≤_}
+use Prim.Native.Nat.{ℕ, _-_, _*_, _≤_}
 use native.Mathlib.Omega.{arith}
 use mathlib.Core.Path.{_≡_, refl, ap}
 use lib.IntN.{ℤ, pos, negsuc, natAbs, _+ℤ_, _-ℤ_, _*ℤ_}
@@ -17,6 +17,9 @@ add-mul a b c =
       ap (λ (n : ℕ). n * up c) (add-parts a b),
       ap (λ (n : ℕ). n * dn c) (add-parts a b),
     ))
+
+pub one-mul : (a : ℤ) → pos 1 *ℤ a ≡ a
+one-mul a = eq-parts (pos 1 *ℤ a) a (omega (arith, mul-parts (pos 1) a))
 
 -- a square is not negative
 pub square : (a : ℤ) → a *ℤ a ≡ pos (natAbs a * natAbs a)

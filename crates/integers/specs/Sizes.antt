@@ -5,7 +5,7 @@ use native.Mathlib.Nat.{zero-div, div-le-self}
 use mathlib.Core.Path.{_≡_, refl, sym, ap, _∙_}
 use lib.IntN.{ℤ, pos, negsuc, negℤ, natAbs, _+ℤ_, _-ℤ_, _*ℤ_}
 use lib.Signed.{mag, quotZ}
-use Rattle.integers.specs.Parts.{up, dn, add-parts, minus-parts, size-parts, one-part}
+use Rattle.integers.specs.Parts.{up, dn, add-parts, minus-parts, size-parts}
 
 pub size-neg : (z : ℤ) → natAbs (negℤ z) ≡ natAbs z
 size-neg (pos zero) = refl

@@ -1,9 +1,8 @@
 -- A signed number and its bits, over the width: what a size says of the machine's range.
-use Prim.Native.Nat.{ℕ, _<_, _≤_, _^_}
+use Prim.Native.Nat.{_<_, _≤_, _^_}
 use native.Mathlib.Omega.{arith}
 use mathlib.Core.Path.{_≡_}
 use lib.IntN.{ℤ, pos, negsuc, natAbs}
-use lib.Signed.{mag}
 use mir.Syntax.{Width}
 use mir.Val.{SFits, toZ, ofZ, hbits}
 use mir.Facts.{toZ-ofZ}

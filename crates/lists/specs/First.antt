@@ -1,10 +1,10 @@
 -- The first bad place of a search.
 use Prim.Native.Nat.{ℕ, zero, suc, _+_, _≤_, _<_}
 use native.Mathlib.Omega.{arith}
-use mathlib.Core.Path.{_≡_, refl, sym, ap, _∙_}
+use mathlib.Core.Path.{_≡_, refl}
 use mathlib.Core.Logic.{_⊎_, inl, inr}
 use mathlib.Core.Bool.{Bool, true, false, cond}
-use Rattle.lists.specs.Tests.{lt-or-le, true-or-false, not-both}
+use Rattle.lists.specs.Tests.{lt-or-le, true-or-false}
 
 pub data Found : Type 0 where
   nowhere : Found

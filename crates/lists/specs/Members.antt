@@ -1,10 +1,12 @@
 -- What holds of each element of a list, or of some.
-use Prim.Native.Nat.{ℕ, _+_, _≤_, _<_}
+use Prim.Native.Nat.{ℕ, zero, suc, _+_, _≤_, _<_}
 use native.Mathlib.Omega.{arith}
 use mathlib.Core.Path.{_≡_}
 use mathlib.Core.Logic.{_⊎_, inl, inr}
+use mathlib.Core.Bool.{Bool, true, _&&_}
 use mathlib.Core.List.{List, [], _∷_, map}
-use Rattle.lists.specs.Tests.{lt-or-le}
+use lib.ListN.{getD}
+use Rattle.lists.specs.Tests.{lt-or-le, and-true}
 use Rattle.lists.specs.Sums.{total}
 
 -- P holds of each
@@ -17,7 +19,19 @@ pub data Some {A : Type 0} (P : A → Type 0) : List A → Type 0 where
   here : {a : A} {xs : List A} → P a → Some P (a ∷ xs)
   later : {a : A} {xs : List A} → Some P xs → Some P (a ∷ xs)
 
+-- a test that computes over the whole list
+unfoldable pub every : {A : Type 0} → (A → Bool) → List A → Bool
+every p [] = true
+every p (a ∷ xs) = p a && every p xs
+
 -- ---- laws
+
+-- what the test finds of every element, and of what stands past the end, holds at every place
+pub every-at : {A : Type 0} (p : A → Bool) (o : A) → p o ≡ true → (xs : List A) → every p xs ≡ true → (k : ℕ) → p (getD xs k o) ≡ true
+unfolding every
+every-at p o e [] h k = e
+every-at p o e (a ∷ xs) h zero = and-true (p a) (every p xs) h .0
+every-at p o e (a ∷ xs) h (suc k) = every-at p o e xs (and-true (p a) (every p xs) h .1) k
 
 pub all-map : {A B : Type 0} (P : A → Type 0) (Q : B → Type 0) (f : A → B) → ((a : A) → P a → Q (f a)) → {xs : List A} → All P xs → All Q (map f xs)
 all-map P Q f g none = none

@@ -1,6 +1,7 @@
 -- Sums over the records of a list, and over an index as a loop counts them.
-use Prim.Native.Nat.{ℕ, zero, suc, _+_, _≤_, _<_}
+use Prim.Native.Nat.{ℕ, zero, suc, _+_, _*_, _≤_, _<_}
 use native.Mathlib.Omega.{arith}
+use native.Mathlib.Numerals.{add-one}
 use mathlib.Core.Path.{_≡_, refl, sym, ap, _∙_}
 use mathlib.Core.List.{List, [], _∷_, map}
 use lib.IntN.{ℤ, pos, natAbs, _+ℤ_}
@@ -45,6 +46,24 @@ module _ {A S : Type 0} (nil : S) (plus : S → S → S) where
   unfolding total
   total-ind P f none more [] = none
   total-ind P f none more (a ∷ xs) = more a (total nil plus f xs) (total-ind P f none more xs)
+
+pub upTo-same : {S : Type 0} (nil : S) (plus : S → S → S) (n : ℕ) (f g : ℕ → S) → ((k : ℕ) → k < n → f k ≡ g k) → upTo nil plus n f ≡ upTo nil plus n g
+unfolding upTo
+upTo-same nil plus zero f g h = refl
+upTo-same {S = S} nil plus (suc n) f g h =
+    ap (λ (t : S). plus t (f n)) (upTo-same nil plus n f g (λ k l. h k (omega arith))) ∙ ap (plus (upTo nil plus n g)) (h n (omega arith))
+
+-- a turn of a loop
+pub upTo-next : {S : Type 0} (nil : S) (plus : S → S → S) (n : ℕ) (f : ℕ → S) → upTo nil plus (n + 1) f ≡ plus (upTo nil plus n f) (f n)
+unfolding upTo
+upTo-next nil plus n f = rw (add-one n)
+
+-- a sum of n numbers of at most that size each
+pub upTo-most : (most n : ℕ) (f : ℕ → ℤ) → ((k : ℕ) → k < n → natAbs (f k) ≤ most) → natAbs (upTo (pos 0) _+ℤ_ n f) ≤ n * most
+unfolding upTo
+upTo-most most zero f h = omega arith
+upTo-most most (suc n) f h =
+    omega (arith, size-add (upTo (pos 0) _+ℤ_ n f) (f n), upTo-most most n f (λ k l. h k (omega arith)), h n (omega arith))
 
 -- a sum is no larger than the sum of sizes
 pub upTo-size : (n : ℕ) (f : ℕ → ℤ) (g : ℕ → ℕ) → ((k : ℕ) → k < n → natAbs (f k) ≤ g k) → natAbs (upTo (pos 0) _+ℤ_ n f) ≤ upTo 0 _+_ n g

@@ -1,22 +1,18 @@
 -- What an accepted request is: each test of the refusal table, turned into the fact that it leaves.
-use Prim.Native.Nat.{ℕ, zero, suc, _+_, _*_, _≤_, _<_}
+use Prim.Native.Nat.{ℕ, suc, _*_, _≤_, _<_}
 use native.Mathlib.Omega.{arith}
-use mathlib.Core.Path.{_≡_, refl, sym, ap, _∙_}
-use mathlib.Core.Logic.{_⊎_, inl, inr}
-use mathlib.Core.Bool.{Bool, true, false, not, cond, _&&_, _||_}
+use mathlib.Core.Path.{_≡_, refl}
+use mathlib.Core.Bool.{Bool, true, false, not, _&&_}
 use mathlib.Core.List.{List, [], _∷_}
 use borrow.Author.Tests.{ltb-false, leb-true, leb-false, eqb-true, not-false}
-use lib.Dec.{ltb, eqb}
+use lib.Dec.{eqb}
 use lib.ListN.{length, getD}
-use lib.Seq.{ext-getD}
 use lib.IntN.{ℤ, pos, negsuc, natAbs}
 use lib.Signed.{leZ, ltZ}
-use Rattle.integers.specs.Parts.{up, dn}
-use Rattle.integers.specs.Order.{most-parts, not-less-parts}
-use Rattle.lists.specs.Tests.{and-true, or-false, not-both, lt-or-le}
-use Rattle.lists.specs.First.{Found, nowhere, at, first, first-good}
+use Rattle.lists.specs.Tests.{and-true, or-false, not-both}
+use Rattle.lists.specs.First.{Found, nowhere, at, first-good}
 use Rattle.lists.specs.Members.{All, none, more}
-use Rattle.scheme.specs.Units.{Request, Columns, Station, stationAt, sideInRange, valueInRange, mostValue, positionInRange, mostPosition, isMissing, mostStations, mostScans, mostRadius, mostLimit, R, E, guess, fieldOf}
+use Rattle.scheme.specs.Units.{Request, Columns, Station, stationAt, sideInRange, mostValue, mostPosition, isMissing, mostStations, mostScans, mostRadius, mostLimit, R, E}
 use Rattle.scheme.specs.Refusals.{Refusal, accepted, refused, inOrder, refusedIf, refusedAt, Lengths, Window, badShape, badWindow, badLengths, badWindowLengths, badColumns, badScans, rising, badScan, badGuess, badStation, fromFour, analysisRefusal, windowRefusal}
 
 -- ---- lists of tests

@@ -2,28 +2,31 @@
 use Prim.Native.Nat.{ℕ, zero, suc, _+_, _-_, _*_, _≤_, _<_}
 use native.Mathlib.Omega.{arith}
 use native.Mathlib.Nat.{mul-le-mul-left}
-use mathlib.Core.Path.{_≡_, refl, sym, ap, _∙_}
+use mathlib.Core.Path.{_≡_, sym, _∙_}
 use mathlib.Core.Logic.{_⊎_, inl, inr}
-use mathlib.Core.Bool.{Bool, true, false, cond, _&&_}
-use mathlib.Core.List.{List, [], _∷_, map}
-use borrow.Author.Tests.{ltb-false, eqb-true, eq-eqb, ne-eqb}
+use mathlib.Core.Bool.{true, false, cond, _&&_}
+use mathlib.Core.List.{List}
+use borrow.Author.Tests.{ltb-false, eqb-true}
 use lib.Dec.{ltb, eqb}
 use lib.ListN.{length, getD, List·getD-eq-default}
-use lib.IntN.{ℤ, pos, natAbs, _+ℤ_, _*ℤ_}
+use lib.IntN.{ℤ, pos, natAbs, _*ℤ_}
 use Rattle.integers.specs.Sizes.{size-add, size-mul}
 use Rattle.lists.specs.Tests.{lt-or-le, true-or-false, not-both, cond-both}
 use Rattle.lists.specs.Sums.{total, upTo, upTo-size}
 use Rattle.lists.specs.Members.{All, none, more, all-map, all-of}
-use Rattle.scheme.specs.Units.{Request, Station, Field, fieldOf, guess, R, E, mostValue, mostLimit, mostScans}
+use Rattle.scheme.specs.Units.{Request, Station, Field, fieldOf, guess, R, E, mostValue, mostLimit}
 use Rattle.scheme.specs.Refusals.{accepted, Lengths, analysisRefusal}
 use Rattle.scheme.specs.Verdicts.{isAccepted}
 use Rattle.scheme.specs.Rounding.{rounded}
 use Rattle.scheme.specs.Difference.{Row, difference, afterTest, judged}
-use Rattle.scheme.specs.Correction.{Sums, nothing, plus, weightOf, share, sums, correction}
+use Rattle.scheme.specs.Correction.{Sums, weightOf, share, sums, correction}
 use Rattle.scheme.specs.Smoothing.{patternAt, patternRow, patternSum, inner, smoothed}
 use Rattle.scheme.specs.Scan.{State, start, rowsJudged, sumsAt, corrected, scan, after}
 use Rattle.scheme.specs.Nearest.{rounded-size}
 use Rattle.scheme.specs.Accepted.{Sound, analysis-sound}
+
+abbrev pub mostField : ℕ
+mostField = 13000000
 
 -- a field whose values are all of that size at most
 abbrev pub Within : ℕ → Field ℤ → Type 0
@@ -163,10 +166,10 @@ module _ (q : Request) (sound : Sound q) where
         sound .plan m h .limit-most,
       )
 
-  pub fields-stay-within : (m : ℕ) → m ≤ q .scans → Within 13000000 (after q m .field)
+  pub fields-stay-within : (m : ℕ) → m ≤ q .scans → Within mostField (after q m .field)
   fields-stay-within m h i j = omega (arith, after-within m h i j, sound .scans-few)
 
 -- every field of an accepted run stays within -13,000,000..13,000,000
 pub accepted-run-stays-within : (q : Request) (l : Lengths) → analysisRefusal q l ≡ accepted → (m : ℕ) → m ≤ q .scans
-    → Within 13000000 (after q m .field)
+    → Within mostField (after q m .field)
 accepted-run-stays-within q l e = fields-stay-within q (analysis-sound q l e)

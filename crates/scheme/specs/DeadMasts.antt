@@ -1,23 +1,22 @@
 -- Demand 2's word on dead masts: a mast out of service, a missing, stale or rejected reading has no weight in any scan from then on.
-use Prim.Native.Nat.{ℕ, zero, suc, _+_, _-_, _≤_, _<_}
+use Prim.Native.Nat.{ℕ, zero, suc, _+_}
 use native.Mathlib.Omega.{arith}
 use native.Mathlib.Nat.{zero-add, add-zero}
 use mathlib.Core.Path.{_≡_, refl, sym, ap, fun-ext, _∙_}
-use mathlib.Core.Bool.{Bool, true, false, not, cond, _&&_}
+use mathlib.Core.Bool.{Bool, false, cond, _&&_}
 use mathlib.Core.List.{List, [], _∷_, map}
-use lib.ListN.{getD, List·getD-map, length}
+use lib.ListN.{getD, List·getD-map}
 use lib.IntN.{ℤ, pos, _+ℤ_, zero-*ℤ, +ℤ-idl}
 use Rattle.lists.specs.Tab.{tab}
-use Rattle.lists.specs.Sums.{total}
 use Rattle.lists.specs.Members.{All, all-map, all-also, all-of}
 use Rattle.lists.specs.Keep.{keep, total-keep, keep-map}
-use Rattle.scheme.specs.Units.{Request, Station, Field, stored, stationAt, stations, columnsOf, withStations, guess, R, E}
+use Rattle.scheme.specs.Units.{Request, Station, Field, stored, stationAt, stations, withStations, guess, R, E}
 use Rattle.scheme.specs.Verdicts.{isAccepted, missing, serves, outOfService, observedAfter, tooOld, offGrid, firstThatFits, beforeScans}
 use Rattle.scheme.specs.Value.{valueAt}
 use Rattle.scheme.specs.Difference.{Row, difference, afterTest, judged}
 use Rattle.scheme.specs.Correction.{Sums, nothing, plus, weightOf, share, sums, correction, backedBy}
 use Rattle.scheme.specs.Smoothing.{smoothed}
-use Rattle.scheme.specs.Scan.{State, start, rowsJudged, sumsAt, corrected, scan, after, Analysis, analysis}
+use Rattle.scheme.specs.Scan.{start, rowsJudged, sumsAt, corrected, scan, after, analysis}
 
 -- ---- a row that is not accepted
 

@@ -18,6 +18,7 @@ pub mod Text
 pub mod Accepted
 pub mod Nearest
 pub mod Weights
+pub mod Cells
 pub mod Bounds
 pub mod Support
 pub mod DeadMasts

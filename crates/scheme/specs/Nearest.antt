@@ -1,11 +1,11 @@
 -- The rounded quotient is the nearest whole number, halves away from zero: that is its property, and it has no other answer.
-use Prim.Native.Nat.{ℕ, zero, suc, _+_, _-_, _*_, _/_, _≤_, _<_}
+use Prim.Native.Nat.{ℕ, zero, suc, _+_, _-_, _*_, _≤_, _<_}
 use native.Mathlib.Omega.{arith}
 use native.Mathlib.Nat.{div-mul-le-self, lt-div-mul-add, mul-le-mul-right, div-zero, div-lt-iff-lt-mul}
-use mathlib.Core.Path.{_≡_, refl, sym, ap, subst, _∙_}
+use mathlib.Core.Path.{_≡_, sym, ap, _∙_}
 use mathlib.Core.Logic.{_⊎_, inl, inr}
 use lib.IntN.{ℤ, pos, negsuc, negℤ, natAbs, _-ℤ_, _*ℤ_, negℤ-negℤ}
-use Rattle.integers.specs.Parts.{up, dn, eq-parts, minus-parts, mul-parts, neg-up, neg-dn, size-parts}
+use Rattle.integers.specs.Parts.{up, dn, eq-parts, minus-parts, mul-parts, neg-up, neg-dn}
 use Rattle.integers.specs.Sizes.{size-neg, size-gap}
 use Rattle.lists.specs.Tests.{lt-or-le}
 use Rattle.scheme.specs.Rounding.{halfUp, rounded}
@@ -24,11 +24,11 @@ pub record Nearest (n : ℤ) (d : ℕ) (r : ℤ) : Type 0 where
 -- ---- a number that is not negative
 
 -- the two sides of the whole part
-below : (n d : ℕ) → 0 < d → 2 * (halfUp n d * d) ≤ 2 * n + d
-below n d h = omega (arith, div-mul-le-self (2 * n + d) (2 * d))
-
 above : (n d : ℕ) → 0 < d → 2 * n < 2 * (halfUp n d * d) + d
 above n d h = let p : 0 < 2 * d = omega arith in omega (arith, lt-div-mul-add {a = 2 * n + d} p)
+
+below : (n d : ℕ) → 0 < d → 2 * (halfUp n d * d) ≤ 2 * n + d
+below n d h = omega (arith, div-mul-le-self (2 * n + d) (2 * d))
 
 -- how far, as naturals
 off-pos : (n d r : ℕ) → off (pos n) d (pos r) ≡ (n - r * d) + (r * d - n)

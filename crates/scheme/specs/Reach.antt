@@ -1,5 +1,5 @@
 -- "Reach of a window": the reach, the cut, and the window's part of a field.
-use Prim.Native.Nat.{ℕ, _+_, _-_, _*_, _/_, _%_, min}
+use Prim.Native.Nat.{ℕ, _+_, _-_, _*_, _/_, min}
 use mathlib.Core.Bool.{Bool, false, cond, _&&_}
 use mathlib.Core.List.{List, map}
 use lib.Dec.{leb}

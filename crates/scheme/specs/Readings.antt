@@ -1,6 +1,6 @@
 -- "Readings as doubles": the point reading, the summary, and the numbers by which both and the refusals cross to C.
 use Prim.Native.Nat.{ℕ, _+_, _-_, _*_}
-use mathlib.Core.Bool.{Bool, true, false, cond, _&&_, _||_}
+use mathlib.Core.Bool.{Bool, not, cond, _&&_, _||_}
 use mathlib.Core.List.{List, [], _∷_}
 use lib.Dec.{eqb}
 use lib.ListN.{length}
@@ -32,7 +32,7 @@ readingValue nx ny z x y = double (sumAt nx ny z x y) 262144
 
 -- a corner with a share of that many parts: a nonzero one needs a nonzero support byte
 unfoldable pub cornerBacked : (share support : ℕ) → Bool
-cornerBacked share support = eqb share 0 || cond (eqb support 0) false true
+cornerBacked share support = eqb share 0 || not (eqb support 0)
 
 -- every corner with a nonzero share has a nonzero support byte
 unfoldable pub isBacked : (nx ny : ℕ) → Field ℕ → (x y : ℕ) → Bool

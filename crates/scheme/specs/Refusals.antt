@@ -5,7 +5,7 @@ use mathlib.Core.Bool.{Bool, false, not, cond, _&&_, _||_}
 use mathlib.Core.List.{List, [], _∷_}
 use lib.Dec.{leb, ltb, eqb}
 use lib.ListN.{length, getD}
-use lib.IntN.{ℤ, pos}
+use lib.IntN.{pos}
 use lib.Signed.{ltZ}
 use Rattle.lists.specs.First.{Found, nowhere, at, first}
 use Rattle.scheme.specs.Units.{Request, Columns, Station, stationAt, amongℤ, among, sideInRange, valueInRange, positionInRange, isMissing, mostStations, mostScans, mostRadius, mostLimit}

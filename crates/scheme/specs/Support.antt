@@ -11,15 +11,15 @@ use borrow.Author.Tests.{ltb-true, ltb-false, lt-ltb, eq-eqb}
 use lib.Dec.{ltb, eqb}
 use lib.Pow.{pow-pos, pow-add}
 use lib.IntN.{ℤ, pos, _+ℤ_, +ℤ-idr}
-use Rattle.lists.specs.Tests.{lt-or-le, true-or-false, not-both}
+use Rattle.lists.specs.Tests.{lt-or-le, true-or-false}
 use Rattle.lists.specs.Sums.{total}
 use Rattle.lists.specs.Members.{Some, some-also, some-share, share-some}
 use Rattle.scheme.specs.Units.{Request, Station, guess, stations, R}
 use Rattle.scheme.specs.Verdicts.{isAccepted}
 use Rattle.scheme.specs.Difference.{Row, difference, judged}
 use Rattle.scheme.specs.Weight.{squaredDistance, weight}
-use Rattle.scheme.specs.Correction.{Sums, nothing, plus, weightOf, share, sums, correction, backedBy}
-use Rattle.scheme.specs.Scan.{State, start, rowsJudged, sumsAt, corrected, scan, after}
+use Rattle.scheme.specs.Correction.{Sums, weightOf, share, sums, correction, backedBy}
+use Rattle.scheme.specs.Scan.{start, rowsJudged, sumsAt, corrected, scan, after}
 
 -- bit k of a number
 unfoldable pub bit : ℕ → ℕ → Bool

@@ -3,12 +3,11 @@ pub mod Pieces
 pub mod Lines
 pub mod Order
 pub mod Printed
-use Prim.Native.Nat.{ℕ, zero, suc}
-use mathlib.Core.Bool.{Bool, true, false}
+use Prim.Native.Nat.{ℕ}
+use mathlib.Core.Bool.{true, false}
 use mathlib.Core.List.{List, [], _∷_, _++_, map}
 use lib.Dec.{ltb, eqb}
-use lib.ListN.{length, take, drop}
-use lib.IntN.{ℤ}
+use lib.ListN.{length}
 use Pieces.{ascii}
 use Lines.{gridLine, timeLine, ageLine, smoothLine, scansLine, scanLine, rowLine, stationsLine, stationLine}
 use Order.{Read, notInForm, read, Text, _>>=_, _>>_, gives, line, optional, lines, rows, nothingAfter}

@@ -1,0 +1,2 @@
+-- What the code of smoothing computes, on a stored field. Proved.
+pub mod Pattern

@@ -1,0 +1,74 @@
+// Smoothing of one point (document 01, "One scan", Smoothing).
+ghost use mathlib.Core.Path.{_≡_};
+ghost use mathlib.Core.Bool.{_&&_};
+ghost use Prim.Native.Nat.{_+_, _*_, _≤_, _<_};
+ghost use lib.ListN.{length};
+ghost use lib.IntN.{pos};
+ghost use Rattle.scheme.specs.Units.{fieldOf};
+ghost use Rattle.scheme.specs.Smoothing.{inner, smoothed};
+ghost use Rattle.scheme.specs.Accepted.{Shaped};
+ghost use Rattle.smoothing.specs.Pattern.{Small, rowAt, nineAt};
+use weighted::Total;
+
+// The three-by-three pattern is one table.
+const PATTERN: [[u32; 3]; 3] = [[1, 2, 1], [2, 4, 2], [1, 2, 1]];
+
+// Row b of the pattern, laid on three places from p on.
+fn row_sum(z: &[i32], p: usize, b: usize) -> i64
+    requires { ⌜ (b < 3) × (p + 3 ≤ length (now z)) × (length (now z) ≤ 4096) × Small (now z) ⌝ }
+    ensures { λ r. ⌜ r ≡ rowAt (now (z .entry)) p b ⌝ }
+{
+    let mut s = Total { t: 0 };
+    let mut a: usize = 0;
+    while a < 3 {
+        s = weighted::plus(s.t, PATTERN[b][a], z[p + a] as i64);
+        a += 1;
+    }
+    s.t
+}
+
+// The pattern, laid on the nine places whose lowest is p, in a grid of nx columns.
+fn pattern_sum(z: &[i32], nx: usize, p: usize) -> i64
+    requires { ⌜ (nx ≤ 64) × (p + 2 * nx + 3 ≤ length (now z)) × (length (now z) ≤ 4096) × Small (now z) ⌝ }
+    ensures { λ r. ⌜ r ≡ nineAt (now (z .entry)) nx p ⌝ }
+{
+    let mut s = Total { t: 0 };
+    let mut b: usize = 0;
+    while b < 3 {
+        s = weighted::plus(s.t, 1, row_sum(z, p + b * nx, b));
+        b += 1;
+    }
+    s.t
+}
+
+// Neither the first nor the last of n.
+fn is_inner(n: usize, i: usize) -> bool
+    requires { ⌜ i < 64 ⌝ }
+    ensures { λ r. ⌜ r ≡ inner n i ⌝ }
+{
+    if 0 < i { i + 1 < n } else { false }
+}
+
+// Not on the border of a grid of nx columns and ny rows.
+fn is_inner_point(nx: usize, ny: usize, i: usize, j: usize) -> bool
+    requires { ⌜ (i < 64) × (j < 64) ⌝ }
+    ensures { λ r. ⌜ r ≡ inner nx i && inner ny j ⌝ }
+{
+    if is_inner(nx, i) {
+        is_inner(ny, j)
+    } else {
+        false
+    }
+}
+
+// The value of point (i, j) after smoothing. A point on the border of the grid keeps its value.
+pub fn smooth_at(z: &[i32], nx: usize, ny: usize, i: usize, j: usize) -> i32
+    requires { ⌜ Shaped nx ny (length (now z)) × Small (now z) × (i < nx) × (j < ny) ⌝ }
+    ensures { λ r. ⌜ r ≡ smoothed nx ny (fieldOf (pos 0) nx (now (z .entry))) i j ⌝ }
+{
+    let k = j * nx + i;
+    if !is_inner_point(nx, ny, i, j) {
+        return z[k];
+    }
+    weighted::rounded(pattern_sum(z, nx, k - nx - 1), 16) as i32
+}

@@ -1,0 +1,83 @@
+-- The verdict before the first scan, on the plain numbers of a row, case by case.
+use Prim.Native.Nat.{ℕ, _-_, _*_}
+use native.Mathlib.Omega.{arith}
+use mathlib.Core.Path.{_≡_, refl}
+use mathlib.Core.Bool.{Bool, true, false, _&&_, _||_}
+use borrow.Author.Tests.{eq-eqb, ne-eqb}
+use lib.Dec.{T, leb, ltb, eqb}
+use lib.IntN.{ℤ, pos, negsuc, natAbs}
+use lib.Signed.{ltZ, nonNeg}
+use mir.Syntax.{w32}
+use mir.Val.{SFits, ofZ}
+use Rattle.integers.specs.Order.{less-parts, not-less-parts}
+use Rattle.scheme.specs.Units.{Request, Station, noEnd, isMissing}
+use Rattle.scheme.specs.Verdicts.{serves, missing, outOfService, observedAfter, tooOld, onAxis, offGrid, firstThatFits, beforeScans}
+
+abbrev pub stationOf : (x y value : ℤ) (observed from until : ℕ) → Station
+stationOf x y value observed from until =
+    record { x = x; y = y; value = value; observed = observed; from = from; until = until }
+
+-- in service from one minute until another
+abbrev pub servesAt : (from until minute : ℕ) → Bool
+servesAt from until minute = leb from minute && (eqb until noEnd || ltb minute until)
+
+-- a request of that grid, analysis minute and greatest age
+pub record Suits (q : Request) (nx ny time age : ℕ) : Type 0 where
+  pub columns : q .nx ≡ nx
+  pub rows : q .ny ≡ ny
+  pub minute : q .T ≡ time
+  pub oldest : q .A ≡ age
+
+-- the mark, as the machine's bits say it
+pub mark-bits : (v : ℤ) → SFits w32 v → ofZ w32 v ≡ 2147483648 → isMissing v ≡ true
+unfolding isMissing
+mark-bits (pos n) f e = absurd (omega (arith, f .sfits))
+mark-bits (negsuc n) f e = eq-eqb n 2147483647 (omega (arith, f .sfits))
+
+pub other-bits : (v : ℤ) → SFits w32 v → (ofZ w32 v ≡ 2147483648 → ⊥) → isMissing v ≡ false
+unfolding isMissing
+other-bits (pos n) f e = refl
+other-bits (negsuc n) f e = ne-eqb n 2147483647 (λ (h : n ≡ 2147483647). e (omega arith))
+
+-- a position below zero is on no axis, and any other is where it says
+pub below-axis : (n : ℕ) (x : ℤ) → ltZ x (pos 0) ≡ true → onAxis n x ≡ false
+unfolding onAxis
+below-axis n (pos x) e = absurd (omega (arith, less-parts (pos x) (pos 0) e))
+below-axis n (negsuc x) e = refl
+
+pub along-axis : (n : ℕ) (x : ℤ) → ltZ x (pos 0) ≡ false → (T (nonNeg x)) × (leb (natAbs x) (64 * (n - 1)) ≡ onAxis n x)
+unfolding onAxis
+along-axis n (pos x) e = (tt, refl)
+along-axis n (negsuc x) e = absurd (omega (arith, not-less-parts (negsuc x) (pos 0) e))
+
+module _ (q : Request) (x y value : ℤ) (observed from until nx ny time age : ℕ) (suits : Suits q nx ny time age) where
+  abbrev s : Station
+  s = stationOf x y value observed from until
+
+  pub is-missing : isMissing value ≡ true → 1 ≡ beforeScans q s
+  unfolding beforeScans firstThatFits missing
+  is-missing e = rw e
+
+  module _ (there : isMissing value ≡ false) where
+    pub not-serving : servesAt from until observed && servesAt from until time ≡ false → 2 ≡ beforeScans q s
+    unfolding beforeScans firstThatFits missing outOfService serves
+    not-serving e = rw (there, suits .minute, e)
+
+    module _ (serving : servesAt from until observed && servesAt from until time ≡ true) where
+      pub is-after : ltb time observed ≡ true → 3 ≡ beforeScans q s
+      unfolding beforeScans firstThatFits missing outOfService serves observedAfter
+      is-after e = rw (there, suits .minute, serving, e)
+
+      module _ (before : ltb time observed ≡ false) where
+        pub is-old : ltb age (time - observed) ≡ true → 4 ≡ beforeScans q s
+        unfolding beforeScans firstThatFits missing outOfService serves observedAfter tooOld
+        is-old e = rw (there, suits .minute, suits .oldest, serving, before, e)
+
+        module _ (fresh : ltb age (time - observed) ≡ false) where
+          pub is-off : onAxis nx x && onAxis ny y ≡ false → 5 ≡ beforeScans q s
+          unfolding beforeScans firstThatFits missing outOfService serves observedAfter tooOld offGrid
+          is-off e = rw (there, suits .minute, suits .oldest, suits .columns, suits .rows, serving, before, fresh, e)
+
+          pub is-accepted : onAxis nx x && onAxis ny y ≡ true → 0 ≡ beforeScans q s
+          unfolding beforeScans firstThatFits missing outOfService serves observedAfter tooOld offGrid
+          is-accepted e = rw (there, suits .minute, suits .oldest, suits .columns, suits .rows, serving, before, fresh, e)

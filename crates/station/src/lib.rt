@@ -1,0 +1,154 @@
+// What document 01 says of one station: its verdict before the first scan, and the value of a field at its position.
+ghost use mathlib.Core.Path.{_≡_};
+ghost use mathlib.Core.Bool.{_&&_};
+ghost use Prim.Native.Nat.{_+_, _-_, _*_, _≤_, _<_};
+ghost use lib.ListN.{length};
+ghost use lib.IntN.{pos, natAbs, _+ℤ_, _*ℤ_};
+ghost use Rattle.scheme.specs.Units.{Request, fieldOf};
+ghost use Rattle.scheme.specs.Verdicts.{onAxis, beforeScans};
+ghost use Rattle.scheme.specs.Rounding.{rounded};
+ghost use Rattle.scheme.specs.Value.{cell, sumAt};
+ghost use Rattle.scheme.specs.Accepted.{Shaped};
+ghost use Rattle.station.specs.Corners.{blend};
+ghost use Rattle.station.specs.Verdict.{servesAt, Suits, stationOf};
+use weighted::Total;
+
+// Neighbouring points are 64 position units apart.
+const STEP: u32 = 64;
+
+// The lowest i32 marks a missing observation.
+const MISSING: i32 = -2147483648;
+
+// Until this minute means no end.
+const NO_END: u32 = 4294967295;
+
+// In service at a minute: from ≤ minute < until, and with no end the upper test holds.
+fn serves(from: u32, until: u32, minute: u32) -> bool
+    ensures { λ r. ⌜ r ≡ servesAt from until minute ⌝ }
+{
+    if minute < from {
+        return false;
+    }
+    if until == NO_END {
+        return true;
+    }
+    minute < until
+}
+
+// In service at both minutes.
+fn serves_both(from: u32, until: u32, observed: u32, time: u32) -> bool
+    ensures { λ r. ⌜ r ≡ servesAt from until observed && servesAt from until time ⌝ }
+{
+    if serves(from, until, observed) {
+        serves(from, until, time)
+    } else {
+        false
+    }
+}
+
+// On an axis of n points, its ends included.
+fn on_axis(n: usize, x: i32) -> bool
+    requires { ⌜ (1 ≤ n) × (n ≤ 64) ⌝ }
+    ensures { λ r. ⌜ r ≡ onAxis n x ⌝ }
+{
+    if x < 0 {
+        return false;
+    }
+    x as usize <= 64 * (n - 1)
+}
+
+// On a grid of nx columns and ny rows, its border included.
+pub fn on_grid(nx: usize, ny: usize, x: i32, y: i32) -> bool
+    requires { ⌜ (1 ≤ nx) × (nx ≤ 64) × (1 ≤ ny) × (ny ≤ 64) ⌝ }
+    ensures { λ r. ⌜ r ≡ onAxis nx x && onAxis ny y ⌝ }
+{
+    if on_axis(nx, x) {
+        on_axis(ny, y)
+    } else {
+        false
+    }
+}
+
+// The verdict before the first scan: the first that fits, or 0 for a row that starts as accepted.
+pub fn first_verdict(
+    x: i32,
+    y: i32,
+    value: i32,
+    observed: u32,
+    from: u32,
+    until: u32,
+    nx: usize,
+    ny: usize,
+    time: u32,
+    age: u32,
+) -> u8
+    requires { ⌜ (1 ≤ nx) × (nx ≤ 64) × (1 ≤ ny) × (ny ≤ 64) ⌝ }
+    ensures { λ r. ⌜ ((q : Request) → Suits q nx ny time age → r ≡ beforeScans q (stationOf x y value observed from until)) ⌝ }
+{
+    if value == MISSING {
+        return 1;
+    }
+    if !serves_both(from, until, observed, time) {
+        return 2;
+    }
+    if time < observed {
+        return 3;
+    }
+    if age < time - observed {
+        return 4;
+    }
+    if !on_grid(nx, ny, x, y) {
+        return 5;
+    }
+    0
+}
+
+// The lower corner of the cell of position x, on an axis of n points. On the last column or row that is the last cell.
+pub fn cell(n: usize, x: u32) -> usize
+    requires { ⌜ 2 ≤ n ⌝ }
+    ensures { λ r. ⌜ r ≡ cell n x ⌝ }
+{
+    let m = (x / STEP) as usize;
+    if m < n - 1 { m } else { n - 2 }
+}
+
+// A sum with one more corner, whose value v has a share of a times b parts.
+fn corner(t: i64, a: u32, b: u32, v: i32) -> Total
+    requires { ⌜ (a ≤ 64) × (b ≤ 64) × (natAbs t ≤ 70368744177664) ⌝ }
+    ensures { λ r. ⌜ (r .t ≡ t +ℤ pos (a * b) *ℤ v) × (natAbs (r .t) ≤ natAbs t + 8796093022208) ⌝ }
+{
+    weighted::plus(t, a * b, v as i64)
+}
+
+// The interpolation sum of four corners p, q over r, s, at a and b units past the first.
+fn blended(a: u32, b: u32, p: i32, q: i32, r: i32, s: i32) -> i64
+    requires { ⌜ (a ≤ 64) × (b ≤ 64) ⌝ }
+    ensures { λ t. ⌜ (t ≡ blend a b p q r s) × (natAbs t ≤ 35184372088832) ⌝ }
+{
+    let mut t = corner(0, STEP - a, STEP - b, p);
+    t = corner(t.t, a, STEP - b, q);
+    t = corner(t.t, STEP - a, b, r);
+    t = corner(t.t, a, b, s);
+    t.t
+}
+
+// The interpolation sum of a field at a position on the grid.
+pub fn sum_at(z: &[i32], nx: usize, ny: usize, x: u32, y: u32) -> i64
+    requires { ⌜ Shaped nx ny (length (now z)) × (x ≤ 64 * (nx - 1)) × (y ≤ 64 * (ny - 1)) ⌝ }
+    ensures { λ r. ⌜ (r ≡ sumAt nx ny (fieldOf (pos 0) nx (now (z .entry))) x y) × (natAbs r ≤ 35184372088832) ⌝ }
+{
+    let m = cell(nx, x);
+    let n = cell(ny, y);
+    let a = x - STEP * (m as u32);
+    let b = y - STEP * (n as u32);
+    let p = n * nx + m;
+    blended(a, b, z[p], z[p + 1], z[p + nx], z[p + nx + 1])
+}
+
+// The value of a field at a position on the grid: that sum divided by 4096 and rounded, once.
+pub fn value_at(z: &[i32], nx: usize, ny: usize, x: u32, y: u32) -> i64
+    requires { ⌜ Shaped nx ny (length (now z)) × (x ≤ 64 * (nx - 1)) × (y ≤ 64 * (ny - 1)) ⌝ }
+    ensures { λ r. ⌜ r ≡ rounded (sumAt nx ny (fieldOf (pos 0) nx (now (z .entry))) x y) 4096 ⌝ }
+{
+    weighted::rounded(sum_at(z, nx, ny, x, y), 4096)
+}
