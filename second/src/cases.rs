@@ -62,6 +62,8 @@ impl Case for AnalysisCase {
 
     fn count(&self, expected: &Self::Expected, tally: &mut Tally) {
         count_scheme(&self.0, expected, tally);
+        let refusal = expected.as_ref().err().map_or(0, |refusal| refusal.number);
+        tally.add_lengths(&self.0, refusal);
     }
 
     fn difference(&self, expected: &Self::Expected, subject: &dyn Subject) -> Option<String> {
@@ -88,7 +90,12 @@ impl Case for AnalysisCase {
     }
 
     fn floors() -> Vec<Floor> {
-        scheme_floors(10_000, &[1, 3, 4, 5, 6, 7, 8])
+        let mut floors = scheme_floors(10_000, &[1, 3, 4, 5, 6, 7, 8]);
+        floors.extend([0, 1, 3, 4, 5].map(|n| Floor::times("empty slice", n, 50)));
+        floors.extend([1, 3, 4].map(|n| Floor::times("length off by one", n, 100)));
+        floors.extend([1, 3, 4].map(|n| Floor::times("length off by more", n, 100)));
+        floors.extend([1, 2, 3].map(|n| Floor::times("unread plan entry", n, 50)));
+        floors
     }
 }
 

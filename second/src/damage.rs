@@ -31,12 +31,21 @@ pub fn break_one(rng: &mut Rng, call: &mut Call, number: u32) {
 }
 
 fn break_shape(rng: &mut Rng, call: &mut Call) {
-    match rng.below(4) {
+    match rng.below(6) {
         0 => call.nx = rng.pick(&SIDES),
         1 => call.ny = rng.pick(&SIDES),
-        2 => call.first_guess.push(0),
+        2 => {
+            // No points, where a product of 32 bits is 0 too.
+            (call.nx, call.ny) = rng.pick(&[(0, 0), (1 << 16, 1 << 16), (1 << 31, 2)]);
+            call.first_guess.clear();
+            (call.grid_len, call.support_len) = (0, 0);
+        }
         _ => {
-            call.first_guess.pop();
+            change_length(rng, &mut call.first_guess, 0);
+            if rng.one_in(2) {
+                (call.grid_len, call.support_len) =
+                    (call.first_guess.len(), call.first_guess.len());
+            }
         }
     }
 }
@@ -47,10 +56,18 @@ fn break_results(rng: &mut Rng, call: &mut Call) {
         1 => &mut call.support_len,
         _ => &mut call.verdict_len,
     };
-    *length = rng.pick(&[*length + 1, length.checked_sub(1).unwrap_or(2)]);
+    *length = wrong_length(rng, *length);
 }
 
-/// One column longer or shorter than the rest, or a row too many. Verdicts
+/// Another length: off by one about half the time, else by a lot or none.
+fn wrong_length(rng: &mut Rng, right: usize) -> usize {
+    let (less, half) = (right.saturating_sub(1), right / 2);
+    let lengths = [right + 1, right + 1, less, less, 0, half, 2 * right + 2, right + 1000];
+    let wrong: Vec<usize> = lengths.into_iter().filter(|length| *length != right).collect();
+    rng.pick(&wrong)
+}
+
+/// One column longer or shorter than the rest or empty, or a row too many. Verdicts
 /// are mostly kept as long as x, so that refusal 3 does not come first.
 fn break_columns(rng: &mut Rng, call: &mut Call) {
     let column = rng.below(7);
@@ -68,12 +85,9 @@ fn break_columns(rng: &mut Rng, call: &mut Call) {
     }
 }
 
-fn change_length<T>(rng: &mut Rng, column: &mut Vec<T>, entry: T) {
-    if column.is_empty() || rng.one_in(2) {
-        column.push(entry);
-    } else {
-        column.pop();
-    }
+fn change_length<T: Copy>(rng: &mut Rng, column: &mut Vec<T>, entry: T) {
+    let length = wrong_length(rng, column.len());
+    column.resize(length, entry);
 }
 
 /// Repeats or drops rows until there are so many. The first of all stands at

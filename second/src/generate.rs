@@ -221,10 +221,22 @@ fn plan(rng: &mut Rng, call: &mut Call, spread: i32) {
         let shorter = radius - rng.between(0, radius / 2);
         radius = rng.pick(&[radius, shorter, shorter, (radius / 128 * 64).max(1)]);
     }
-    if rng.one_in(8) {
-        // Entries past the scan count are not read.
-        call.radius.push(rng.pick(&[0, 1024, -5]));
-        call.limit.extend([-1, 3]);
+    if rng.one_in(6) {
+        past_the_scan_count(rng, call);
+    }
+}
+
+/// Entries past the scan count are not read, so anything may stand there: a
+/// radius that rises or no radius at all, a limit out of range, or entries
+/// that would do for another scan. The columns need not be equally long.
+fn past_the_scan_count(rng: &mut Rng, call: &mut Call) {
+    let last = call.radius.last().copied().unwrap_or(1);
+    let rising = last.saturating_add(1);
+    for _ in 0..rng.below(5) {
+        call.radius.push(rng.pick(&[last, last, rising, rising, 0, 1025, i32::MAX, i32::MIN]));
+    }
+    for _ in 0..rng.below(5) {
+        call.limit.push(rng.pick(&[2_000_000, 2_000_000, 3, -1, 2_000_001, i32::MAX, i32::MIN]));
     }
 }
 

@@ -1,8 +1,10 @@
-//! The command line of the second program: text, generate and survey.
+//! The command line of the second program: text, generate, survey, compare.
+
+#![forbid(unsafe_code)]
 
 use second::cases::{AnalysisCase, ReadingCase, SummaryCase, TextCase, WindowCase};
-use second::compare::{Case, Own};
-use second::survey::survey;
+use second::compare::{Case, Own, Subject};
+use second::survey::{compare_kind, survey};
 use second::text;
 use std::env::{args, var_os};
 use std::io::{self, Read, Write};
@@ -10,8 +12,8 @@ use std::process::ExitCode;
 
 const SEED: u64 = 20_261_947;
 const COUNT: u64 = 20_000;
-const USAGE: &str =
-    "use: second text | second generate KIND SEED COUNT | second survey [SEED [COUNT]]";
+const USAGE: &str = "use: second text | second generate KIND SEED COUNT | \
+    second survey [SEED [COUNT]] | second compare KIND [SEED [COUNT]]";
 
 /// What went wrong, with the exit code that says whose fault it was.
 enum Wrong {
@@ -28,6 +30,9 @@ fn main() -> ExitCode {
         ["survey"] => run_survey(None, None),
         ["survey", seed] => run_survey(Some(seed), None),
         ["survey", seed, count] => run_survey(Some(seed), Some(count)),
+        ["compare", kind] => compare(kind, None, None),
+        ["compare", kind, seed] => compare(kind, Some(seed), None),
+        ["compare", kind, seed, count] => compare(kind, Some(seed), Some(count)),
         [] => Err(Wrong::Asked(format!("no command given; {USAGE}"))),
         _ => {
             let given = arguments.join(" ");
@@ -64,10 +69,13 @@ fn generate(kind: &str, seed: &str, count: &str) -> Result<(), Wrong> {
         "reading" => print_cases::<ReadingCase>(seed, count),
         "summary" => print_cases::<SummaryCase>(seed, count),
         "text" => print_cases::<TextCase>(seed, count),
-        _ => Err(Wrong::Asked(format!(
-            "no such kind: {kind:?}; give analysis, window, reading, summary or text"
-        ))),
+        _ => Err(no_such_kind(kind)),
     }
+}
+
+fn no_such_kind(kind: &str) -> Wrong {
+    let kinds = "analysis, window, reading, summary or text";
+    Wrong::Asked(format!("no such kind: {kind:?}; give {kinds}"))
 }
 
 /// Each case is preceded by a line that gives its length in bytes.
@@ -88,13 +96,55 @@ fn print(bytes: &[u8]) -> Result<(), Wrong> {
 }
 
 fn run_survey(seed: Option<&str>, count: Option<&str>) -> Result<(), Wrong> {
+    let (seed, count) = seed_and_count(seed, count)?;
+    survey(&Own, seed, count, &mut io::stdout()).map_err(Wrong::Found)
+}
+
+/// The archive beside the second program, over the cases of one kind.
+fn compare(kind: &str, seed: Option<&str>, count: Option<&str>) -> Result<(), Wrong> {
+    let compare_kind = match kind {
+        "analysis" => compare_kind::<AnalysisCase>,
+        "window" | "reading" | "summary" | "text" => {
+            let message = format!("the archive does not offer {kind} yet; give analysis");
+            return Err(Wrong::Asked(message));
+        }
+        _ => return Err(no_such_kind(kind)),
+    };
+    let (seed, count) = seed_and_count(seed, count)?;
+    compare_kind(&*archive()?, seed, count, &mut io::stdout()).map_err(Wrong::Found)
+}
+
+#[cfg(feature = "archive")]
+fn archive() -> Result<Box<dyn Subject>, Wrong> {
+    use second::archive::{check_current, Archive, Empty};
+    check_current().map_err(Wrong::Found)?;
+    let name = "SOSNYAVIK_EMPTY";
+    let empty = match var_os(name) {
+        None => Empty::default(),
+        Some(value) if value == "dangling" => Empty::Dangling,
+        Some(value) if value == "null" => Empty::Null,
+        Some(value) => {
+            return Err(Wrong::Asked(format!("{name} is {value:?}; give dangling or null")));
+        }
+    };
+    Ok(Box::new(Archive { empty }))
+}
+
+#[cfg(not(feature = "archive"))]
+fn archive() -> Result<Box<dyn Subject>, Wrong> {
+    let build = "SOSNYAVIK_ARCHIVE=FOLDER cargo build --release --features archive";
+    let message = format!("this program was built without the archive; build it with {build}");
+    Err(Wrong::Asked(message))
+}
+
+fn seed_and_count(seed: Option<&str>, count: Option<&str>) -> Result<(u64, u64), Wrong> {
     let seed = setting("SOSNYAVIK_SEED", seed, SEED)?;
     let count = setting("SOSNYAVIK_COUNT", count, COUNT)?;
     if count == 0 {
-        let message = "a survey of 0 cases shows nothing; give a count of 1 or more";
+        let message = "a run of 0 cases shows nothing; give a count of 1 or more";
         return Err(Wrong::Asked(message.to_string()));
     }
-    survey(&Own, seed, count, &mut io::stdout()).map_err(Wrong::Found)
+    Ok((seed, count))
 }
 
 /// The environment's number where it is set, else the argument's, else the

@@ -56,7 +56,42 @@ pub fn smaller_calls(call: &Call) -> impl Iterator<Item = Call> + '_ {
         trimmed.support_len = (call.support_len + new).saturating_sub(old);
         trimmed
     });
-    fewer_stations(call).chain(fewer_scans(call)).chain(trims).chain(simpler(call))
+    fewer_stations(call)
+        .chain(fewer_scans(call))
+        .chain(trims)
+        .chain(fewer_points(call))
+        .chain(fitting_results(call))
+        .chain(simpler(call))
+}
+
+/// Where the sides do not fit the number of points: fewer points, or sides
+/// nearer to the least.
+fn fewer_points(call: &Call) -> impl Iterator<Item = Call> + '_ {
+    let points = call.first_guess.len();
+    let misfit = u64::from(call.nx) * u64::from(call.ny) != points as u64;
+    let sides = move |side: u32| closer(side.into(), 2).map(|side| side as u32);
+    let fewer = chunks(points).map(|range| {
+        let mut call = call.clone();
+        drop_range(&mut call.first_guess, &range);
+        call
+    });
+    fewer
+        .chain(sides(call.nx).map(|nx| Call { nx, ..call.clone() }))
+        .chain(sides(call.ny).map(|ny| Call { ny, ..call.clone() }))
+        .filter(move |_| misfit)
+}
+
+/// Result slices of the length that is asked for, or nearer to it.
+fn fitting_results(call: &Call) -> impl Iterator<Item = Call> + '_ {
+    let (points, rows) = (call.first_guess.len(), call.x.len());
+    let lengths =
+        |length: usize, fit: usize| closer(length as i64, fit as i64).map(|length| length as usize);
+    let grids = lengths(call.grid_len, points).map(|grid_len| Call { grid_len, ..call.clone() });
+    let supports = lengths(call.support_len, points);
+    let supports = supports.map(|support_len| Call { support_len, ..call.clone() });
+    let verdicts = lengths(call.verdict_len, rows);
+    let verdicts = verdicts.map(|verdict_len| Call { verdict_len, ..call.clone() });
+    grids.chain(supports).chain(verdicts)
 }
 
 /// Window queries that are smaller: grids cut down around the window, or the
@@ -109,15 +144,18 @@ fn narrower(call: &Call, window: Window) -> impl Iterator<Item = (Call, Window)>
 }
 
 fn fewer_stations(call: &Call) -> impl Iterator<Item = Call> + '_ {
-    chunks(call.x.len()).map(|range| {
+    let minutes = call.observed.len().max(call.from.len()).max(call.until.len());
+    let rows = call.x.len().max(call.y.len()).max(call.value.len()).max(minutes);
+    chunks(rows).map(|range| {
         let mut call = call.clone();
+        let before = call.x.len();
         drop_range(&mut call.x, &range);
         drop_range(&mut call.y, &range);
         drop_range(&mut call.value, &range);
         drop_range(&mut call.observed, &range);
         drop_range(&mut call.from, &range);
         drop_range(&mut call.until, &range);
-        call.verdict_len = call.verdict_len.saturating_sub(range.len());
+        call.verdict_len = call.verdict_len.saturating_sub(before - call.x.len());
         call
     })
 }

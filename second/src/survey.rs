@@ -34,14 +34,24 @@ fn unprinted(error: io::Error) -> String {
     format!("the tallies could not be printed: {error}")
 }
 
-pub fn survey(
+/// Runs one kind alone, with its seed and count above it.
+pub fn compare_kind<C: Case>(
     subject: &dyn Subject,
     seed: u64,
     count: u64,
     out: &mut dyn Write,
 ) -> Result<(), String> {
     writeln!(out, "seed {seed}, count {count}").map_err(unprinted)?;
-    survey_kind::<AnalysisCase>(subject, seed, count, out)?;
+    survey_kind::<C>(subject, seed, count, out)
+}
+
+pub fn survey(
+    subject: &dyn Subject,
+    seed: u64,
+    count: u64,
+    out: &mut dyn Write,
+) -> Result<(), String> {
+    compare_kind::<AnalysisCase>(subject, seed, count, out)?;
     survey_kind::<WindowCase>(subject, seed, count, out)?;
     survey_kind::<ReadingCase>(subject, seed, count, out)?;
     survey_kind::<SummaryCase>(subject, seed, count, out)?;

@@ -1,6 +1,7 @@
 //! What a run has covered, and the floors below which a run fails.
 
 use crate::call::{Analysis, Call, Refusal};
+use crate::units::{LIMIT, SIDE};
 use std::collections::BTreeMap;
 use std::fmt::{Display, Formatter};
 
@@ -62,6 +63,65 @@ impl Tally {
         }
         for verdict in &analysis.verdict {
             self.add("verdict", u32::from(*verdict));
+        }
+    }
+
+    /// What only a C call can be handed: empty slices, lengths that do not
+    /// fit, and plan entries that are not read. By refusal number, 0 for none.
+    pub fn add_lengths(&mut self, call: &Call, refusal: u32) {
+        let rows = call.x.len();
+        let others = [&call.y, &call.value].map(Vec::len);
+        let minutes = [&call.observed, &call.from, &call.until].map(Vec::len);
+        let columns = [&others[..], &minutes].concat();
+        let results = [call.grid_len, call.support_len, call.verdict_len];
+        let plan = [call.radius.len(), call.limit.len()];
+        let slices = [&columns[..], &results, &plan, &[call.first_guess.len(), rows]].concat();
+        if slices.contains(&0) {
+            self.add("empty slice", refusal);
+        }
+        let points = (call.nx as usize).saturating_mul(call.ny as usize);
+        let off = match refusal {
+            1 if SIDE.contains(&call.nx) && SIDE.contains(&call.ny) => {
+                call.first_guess.len().abs_diff(points)
+            }
+            3 => {
+                let asked = [points, points, rows];
+                results
+                    .iter()
+                    .zip(asked)
+                    .map(|(given, asked)| given.abs_diff(asked))
+                    .max()
+                    .unwrap_or(0)
+            }
+            4 => columns.iter().map(|length| length.abs_diff(rows)).max().unwrap_or(0),
+            _ => 0,
+        };
+        match off {
+            0 => (),
+            1 => self.add("length off by one", refusal),
+            _ => self.add("length off by more", refusal),
+        }
+        if refusal == 0 {
+            self.add_unread(call);
+        }
+    }
+
+    /// Accepted requests by what stands in the plan past the scan count: 1 for
+    /// a rising radius, 2 for a limit out of range, 3 for a scan that would do.
+    fn add_unread(&mut self, call: &Call) {
+        let scans = call.scans as usize;
+        let (radius, limit) = (&call.radius, &call.limit);
+        let rises = radius.get(scans).is_some_and(|next| *next > radius[scans - 1]);
+        let too_wide = limit.get(scans).is_some_and(|next| !LIMIT.contains(next));
+        let both = radius.len() > scans && limit.len() > scans;
+        if rises {
+            self.add("unread plan entry", 1);
+        }
+        if too_wide {
+            self.add("unread plan entry", 2);
+        }
+        if both && !rises && !too_wide && radius[scans] > 0 {
+            self.add("unread plan entry", 3);
         }
     }
 

@@ -64,11 +64,14 @@ fn station_line(call: &Call, row: usize, style: Style) -> String {
     line("st", &fields)
 }
 
-/// The call in a form that can be run again.
+/// The call in a form that can be run again. A text would lose plan entries
+/// past the scan count.
 pub fn rerun_form(call: &Call) -> String {
+    let scans = call.scans as usize;
+    let all_read = call.radius.len() <= scans && call.limit.len() <= scans;
     match request_text(call, Style::default()) {
-        Some(text) => String::from_utf8_lossy(&text).into_owned(),
-        None => listing(call),
+        Some(text) if all_read => String::from_utf8_lossy(&text).into_owned(),
+        _ => listing(call),
     }
 }
 

@@ -1,8 +1,18 @@
-// The squared distance and the weight of a station at a point (document 01, "One scan", Weight).
+// Weights, sums and corrections at the points of a grid (document 01, "One scan", Weight and Correction).
 ghost use mathlib.Core.Path.{_≡_};
-ghost use Prim.Native.Nat.{_+_, _*_, _≤_};
+ghost use Prim.Native.Nat.{ℕ, _+_, _*_, _≤_, _<_};
 ghost use lib.IntN.{natAbs, _-ℤ_};
+ghost use mathlib.Core.Bool.{cond};
+ghost use lib.Dec.{eqb, ltb};
+ghost use lib.ListN.{length};
+ghost use lib.IntN.{ℤ, pos, _+ℤ_, _*ℤ_};
+ghost use Rattle.lists.specs.Sums.{upTo};
+ghost use Rattle.lists.specs.Filled.{Filled};
+ghost use Rattle.scheme.specs.Units.{stored, fieldOf};
 ghost use Rattle.scheme.specs.Weight.{square, weight};
+ghost use Rattle.scheme.specs.Correction.{nothing, plus, correction};
+ghost use Rattle.point.specs.Near.{nearShare, Sized, rowGap, Columns, Roomy, Near};
+ghost use Rattle.point.specs.Pass.{rowZ, rowS, RowReady, PassReady, corrected, backed};
 
 // A weight is in parts of this.
 const SCALE: u32 = 100;
@@ -33,4 +43,163 @@ pub fn weight(r2: u32, d2: u32) -> u32
         return 0;
     }
     SCALE * (r2 - d2) / (r2 + d2)
+}
+
+// The sum of weights, and the sum of weight·D.
+pub struct Sums {
+    pub w: u32,
+    pub wd: i64,
+}
+
+// The sums with one more station, of difference d at squared distance d2.
+fn more(w: u32, wd: i64, r2: u32, d2: u32, d: i64) -> Sums
+    requires { ⌜ (w ≤ 51200) × (natAbs wd ≤ 102400000000) × (r2 ≤ 1048576) × (natAbs d ≤ 2000000) ⌝ }
+    ensures { λ s. ⌜ (s .w ≡ w + weight r2 d2) × (s .wd ≡ wd +ℤ pos (weight r2 d2) *ℤ d) ⌝ }
+{
+    if r2 <= d2 {
+        return Sums { w, wd };
+    }
+    let q = weight(r2, d2);
+    Sums {
+        w: w + q,
+        wd: wd + (q as i64) * d,
+    }
+}
+
+// The sums at column i of a grid row, over the n stations near that row.
+fn point_sums(lx: &[i32; 512], ly: &[u32; 512], ld: &[i64; 512], n: usize, i: usize, r2: u32) -> Sums
+    requires { ⌜ (n ≤ 512) × (i < 64) × (r2 ≤ 1048576) × ((t : ℕ) → t < n → Sized (now lx) (now ly) (now ld) t) ⌝ }
+    ensures { λ s. ⌜ (s .w ≡ upTo nothing plus n (nearShare (now (lx .entry)) (now (ly .entry)) (now (ld .entry)) r2 i) .weights)
+        × (s .wd ≡ upTo nothing plus n (nearShare (now (lx .entry)) (now (ly .entry)) (now (ld .entry)) r2 i) .pulls) ⌝ }
+{
+    let px = (64 * i) as i32;
+    let mut s = Sums { w: 0, wd: 0 };
+    let mut t: usize = 0;
+    while t < n {
+        s = more(s.w, s.wd, r2, square_apart(lx[t], px) + ly[t], ld[t]);
+        t += 1;
+    }
+    s
+}
+
+// A point's value after its correction.
+fn moved(z: i32, w: u32, wd: i64) -> i32
+    requires { ⌜ (natAbs z ≤ 13000000) × (w ≤ 51200) × (natAbs wd ≤ 2000000 * w) ⌝ }
+    ensures { λ r. ⌜ r ≡ z +ℤ correction (record { weights = w; pulls = wd }) ⌝ }
+{
+    if w == 0 {
+        return z;
+    }
+    ((z as i64) + weighted::rounded(wd, w)) as i32
+}
+
+// A point's support byte after its correction.
+fn with_bit(b: u8, w: u32, bit: u8) -> u8
+    requires { ⌜ b + bit < 256 ⌝ }
+    ensures { λ r. ⌜ r ≡ b + cond (ltb 0 w) bit 0 ⌝ }
+{
+    if 0 < w { b + bit } else { b }
+}
+
+// The squared distance of a station to grid row j; the squared radius for one that is not accepted.
+fn row_gap(verdict: u8, y: i32, j: usize, r2: u32) -> u32
+    requires { ⌜ (j < 64) × (verdict ≡ 0 → natAbs y ≤ 4096) ⌝ }
+    ensures { λ r. ⌜ r ≡ rowGap verdict y j r2 ⌝ }
+{
+    if verdict == 0 {
+        square_apart(y, (64 * j) as i32)
+    } else {
+        r2
+    }
+}
+
+fn one_if_below(gap: u32, r2: u32) -> usize
+    ensures { λ r. ⌜ r ≡ cond (ltb gap r2) 1 0 ⌝ }
+{
+    if gap < r2 { 1 } else { 0 }
+}
+
+// Gathers the stations near grid row j, once for all its points: each turn stores at the next free place, which only a near one takes.
+fn near_row(
+    lx: &mut [i32; 512],
+    ly: &mut [u32; 512],
+    ld: &mut [i64; 512],
+    x: &[i32],
+    y: &[i32],
+    verdict: &[u8],
+    d: &[i64; 512],
+    r2: u32,
+    j: usize,
+) -> usize
+    requires { ⌜ (r2 ≤ 1048576) × (j < 64) × Columns (now x) (now y) (now verdict) (now d) × Roomy (now lx) (now ly) (now ld) ⌝ }
+    ensures { λ n. ⌜ Roomy (now (lx .exit)) (now (ly .exit)) (now (ld .exit))
+        × Near (now (lx .exit)) (now (ly .exit)) (now (ld .exit)) n (now (x .entry)) (now (y .entry)) (now (verdict .entry)) (now (d .entry)) r2 j (length (now (x .entry))) ⌝ }
+{
+    let mut n: usize = 0;
+    let mut k: usize = 0;
+    while k < x.len() {
+        let gap = row_gap(verdict[k], y[k], j, r2);
+        lx[n] = x[k];
+        ly[n] = gap;
+        ld[n] = d[k];
+        n += one_if_below(gap, r2);
+        k += 1;
+    }
+    n
+}
+
+// One grid row, whose points stand at base, base + 1, ..: each is corrected by the stations near the row.
+fn correct_row(
+    z: &mut [i32],
+    support: &mut [u8],
+    base: usize,
+    nx: usize,
+    lx: &[i32; 512],
+    ly: &[u32; 512],
+    ld: &[i64; 512],
+    n: usize,
+    r2: u32,
+    bit: u8,
+)
+    requires { ⌜ RowReady (now z) (now support) base nx (now lx) (now ly) (now ld) n r2 bit ⌝ }
+    ensures { λ u. ⌜ Filled (pos 0) (rowZ (now (z .entry)) (now (lx .entry)) (now (ly .entry)) (now (ld .entry)) n r2 base) base (base + nx) (now (z .entry)) (now (z .exit))
+        × Filled 0 (rowS (now (support .entry)) (now (lx .entry)) (now (ly .entry)) (now (ld .entry)) n r2 bit base) base (base + nx) (now (support .entry)) (now (support .exit)) ⌝ }
+{
+    let mut i: usize = 0;
+    while i < nx {
+        let s = point_sums(lx, ly, ld, n, i, r2);
+        let p = base + i;
+        z[p] = moved(z[p], s.w, s.wd);
+        support[p] = with_bit(support[p], s.w, bit);
+        i += 1;
+    }
+}
+
+// One correction of the whole grid, in place: the differences d were all taken before, so that no point sees another's correction.
+pub fn correct(
+    z: &mut [i32],
+    support: &mut [u8],
+    nx: usize,
+    ny: usize,
+    x: &[i32],
+    y: &[i32],
+    verdict: &[u8],
+    d: &[i64; 512],
+    radius: u32,
+    bit: u8,
+)
+    requires { ⌜ PassReady (now z) (now support) nx ny (now x) (now y) (now verdict) (now d) radius bit ⌝ }
+    ensures { λ u. ⌜ (now (z .exit) ≡ stored nx ny (corrected (now (z .entry)) nx (now (x .entry)) (now (y .entry)) (now (verdict .entry)) (now (d .entry)) (radius * radius)))
+        × (now (support .exit) ≡ stored nx ny (backed (now (support .entry)) nx (now (x .entry)) (now (y .entry)) (now (verdict .entry)) (now (d .entry)) (radius * radius) bit)) ⌝ }
+{
+    let r2 = radius * radius;
+    let mut lx = [0i32; 512];
+    let mut ly = [0u32; 512];
+    let mut ld = [0i64; 512];
+    let mut j: usize = 0;
+    while j < ny {
+        let n = near_row(&mut lx, &mut ly, &mut ld, x, y, verdict, d, r2, j);
+        correct_row(z, support, j * nx, nx, &lx, &ly, &ld, n, r2, bit);
+        j += 1;
+    }
 }

@@ -87,7 +87,7 @@ sums-size radius limit D i j (more {a = r} {xs = rows} h rest) =
       sums-size radius limit D i j rest,
     )
 
-correction-size : (limit : ℕ) (s : Sums) → natAbs (s .pulls) ≤ limit * s .weights → natAbs (correction s) ≤ limit
+pub correction-size : (limit : ℕ) (s : Sums) → natAbs (s .pulls) ≤ limit * s .weights → natAbs (correction s) ≤ limit
 unfolding correction
 correction-size limit s h =
     cond-both (λ (c : ℤ). natAbs c ≤ limit) (eqb (s .weights) 0) (pos 0) (rounded (s .pulls) (s .weights))

@@ -1,2 +1,3 @@
 -- What the code of smoothing computes, on a stored field. Proved.
 pub mod Pattern
+pub mod Pass

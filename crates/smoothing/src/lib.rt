@@ -1,13 +1,15 @@
-// Smoothing of one point (document 01, "One scan", Smoothing).
+// Smoothing of one point, and of the whole field (document 01, "One scan", Smoothing).
 ghost use mathlib.Core.Path.{_≡_};
 ghost use mathlib.Core.Bool.{_&&_};
 ghost use Prim.Native.Nat.{_+_, _*_, _≤_, _<_};
-ghost use lib.ListN.{length};
+ghost use lib.ListN.{length, getD};
 ghost use lib.IntN.{pos};
-ghost use Rattle.scheme.specs.Units.{fieldOf};
+ghost use Rattle.lists.specs.Filled.{Filled};
+ghost use Rattle.scheme.specs.Units.{fieldOf, stored};
 ghost use Rattle.scheme.specs.Smoothing.{inner, smoothed};
 ghost use Rattle.scheme.specs.Accepted.{Shaped};
 ghost use Rattle.smoothing.specs.Pattern.{Small, rowAt, nineAt};
+ghost use Rattle.smoothing.specs.Pass.{smoothK};
 use weighted::Total;
 
 // The three-by-three pattern is one table.
@@ -71,4 +73,42 @@ pub fn smooth_at(z: &[i32], nx: usize, ny: usize, i: usize, j: usize) -> i32
         return z[k];
     }
     weighted::rounded(pattern_sum(z, nx, k - nx - 1), 16) as i32
+}
+
+// Row j into the second grid, which has its rows where the grid has them.
+fn smooth_row(out: &mut [i32; 4096], z: &[i32], nx: usize, ny: usize, j: usize)
+    requires { ⌜ Shaped nx ny (length (now z)) × Small (now z) × (j < ny) × (length (now out) ≡ 4096) ⌝ }
+    ensures { λ u. ⌜ Filled (pos 0) (smoothK (now (z .entry)) nx ny) (j * nx) (j * nx + nx) (now (out .entry)) (now (out .exit)) ⌝ }
+{
+    let mut i: usize = 0;
+    while i < nx {
+        out[j * nx + i] = smooth_at(z, nx, ny, i, j);
+        i += 1;
+    }
+}
+
+// The second grid has room for the largest grid; only as many of its places as the grid has are taken.
+fn put_back(z: &mut [i32], out: &[i32; 4096])
+    requires { ⌜ length (now z) ≤ 4096 ⌝ }
+    ensures { λ u. ⌜ Filled (pos 0) (λ k. getD (now (out .entry)) k (pos 0)) 0 (length (now (z .entry))) (now (z .entry)) (now (z .exit)) ⌝ }
+{
+    let mut k: usize = 0;
+    while k < z.len() {
+        z[k] = out[k];
+        k += 1;
+    }
+}
+
+// All points at once: each is made from the grid as it was, in a second grid, which then takes its place.
+pub fn smooth(z: &mut [i32], nx: usize, ny: usize)
+    requires { ⌜ Shaped nx ny (length (now z)) × Small (now z) ⌝ }
+    ensures { λ u. ⌜ now (z .exit) ≡ stored nx ny (smoothed nx ny (fieldOf (pos 0) nx (now (z .entry)))) ⌝ }
+{
+    let mut out = [0i32; 4096];
+    let mut j: usize = 0;
+    while j < ny {
+        smooth_row(&mut out, z, nx, ny, j);
+        j += 1;
+    }
+    put_back(z, &out);
 }

@@ -1,3 +1,4 @@
 -- What the code of a station computes, on plain values. Proved.
 pub mod Verdict
 pub mod Corners
+pub mod Judge

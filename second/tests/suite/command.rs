@@ -9,6 +9,7 @@ fn second(arguments: &[&str], environment: &[(&str, &str)], input: &str) -> Outp
         .args(arguments)
         .env_remove("SOSNYAVIK_SEED")
         .env_remove("SOSNYAVIK_COUNT")
+        .env_remove("SOSNYAVIK_EMPTY")
         .envs(environment.iter().copied())
         .stdin(Stdio::piped())
         .stdout(Stdio::piped())
@@ -43,6 +44,21 @@ fn the_environment_overrides_seed_and_count() {
 }
 
 #[test]
+fn compare_runs_the_archive_or_says_how_to_build_it() {
+    let output = second(&["compare", "analysis", "3", "200"], &[], "");
+    if cfg!(feature = "archive") {
+        assert!(output.status.success(), "{}", String::from_utf8_lossy(&output.stderr));
+        assert!(output.stdout.starts_with(b"seed 3, count 200\nanalysis, 200 cases\n"));
+        let null = second(&["compare", "analysis", "3", "200"], &[("SOSNYAVIK_EMPTY", "null")], "");
+        assert_eq!(null, output, "the address of an empty slice means nothing");
+    } else {
+        let message = String::from_utf8_lossy(&output.stderr).into_owned();
+        assert_eq!((output.status.code(), message.lines().count()), (Some(2), 1), "{message}");
+        assert!(message.contains("SOSNYAVIK_ARCHIVE=") && message.contains("--features archive"));
+    }
+}
+
+#[test]
 fn bad_arguments_give_one_line_and_two() {
     let wrong = |arguments: &[&str], environment: &[(&str, &str)]| {
         let output = second(arguments, environment, "");
@@ -58,6 +74,11 @@ fn bad_arguments_give_one_line_and_two() {
     wrong(&["survey", "1", "0"], &[]);
     wrong(&["generate", "maps", "1", "1"], &[]);
     wrong(&["generate", "text", "1", "many"], &[]);
+    wrong(&["compare"], &[]);
+    wrong(&["compare", "maps"], &[]);
+    wrong(&["compare", "window"], &[]);
+    wrong(&["compare", "analysis", "1", "0"], &[]);
+    wrong(&["compare", "analysis"], &[("SOSNYAVIK_EMPTY", "nil")]);
     wrong(&["survey"], &[("SOSNYAVIK_COUNT", "1e3")]);
     wrong(&["survey"], &[("SOSNYAVIK_SEED", "")]);
 }

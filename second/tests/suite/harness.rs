@@ -166,4 +166,7 @@ fn a_text_can_be_handed_to_the_shell() {
     let mut call = sample();
     call.scans = 0;
     assert!(rerun_form(&call).contains("\nscans=0\nradius=96\nlimit=200\n"), "listed, not text");
+    let mut call = sample();
+    call.radius.push(97);
+    assert!(rerun_form(&call).contains("\nradius=96,97\n"), "a text would lose the 97");
 }

@@ -1,0 +1,239 @@
+/*
+ * bench.c: the proved analysis beside the plain one, on three made-up evenings that are the same in every run.
+ *
+ *   bench CASE ours|plain REPEAT   call one of them, for a counter of instructions
+ *   bench CASE both REPEAT         compare the answers, then print the least wall time of each
+ *   bench stack                    print the bytes of stack that the proved one touches on case a
+ *
+ * Exit status: 0 done; 1 the answers differ, or the system failed; 2 bad arguments.
+ */
+#define _DEFAULT_SOURCE
+#define _XOPEN_SOURCE 700
+
+#include "plain.h"
+#include "sosnyavik.h"
+
+#include <stdio.h>
+#include <stdlib.h>
+#include <string.h>
+#include <sys/mman.h>
+#include <time.h>
+#include <ucontext.h>
+
+enum { MOST_POINTS = 64 * 64, MOST_STATIONS = 512, MOST_SCANS = 6, MOST_REPEATS = 1000000 };
+enum { MINUTE = 1000, AGE = 120 };
+
+/* The widest limit that a plan may have. */
+enum { ANY = 2000000 };
+
+struct evening {
+    const char *name;
+    uint32_t nx, ny;
+    size_t stations;
+    uint32_t scans;
+    int32_t radius[MOST_SCANS], limit[MOST_SCANS];
+    bool smooth;
+};
+
+static const struct evening EVENINGS[] = {
+    {"a", 64, 64, 512, 6, {1024, 1024, 1024, 1024, 1024, 1024}, {ANY, ANY, ANY, ANY, ANY, ANY}, true},
+    {"b", 48, 48, 60, 4, {512, 320, 192, 128}, {640, 512, 384, 320}, true},
+    {"c", 16, 16, 12, 2, {320, 192}, {640, 384}, false},
+};
+
+struct input {
+    const struct evening *evening;
+    int32_t first_guess[MOST_POINTS];
+    int32_t x[MOST_STATIONS], y[MOST_STATIONS], value[MOST_STATIONS];
+    uint32_t observed[MOST_STATIONS], from[MOST_STATIONS], until[MOST_STATIONS];
+};
+
+struct output {
+    uint32_t returned;
+    int32_t grid[MOST_POINTS];
+    uint8_t support[MOST_POINTS], verdict[MOST_STATIONS];
+};
+
+/* Too large for the stack that is to be measured, and shared by no two calls. */
+static struct input input;
+static struct output ours, plain;
+
+static void complain(const char *what, const char *word) {
+    fprintf(stderr, "bench: %s '%s': use bench a|b|c ours|plain|both REPEAT, or bench stack\n", what, word);
+    exit(2);
+}
+
+static void fail(const char *what) {
+    fprintf(stderr, "bench: %s\n", what);
+    exit(1);
+}
+
+/* A whole number in low..high, from splitmix64: small, and the same on every machine. */
+static int32_t draw(uint64_t *state, int32_t low, int32_t high) {
+    uint64_t z = *state += 0x9E3779B97F4A7C15u;
+    z = (z ^ (z >> 30)) * 0xBF58476D1CE4E5B9u;
+    z = (z ^ (z >> 27)) * 0x94D049BB133111EBu;
+    return low + (int32_t)((z ^ (z >> 31)) % (uint64_t)(high - low + 1));
+}
+
+/* A spring evening of about 5 degrees, a little warmer to the east. */
+static void make_first_guess(uint64_t *state) {
+    const struct evening *evening = input.evening;
+    for (uint32_t j = 0; j < evening->ny; j++) {
+        for (uint32_t i = 0; i < evening->nx; i++)
+            input.first_guess[j * evening->nx + i] = 320 + 2 * (int32_t)i - (int32_t)j + draw(state, -32, 32);
+    }
+}
+
+/* In service and fresh; within 2 degrees of the nearest point, but for about one in 32 with a gross error. */
+static void make_stations(uint64_t *state) {
+    const struct evening *evening = input.evening;
+    for (size_t row = 0; row < evening->stations; row++) {
+        int32_t x = draw(state, 0, 64 * (int32_t)(evening->nx - 1));
+        int32_t y = draw(state, 0, 64 * (int32_t)(evening->ny - 1));
+        int32_t nearest = input.first_guess[(y + 32) / 64 * (int32_t)evening->nx + (x + 32) / 64];
+        int32_t gross_error = draw(state, 0, 31) == 0 ? 1280 : 0;
+        input.x[row] = x;
+        input.y[row] = y;
+        input.value[row] = nearest + draw(state, -128, 128) + gross_error;
+        input.observed[row] = (uint32_t)draw(state, MINUTE - AGE, MINUTE);
+        input.from[row] = 0;
+        input.until[row] = SOSNYAVIK_NO_END;
+    }
+}
+
+static void make_input(const char *name) {
+    for (size_t i = 0; i < sizeof EVENINGS / sizeof *EVENINGS; i++) {
+        if (strcmp(EVENINGS[i].name, name) == 0)
+            input.evening = &EVENINGS[i];
+    }
+    if (input.evening == NULL)
+        complain("unknown case", name);
+    uint64_t state = 1955;
+    make_first_guess(&state);
+    make_stations(&state);
+}
+
+static void run(Analysis *analysis, struct output *output) {
+    const struct evening *evening = input.evening;
+    size_t points = (size_t)evening->nx * evening->ny, stations = evening->stations;
+    output->returned =
+        analysis(evening->nx, evening->ny, input.first_guess, points, input.x, stations, input.y, stations, input.value,
+                 stations, input.observed, stations, input.from, stations, input.until, stations, evening->scans,
+                 evening->radius, evening->scans, evening->limit, evening->scans, evening->smooth, MINUTE, AGE,
+                 output->grid, points, output->support, points, output->verdict, stations);
+}
+
+/* The results are filled unlike before the calls, so that an entry which one of them leaves out differs too. */
+static void compare(void) {
+    size_t points = (size_t)input.evening->nx * input.evening->ny;
+    memset(&ours, 0x55, sizeof ours);
+    memset(&plain, 0xAA, sizeof plain);
+    run(sosnyavik_analyse, &ours);
+    run(plain_analyse, &plain);
+    if (ours.returned != plain.returned)
+        fail("the returned numbers differ");
+    if (memcmp(ours.grid, plain.grid, points * sizeof *ours.grid) != 0)
+        fail("the grids differ");
+    if (memcmp(ours.support, plain.support, points) != 0)
+        fail("the supports differ");
+    if (memcmp(ours.verdict, plain.verdict, input.evening->stations) != 0)
+        fail("the verdicts differ");
+}
+
+static int64_t nanoseconds(Analysis *analysis, struct output *output) {
+    struct timespec began, ended;
+    clock_gettime(CLOCK_MONOTONIC, &began);
+    run(analysis, output);
+    clock_gettime(CLOCK_MONOTONIC, &ended);
+    return (int64_t)(ended.tv_sec - began.tv_sec) * 1000000000 + (ended.tv_nsec - began.tv_nsec);
+}
+
+/* Turn and turn about, so that a busy spell of the machine falls on both. */
+static void time_both(long repeat) {
+    int64_t least_ours = INT64_MAX, least_plain = INT64_MAX;
+    for (long i = 0; i < repeat; i++) {
+        int64_t taken_ours = nanoseconds(sosnyavik_analyse, &ours);
+        int64_t taken_plain = nanoseconds(plain_analyse, &plain);
+        least_ours = taken_ours < least_ours ? taken_ours : least_ours;
+        least_plain = taken_plain < least_plain ? taken_plain : least_plain;
+    }
+    printf("ours %lld ns, plain %lld ns\n", (long long)least_ours, (long long)least_plain);
+}
+
+enum { STACK = 8 * 1024 * 1024, PAGE = 4096, PAINT = 0xC3 };
+
+/* What the measured stack is to run. A context takes no pointers, so it stands here; NULL is the empty run. */
+static Analysis *measured;
+
+static void run_measured(void) {
+    if (measured != NULL)
+        run(measured, &ours);
+}
+
+/* A stack that is painted, so that what was touched shows. Its lowest page stops a call that would need more. */
+static unsigned char *painted_stack(void) {
+    unsigned char *stack = mmap(NULL, STACK, PROT_READ | PROT_WRITE, MAP_PRIVATE | MAP_ANONYMOUS, -1, 0);
+    if (stack == MAP_FAILED || mprotect(stack, PAGE, PROT_NONE) != 0)
+        fail("no memory for a stack of 8 MiB: free some and run again");
+    memset(stack + PAGE, PAINT, STACK - PAGE);
+    return stack;
+}
+
+/* The bytes from the lowest one that a run on a stack of its own touched, up to the top. */
+static size_t touched(Analysis *analysis) {
+    unsigned char *stack = painted_stack();
+    ucontext_t here, there;
+    if (getcontext(&there) != 0)
+        fail("getcontext failed: run it on Linux with glibc");
+    there.uc_stack.ss_sp = stack;
+    there.uc_stack.ss_size = STACK;
+    there.uc_link = &here;
+    makecontext(&there, run_measured, 0);
+    measured = analysis;
+    if (swapcontext(&here, &there) != 0)
+        fail("swapcontext failed: run it on Linux with glibc");
+    size_t low = PAGE;
+    while (low < STACK && stack[low] == PAINT)
+        low++;
+    munmap(stack, STACK);
+    return STACK - low;
+}
+
+/* The arguments of the call count as its own; what the switch of stacks touches does not. */
+static void measure_stack(void) {
+    make_input("a");
+    printf("%zu\n", touched(sosnyavik_analyse) - touched(NULL));
+}
+
+static long repeat_of(const char *word) {
+    char *end;
+    long repeat = strtol(word, &end, 10);
+    if (end == word || *end != '\0' || repeat < 1 || repeat > MOST_REPEATS)
+        complain("REPEAT is to be a number in 1..1000000 and not", word);
+    return repeat;
+}
+
+static void run_case(const char *name, const char *which, long repeat) {
+    bool is_ours = strcmp(which, "ours") == 0, is_plain = strcmp(which, "plain") == 0;
+    if (!is_ours && !is_plain && strcmp(which, "both") != 0)
+        complain("nothing is called", which);
+    make_input(name);
+    if (!is_ours && !is_plain) {
+        compare();
+        time_both(repeat);
+        return;
+    }
+    for (long i = 0; i < repeat; i++)
+        run(is_ours ? sosnyavik_analyse : plain_analyse, is_ours ? &ours : &plain);
+}
+
+int main(int argc, char **argv) {
+    if (argc == 2 && strcmp(argv[1], "stack") == 0)
+        measure_stack();
+    else if (argc == 4)
+        run_case(argv[1], argv[2], repeat_of(argv[3]));
+    else
+        complain("one or three words are needed after", argc > 0 ? argv[0] : "bench");
+    return 0;
+}

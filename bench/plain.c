@@ -1,0 +1,218 @@
+/*
+ * plain.c: document 01's analysis as a C programmer would write it first: its loops, its numbers, no tricks.
+ * It assumes what include/sosnyavik.h says that the caller owes.
+ */
+#include "plain.h"
+
+#include <string.h>
+
+/* Document 01, "Units and sizes". */
+enum {
+    STEP = 64,
+    LEAST_SIDE = 2,
+    GREATEST_SIDE = 64,
+    MOST_POINTS = GREATEST_SIDE * GREATEST_SIDE,
+    MOST_STATIONS = 512,
+    MOST_SCANS = 6,
+    GREATEST_RADIUS = 1024,
+    GREATEST_LIMIT = 2000000,
+    GREATEST_NUMBER = 1000000,
+};
+#define MISSING INT32_MIN
+#define NO_END UINT32_MAX
+
+struct request {
+    uint32_t nx, ny;
+    const int32_t *first_guess;
+    const int32_t *x, *y, *value;
+    const uint32_t *observed, *from, *until;
+    size_t stations;
+    uint32_t scans;
+    const int32_t *radius, *limit;
+    bool smooth;
+    uint32_t time, age;
+};
+
+/* What the points need to know of an accepted station. */
+struct accepted {
+    int32_t x, y, difference;
+};
+
+static uint32_t refusal(uint32_t number, size_t place) { return number * 65536 + (uint32_t)place; }
+
+static bool within(int32_t number, int32_t low, int32_t high) { return low <= number && number <= high; }
+
+static bool is_side(uint32_t side) { return LEAST_SIDE <= side && side <= GREATEST_SIDE; }
+
+static bool is_number(int32_t number) { return within(number, -GREATEST_NUMBER, GREATEST_NUMBER); }
+
+static bool is_scan(const struct request *request, uint32_t scan) {
+    int32_t radius = request->radius[scan];
+    int32_t widest = scan == 0 ? GREATEST_RADIUS : request->radius[scan - 1];
+    return within(radius, 1, widest) && within(request->limit[scan], 0, GREATEST_LIMIT);
+}
+
+static bool is_station(const struct request *request, size_t row) {
+    int32_t value = request->value[row];
+    return (value == MISSING || is_number(value)) && is_number(request->x[row]) && is_number(request->y[row]) &&
+           request->from[row] < request->until[row];
+}
+
+/* Refusals 6 to 8, which read the columns; 0 if there is none. */
+static uint32_t check_entries(const struct request *request) {
+    for (uint32_t scan = 0; scan < request->scans; scan++) {
+        if (!is_scan(request, scan))
+            return refusal(6, scan);
+    }
+    for (size_t point = 0; point < (size_t)request->nx * request->ny; point++) {
+        if (!is_number(request->first_guess[point]))
+            return refusal(7, point);
+    }
+    for (size_t row = 0; row < request->stations; row++) {
+        if (!is_station(request, row))
+            return refusal(8, row);
+    }
+    return 0;
+}
+
+/* No end makes only the upper test hold. */
+static bool in_service(uint32_t from, uint32_t minute, uint32_t until) {
+    return from <= minute && (until == NO_END || minute < until);
+}
+
+static bool on_axis(int32_t position, uint32_t side) { return within(position, 0, STEP * ((int32_t)side - 1)); }
+
+static uint8_t verdict_before(const struct request *request, size_t row) {
+    uint32_t from = request->from[row], until = request->until[row], observed = request->observed[row];
+    if (request->value[row] == MISSING)
+        return 1;
+    if (!in_service(from, observed, until) || !in_service(from, request->time, until))
+        return 2;
+    if (observed > request->time)
+        return 3;
+    if (request->time - observed > request->age)
+        return 4;
+    if (!on_axis(request->x[row], request->nx) || !on_axis(request->y[row], request->ny))
+        return 5;
+    return 0;
+}
+
+/* The nearest whole number, halves away from zero; the divisor is above 0. */
+static int64_t rounded(int64_t sum, int64_t divisor) {
+    return sum >= 0 ? (sum + divisor / 2) / divisor : -((-sum + divisor / 2) / divisor);
+}
+
+/* A station on the last column or row belongs to the last cell, since there is none after it. */
+static int32_t lower_corner(int32_t position, uint32_t side) {
+    int32_t corner = position / STEP, last = (int32_t)side - 2;
+    return corner < last ? corner : last;
+}
+
+static int32_t value_at(const int32_t *grid, uint32_t nx, uint32_t ny, int32_t x, int32_t y) {
+    int32_t m = lower_corner(x, nx), n = lower_corner(y, ny);
+    int64_t a = x - STEP * m, b = y - STEP * n;
+    const int32_t *row = grid + (size_t)n * nx + m, *next = row + nx;
+    int64_t sum =
+        (STEP - a) * (STEP - b) * row[0] + a * (STEP - b) * row[1] + (STEP - a) * b * next[0] + a * b * next[1];
+    return (int32_t)rounded(sum, STEP * STEP);
+}
+
+/* The E test of a scan, counted from 0: fills the list of those that stay accepted, and gives its length. */
+static size_t judge(const struct request *request, uint32_t scan, const int32_t *grid, uint8_t *verdict,
+                    struct accepted *accepted) {
+    size_t count = 0;
+    int32_t limit = request->limit[scan];
+    for (size_t row = 0; row < request->stations; row++) {
+        if (verdict[row] != 0)
+            continue;
+        int32_t x = request->x[row], y = request->y[row];
+        int32_t difference = request->value[row] - value_at(grid, request->nx, request->ny, x, y);
+        if (within(difference, -limit, limit))
+            accepted[count++] = (struct accepted){x, y, difference};
+        else
+            verdict[row] = (uint8_t)(11 + scan);
+    }
+    return count;
+}
+
+/* In place, since the differences were all taken from the field before. */
+static void correct(const struct request *request, uint32_t scan, const struct accepted *accepted, size_t count,
+                    int32_t *grid, uint8_t *support) {
+    int32_t nx = (int32_t)request->nx, ny = (int32_t)request->ny;
+    int32_t r2 = request->radius[scan] * request->radius[scan];
+    for (int32_t j = 0; j < ny; j++) {
+        for (int32_t i = 0; i < nx; i++) {
+            int64_t sum = 0;
+            int32_t weights = 0;
+            for (size_t k = 0; k < count; k++) {
+                int32_t dx = accepted[k].x - STEP * i, dy = accepted[k].y - STEP * j;
+                int32_t d2 = dx * dx + dy * dy;
+                if (d2 < r2) {
+                    int32_t weight = 100 * (r2 - d2) / (r2 + d2);
+                    weights += weight;
+                    sum += (int64_t)weight * accepted[k].difference;
+                }
+            }
+            if (weights > 0) {
+                grid[j * nx + i] += (int32_t)rounded(sum, weights);
+                support[j * nx + i] |= (uint8_t)(1u << scan);
+            }
+        }
+    }
+}
+
+static const int32_t PATTERN[3][3] = {{1, 2, 1}, {2, 4, 2}, {1, 2, 1}};
+
+static void smooth_grid(int32_t *grid, int32_t nx, int32_t ny) {
+    int32_t before[MOST_POINTS];
+    memcpy(before, grid, (size_t)(nx * ny) * sizeof *grid);
+    for (int32_t j = 1; j < ny - 1; j++) {
+        for (int32_t i = 1; i < nx - 1; i++) {
+            int32_t sum = 0;
+            for (int32_t row = 0; row < 3; row++) {
+                for (int32_t column = 0; column < 3; column++)
+                    sum += PATTERN[row][column] * before[(j + row - 1) * nx + i + column - 1];
+            }
+            grid[j * nx + i] = (int32_t)rounded(sum, 16);
+        }
+    }
+}
+
+static void analyse(const struct request *request, int32_t *grid, uint8_t *support, uint8_t *verdict) {
+    struct accepted accepted[MOST_STATIONS];
+    size_t points = (size_t)request->nx * request->ny;
+    memcpy(grid, request->first_guess, points * sizeof *grid);
+    memset(support, 0, points);
+    for (size_t row = 0; row < request->stations; row++)
+        verdict[row] = verdict_before(request, row);
+    for (uint32_t scan = 0; scan < request->scans; scan++) {
+        size_t count = judge(request, scan, grid, verdict, accepted);
+        correct(request, scan, accepted, count, grid, support);
+        if (request->smooth)
+            smooth_grid(grid, (int32_t)request->nx, (int32_t)request->ny);
+    }
+}
+
+uint32_t plain_analyse(uint32_t nx, uint32_t ny, const int32_t *first_guess, size_t first_guess_len, const int32_t *x,
+                       size_t x_len, const int32_t *y, size_t y_len, const int32_t *value, size_t value_len,
+                       const uint32_t *observed, size_t observed_len, const uint32_t *from, size_t from_len,
+                       const uint32_t *until, size_t until_len, uint32_t scans, const int32_t *radius,
+                       size_t radius_len, const int32_t *limit, size_t limit_len, bool smooth, uint32_t time,
+                       uint32_t age, int32_t *grid, size_t grid_len, uint8_t *support, size_t support_len,
+                       uint8_t *verdict, size_t verdict_len) {
+    if (!is_side(nx) || !is_side(ny) || first_guess_len != (size_t)nx * ny)
+        return refusal(1, 0);
+    if (grid_len != first_guess_len || support_len != first_guess_len || verdict_len != x_len)
+        return refusal(3, 0);
+    if (y_len != x_len || value_len != x_len || observed_len != x_len || from_len != x_len || until_len != x_len ||
+        x_len > MOST_STATIONS)
+        return refusal(4, 0);
+    if (scans < 1 || scans > MOST_SCANS || radius_len < scans || limit_len < scans)
+        return refusal(5, 0);
+    struct request request = {nx,    ny,    first_guess, x,      y,     value,  observed, from,
+                              until, x_len, scans,       radius, limit, smooth, time,     age};
+    uint32_t refused = check_entries(&request);
+    if (refused == 0)
+        analyse(&request, grid, support, verdict);
+    return refused;
+}

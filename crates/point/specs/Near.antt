@@ -1,0 +1,260 @@
+-- The stations near a grid row: what each gives to a point of the row, and that those left out give nothing.
+use Prim.Native.Nat.{ℕ, zero, suc, _+_, _-_, _*_, _≤_, _<_}
+use native.Mathlib.Omega.{arith}
+use native.Mathlib.Numerals.{add-one}
+use native.Mathlib.Nat.{mul-le-mul, mul-le-mul-left, zero-add, add-zero}
+use mathlib.Core.Path.{_≡_, refl, sym, ap, _∙_}
+use mathlib.Core.Logic.{_⊎_, inl, inr}
+use mathlib.Core.Bool.{Bool, true, false, cond}
+use mathlib.Core.List.{List}
+use borrow.Author.Tests.{lt-ltb, le-ltb, eqb-true}
+use lib.Dec.{ltb, eqb}
+use lib.ListN.{length, getD, set, length-set}
+use lib.Seq.{getD-set-same, getD-set-other}
+use lib.IntN.{ℤ, pos, natAbs, _+ℤ_, _-ℤ_, _*ℤ_, zero-*ℤ, +ℤ-idl, +ℤ-idr}
+use Rattle.integers.specs.Sizes.{size-add, size-mul}
+use Rattle.lists.specs.Tests.{lt-or-le, true-or-false}
+use Rattle.lists.specs.Sums.{upTo, upTo-next, upTo-same}
+use Rattle.scheme.specs.Verdicts.{isAccepted}
+use Rattle.scheme.specs.Weight.{square, weight}
+use Rattle.scheme.specs.Weights.{weight-beyond, weight-most}
+use Rattle.scheme.specs.Correction.{Sums, nothing, plus}
+
+-- a station with that weight and difference
+abbrev pub giving : ℕ → ℤ → Sums
+giving w d = record { weights = w; pulls = pos w *ℤ d }
+
+-- ---- from all the columns: what row k gives to point (i, j)
+
+unfoldable pub weightAt : (xs ys : List ℤ) (st : List ℕ) (r2 i j k : ℕ) → ℕ
+weightAt xs ys st r2 i j k =
+    cond (isAccepted (getD st k 0))
+    (weight r2 (square (getD xs k (pos 0) -ℤ pos (64 * i)) + square (getD ys k (pos 0) -ℤ pos (64 * j)))) 0
+
+unfoldable pub shareAt : (xs ys : List ℤ) (st : List ℕ) (ds : List ℤ) (r2 i j k : ℕ) → Sums
+shareAt xs ys st ds r2 i j k = giving (weightAt xs ys st r2 i j k) (getD ds k (pos 0))
+
+unfoldable pub sumsOver : (xs ys : List ℤ) (st : List ℕ) (ds : List ℤ) (r2 i j : ℕ) → Sums
+sumsOver xs ys st ds r2 i j = upTo nothing plus (length xs) (shareAt xs ys st ds r2 i j)
+
+-- ---- from the stations near row j: positions along the row, squared distances to it, differences
+
+unfoldable pub nearShare : (lx : List ℤ) (ly : List ℕ) (ld : List ℤ) (r2 i t : ℕ) → Sums
+nearShare lx ly ld r2 i t =
+    giving (weight r2 (square (getD lx t (pos 0) -ℤ pos (64 * i)) + getD ly t 0)) (getD ld t (pos 0))
+
+pub record Sized (lx : List ℤ) (ly : List ℕ) (ld : List ℤ) (t : ℕ) : Type 0 where
+  pub x-small : natAbs (getD lx t (pos 0)) ≤ 4096
+  pub y-small : getD ly t 0 ≤ 1048576
+  pub d-small : natAbs (getD ld t (pos 0)) ≤ 2000000
+
+-- ---- sizes of the sums over some of them
+
+pub record SumsSmall (n : ℕ) (s : Sums) : Type 0 where
+  pub weights-most : s .weights ≤ n * 100
+  pub pulls-most : natAbs (s .pulls) ≤ 2000000 * s .weights
+
+giving-small : (w : ℕ) (d : ℤ) (n : ℕ) (s : Sums) → w ≤ 100 → natAbs d ≤ 2000000 → SumsSmall n s → SumsSmall (n + 1) (plus s (giving w d))
+giving-small w d n s hw hd h =
+    record {
+      weights-most = omega (arith, h .weights-most);
+      pulls-most = omega (arith, h .pulls-most, size-add (s .pulls) (pos w *ℤ d), size-mul (pos w) d, mul-le-mul-left w hd);
+    }
+
+module _ (lx : List ℤ) (ly : List ℕ) (ld : List ℤ) (r2 i : ℕ) where
+  abbrev pub nearWeight : ℕ → ℕ
+  nearWeight t = weight r2 (square (getD lx t (pos 0) -ℤ pos (64 * i)) + getD ly t 0)
+
+  pub near-small : (n : ℕ) → ((t : ℕ) → t < n → Sized lx ly ld t) → SumsSmall n (upTo nothing plus n (nearShare lx ly ld r2 i))
+  unfolding upTo nearShare
+  near-small zero h = record { weights-most = omega arith; pulls-most = omega arith }
+  near-small (suc n) h =
+      rw (← (add-one n))
+      (giving-small (nearWeight n) (getD ld n (pos 0)) n (upTo nothing plus n (nearShare lx ly ld r2 i)) (weight-most r2 _)
+      (h n (omega arith) .d-small) (near-small n (λ t l. h t (omega arith))))
+
+  -- a turn: with the station t at squared distance g along the row
+  module _ (t : ℕ) (g : ℕ) (g-is : g ≡ square (getD lx t (pos 0) -ℤ pos (64 * i))) where
+    pub near-next-w : (w w' : ℕ) → w ≡ upTo nothing plus t (nearShare lx ly ld r2 i) .weights → w' ≡ w + weight r2 (g + getD ly t 0)
+        → w' ≡ upTo nothing plus (t + 1) (nearShare lx ly ld r2 i) .weights
+    unfolding nearShare
+    near-next-w w w' h e = e ∙ rw (h, g-is) (sym (ap (λ (s : Sums). s .weights) (upTo-next nothing plus t (nearShare lx ly ld r2 i))))
+
+    pub near-next-wd : (wd wd' : ℤ) → wd ≡ upTo nothing plus t (nearShare lx ly ld r2 i) .pulls
+        → wd' ≡ wd +ℤ pos (weight r2 (g + getD ly t 0)) *ℤ getD ld t (pos 0)
+        → wd' ≡ upTo nothing plus (t + 1) (nearShare lx ly ld r2 i) .pulls
+    unfolding nearShare
+    near-next-wd wd wd' h e = e ∙ rw (h, g-is) (sym (ap (λ (s : Sums). s .pulls) (upTo-next nothing plus t (nearShare lx ly ld r2 i))))
+
+-- ---- gathering the near ones: those accepted and nearer than R to the row, along the other axis
+
+-- the squared distance of a row's station to grid row j; the squared radius for one that is not accepted
+unfoldable pub rowGap : (verdict : ℕ) (y : ℤ) (j r2 : ℕ) → ℕ
+rowGap verdict y j r2 = cond (isAccepted verdict) (square (y -ℤ pos (64 * j))) r2
+
+-- what the columns hold: an accepted row is near the grid, and its difference within the limit
+pub record Inside (x y d : ℤ) : Type 0 where
+  pub x-small : natAbs x ≤ 4096
+  pub y-small : natAbs y ≤ 4096
+  pub d-small : natAbs d ≤ 2000000
+
+pub record Columns (xs ys : List ℤ) (st : List ℕ) (ds : List ℤ) : Type 0 where
+  pub len-y : length ys ≡ length xs
+  pub len-st : length st ≡ length xs
+  pub few : length xs ≤ 512
+  pub long : length ds ≡ 512
+  pub inside : (k : ℕ) → k < length xs → getD st k 0 ≡ 0 → Inside (getD xs k (pos 0)) (getD ys k (pos 0)) (getD ds k (pos 0))
+
+pub record Roomy (lx : List ℤ) (ly : List ℕ) (ld : List ℤ) : Type 0 where
+  pub x-long : length lx ≡ 512
+  pub y-long : length ly ≡ 512
+  pub d-long : length ld ≡ 512
+
+-- the n near ones among the first k rows give to each point of row j what the k rows give
+pub record Near (lx : List ℤ) (ly : List ℕ) (ld : List ℤ) (n : ℕ) (xs ys : List ℤ) (st : List ℕ) (ds : List ℤ) (r2 j k : ℕ) : Type 0 where
+  pub no-more : n ≤ k
+  pub sized : (t : ℕ) → t < n → Sized lx ly ld t
+  pub same : (i : ℕ) → upTo nothing plus n (nearShare lx ly ld r2 i) ≡ upTo nothing plus k (shareAt xs ys st ds r2 i j)
+
+pub near-none : (lx : List ℤ) (ly : List ℕ) (ld : List ℤ) (xs ys : List ℤ) (st : List ℕ) (ds : List ℤ) (r2 j : ℕ) → Near lx ly ld 0 xs ys st ds r2 j 0
+unfolding upTo
+near-none lx ly ld xs ys st ds r2 j = record { no-more = omega arith; sized = λ t h. absurd (omega arith); same = λ i. refl }
+
+plus-nothing : (s : Sums) → plus s nothing ≡ s
+plus-nothing s = simp (add-zero, +ℤ-idr)
+
+giving-none : (w : ℕ) (d : ℤ) → w ≡ 0 → giving w d ≡ nothing
+giving-none w d e = rw e (cc (zero-*ℤ d))
+
+-- a row that is not nearer than R to the grid row gives nothing
+far-gives-nothing : (xs ys : List ℤ) (st : List ℕ) (ds : List ℤ) (r2 i j k : ℕ) → r2 ≤ rowGap (getD st k 0) (getD ys k (pos 0)) j r2
+    → shareAt xs ys st ds r2 i j k ≡ nothing
+unfolding shareAt weightAt rowGap
+far-gives-nothing xs ys st ds r2 i j k h = giving-none _ (getD ds k (pos 0)) (go (isAccepted (getD st k 0)) h)
+  where
+    go : (b : Bool) → r2 ≤ cond b (square (getD ys k (pos 0) -ℤ pos (64 * j))) r2
+        → cond b (weight r2 (square (getD xs k (pos 0) -ℤ pos (64 * i)) + square (getD ys k (pos 0) -ℤ pos (64 * j)))) 0 ≡ 0
+    go true l = weight-beyond r2 _ (omega arith)
+    go false l = refl
+
+-- one that is nearer is accepted
+near-is-accepted : (verdict : ℕ) (y : ℤ) (j r2 : ℕ) → rowGap verdict y j r2 < r2 → (verdict ≡ 0) × (rowGap verdict y j r2 ≡ square (y -ℤ pos (64 * j)))
+unfolding rowGap
+near-is-accepted verdict y j r2 h = go (isAccepted verdict) (eqb-true verdict 0) h
+  where
+    go : (b : Bool) → (b ≡ true → verdict ≡ 0) → cond b (square (y -ℤ pos (64 * j))) r2 < r2
+        → (verdict ≡ 0) × (cond b (square (y -ℤ pos (64 * j))) r2 ≡ square (y -ℤ pos (64 * j)))
+    go true f l = (f refl, refl)
+    go false f l = absurd (omega arith)
+
+module _ (xs ys : List ℤ) (st : List ℕ) (ds : List ℤ) (r2 j : ℕ) (bounded : r2 ≤ 1048576) (cs : Columns xs ys st ds)
+    (lx : List ℤ) (ly : List ℕ) (ld : List ℤ) (room : Roomy lx ly ld) (n k : ℕ) (turn : k < length xs) (near : Near lx ly ld n xs ys st ds r2 j k) where
+  abbrev gap : ℕ
+  gap = rowGap (getD st k 0) (getD ys k (pos 0)) j r2
+
+  abbrev lx' : List ℤ
+  lx' = set lx n (getD xs k (pos 0))
+
+  abbrev ly' : List ℕ
+  ly' = set ly n gap
+
+  abbrev ld' : List ℤ
+  ld' = set ld n (getD ds k (pos 0))
+
+  pub n-room : n < 512
+  n-room = omega (arith, near .no-more, cs .few)
+
+  -- the stations gathered before are where they were
+  kept-sized : (t : ℕ) → t < n → Sized lx' ly' ld' t
+  kept-sized t h =
+      let o : (t ≡ n) → ⊥ = λ (e : t ≡ n). omega arith in
+      let s = near .sized t h in
+      record {
+        x-small = rw (getD-set-other lx n t (getD xs k (pos 0)) (pos 0) o) (s .x-small);
+        y-small = rw (getD-set-other ly n t gap 0 o) (s .y-small);
+        d-small = rw (getD-set-other ld n t (getD ds k (pos 0)) (pos 0) o) (s .d-small);
+      }
+
+  kept-sums : (i : ℕ) → upTo nothing plus n (nearShare lx' ly' ld' r2 i) ≡ upTo nothing plus k (shareAt xs ys st ds r2 i j)
+  unfolding nearShare
+  kept-sums i =
+      upTo-same nothing plus n (nearShare lx' ly' ld' r2 i) (nearShare lx ly ld r2 i) same ∙ near .same i
+    where
+      same : (t : ℕ) → t < n → nearShare lx' ly' ld' r2 i t ≡ nearShare lx ly ld r2 i t
+      same t h =
+          let o : (t ≡ n) → ⊥ = λ (e : t ≡ n). omega arith in
+          unfold nearShare in
+          (rw (getD-set-other lx n t (getD xs k (pos 0)) (pos 0) o, getD-set-other ly n t gap 0 o, getD-set-other ld n t (getD ds k (pos 0)) (pos 0) o))
+
+  -- a far row is written over
+  far-step : r2 ≤ gap → Near lx' ly' ld' n xs ys st ds r2 j (k + 1)
+  far-step h =
+      record {
+        no-more = omega (arith, near .no-more);
+        sized = kept-sized;
+        same =
+            λ i. kept-sums i
+            ∙ sym (upTo-next nothing plus k (shareAt xs ys st ds r2 i j)
+            ∙ ap (plus (upTo nothing plus k (shareAt xs ys st ds r2 i j))) (far-gives-nothing xs ys st ds r2 i j k h)
+            ∙ plus-nothing (upTo nothing plus k (shareAt xs ys st ds r2 i j)));
+      }
+
+  -- a near row is gathered
+  module _ (close : gap < r2) where
+    accepted : getD st k 0 ≡ 0
+    accepted = near-is-accepted (getD st k 0) (getD ys k (pos 0)) j r2 close .0
+
+    new-x : getD lx' n (pos 0) ≡ getD xs k (pos 0)
+    new-x = getD-set-same lx n (getD xs k (pos 0)) (pos 0) (omega (arith, room .x-long, n-room))
+
+    new-y : getD ly' n 0 ≡ gap
+    new-y = getD-set-same ly n gap 0 (omega (arith, room .y-long, n-room))
+
+    new-d : getD ld' n (pos 0) ≡ getD ds k (pos 0)
+    new-d = getD-set-same ld n (getD ds k (pos 0)) (pos 0) (omega (arith, room .d-long, n-room))
+
+    new-share : (i : ℕ) → nearShare lx' ly' ld' r2 i n ≡ shareAt xs ys st ds r2 i j k
+    unfolding nearShare shareAt weightAt
+    new-share i = rw (new-x, new-y, new-d, near-is-accepted (getD st k 0) (getD ys k (pos 0)) j r2 close .1, accepted)
+
+    new-sized : (t : ℕ) → t < n + 1 → Sized lx' ly' ld' t
+    new-sized t h = go (lt-or-le t n)
+      where
+        go : (t < n) ⊎ (n ≤ t) → Sized lx' ly' ld' t
+        go (inl l) = kept-sized t l
+        go (inr l) =
+            let e : t ≡ n = omega arith in
+            let c = cs .inside k turn accepted in
+            rw e (record {
+              x-small = rw new-x (c .x-small);
+              y-small = rw new-y (omega arith);
+              d-small = rw new-d (c .d-small);
+            })
+
+    near-gathered : Near lx' ly' ld' (n + 1) xs ys st ds r2 j (k + 1)
+    near-gathered =
+        record {
+          no-more = omega (arith, near .no-more);
+          sized = new-sized;
+          same =
+              λ i. upTo-next nothing plus n (nearShare lx' ly' ld' r2 i)
+              ∙ ap (λ (s : Sums). plus s (nearShare lx' ly' ld' r2 i n)) (kept-sums i)
+              ∙ ap (plus (upTo nothing plus k (shareAt xs ys st ds r2 i j))) (new-share i)
+              ∙ sym (upTo-next nothing plus k (shareAt xs ys st ds r2 i j));
+        }
+
+  pub near-step : Near lx' ly' ld' (n + cond (ltb gap r2) 1 0) xs ys st ds r2 j (k + 1)
+  near-step = go (lt-or-le gap r2)
+    where
+      go : (gap < r2) ⊎ (r2 ≤ gap) → Near lx' ly' ld' (n + cond (ltb gap r2) 1 0) xs ys st ds r2 j (k + 1)
+      go (inl h) = rw (lt-ltb gap r2 h) (near-gathered h)
+      go (inr h) = rw (le-ltb gap r2 h, add-zero n) (far-step h)
+
+-- a row of room is a row of room after a store
+pub roomy-set : (lx : List ℤ) (ly : List ℕ) (ld : List ℤ) (n : ℕ) (x : ℤ) (y : ℕ) (d : ℤ) → Roomy lx ly ld → Roomy (set lx n x) (set ly n y) (set ld n d)
+roomy-set lx ly ld n x y d r =
+    record {
+      x-long = length-set lx n x ∙ r .x-long;
+      y-long = length-set ly n y ∙ r .y-long;
+      d-long = length-set ld n d ∙ r .d-long;
+    }

@@ -1,0 +1,221 @@
+/*
+** sosnyavik.h: the C view of the Sosnyavik analysis; link with libclause.a.
+**
+** Cressman's successive corrections over whole numbers. A first guess on a
+** rectangular grid is drawn towards station values, scan by scan. The answer
+** is the analysed grid, the support of each point and a verdict for each
+** station. It follows from the arguments alone, to the last digit.
+**
+** In this file: marks, units and sizes, results, verdicts, support, refusals,
+** what the caller owes, what the call keeps, and the call itself.
+*/
+#ifndef SOSNYAVIK_H
+#define SOSNYAVIK_H
+
+#include <stdbool.h>
+#include <stddef.h>
+#include <stdint.h>
+
+#ifdef __cplusplus
+extern "C" {
+#endif
+
+/*
+** MARKS
+**
+** SOSNYAVIK_MISSING in the value column: this station has no observation.
+** No other number marks one; 32767 is a value like any other. A first guess
+** is never missing.
+**
+** SOSNYAVIK_NO_END in the until column: in service with no end.
+*/
+#define SOSNYAVIK_MISSING INT32_MIN
+#define SOSNYAVIK_NO_END UINT32_MAX
+
+/*
+** UNITS AND SIZES
+**
+** Values are whole numbers of 1/64 unit: 10.5 degrees is 672. Positions are
+** whole numbers of 1/64 grid step. Times are minutes, counted from anywhere.
+**
+**   nx, ny        columns and rows of the grid       2 .. 64 each
+**   first_guess   nx*ny values, row by row from      -1000000 .. 1000000
+**                 row 0: point (i, j) is entry
+**                 j*nx + i and stands at x = 64*i,
+**                 y = 64*j
+**
+**   The stations are rows 0, 1, .. of six columns of equal length, 0 .. 512:
+**
+**   x, y          position; two may share one        -1000000 .. 1000000
+**   value         observation                        -1000000 .. 1000000,
+**                                                    or SOSNYAVIK_MISSING
+**   observed      minute of the observation          any
+**   from          first minute in service            below until
+**   until         first minute no more in service    above from,
+**                                                    or SOSNYAVIK_NO_END
+**
+**   The plan is entries 0 .. scans-1 of two columns. A column may be longer;
+**   entries past the scan count are not read.
+**
+**   scans         number of scans                    1 .. 6
+**   radius        of influence, in position units,   1 .. 1024
+**                 never above the one before
+**   limit         greatest difference that the scan  0 .. 2000000
+**                 accepts, in 1/64 unit
+**   smooth        smooth the grid after each scan    true or false
+**
+**   time          minute of the analysis             any
+**   age           greatest age of an observation     any
+**                 at that minute, in minutes
+*/
+
+/*
+** RESULTS
+**
+**   grid          nx*ny values, in first_guess's     -13000000 .. 13000000
+**                 order and unit
+**   support       nx*ny bytes, in the same order     see SUPPORT
+**   verdict       a byte for each station row, so    see VERDICTS
+**                 x_len of them
+**
+** What the three hold before the call does not matter.
+*/
+
+/*
+** VERDICTS
+**
+**    0   accepted, and still so after the last scan
+**
+** Without influence from the start, for the first of these that fits:
+**
+**    1   the observation is missing
+**    2   out of service: not from <= observed < until, or not
+**        from <= time < until (with no end, the upper tests hold)
+**    3   observed after the minute of the analysis
+**    4   too old: time - observed is above age
+**    5   off the grid: not 0 <= x <= 64*(nx-1), or not 0 <= y <= 64*(ny-1)
+**
+** Rejected in a scan and all later ones, because the observation differed by
+** more than limit from the field that the scan found:
+**
+**   11 .. 16   10 + the scan, counted from 1: 11 in the first, 16 in the sixth
+*/
+
+/*
+** SUPPORT
+**
+** Bit s-1 of a point's byte is set exactly where the weights of the accepted
+** stations had a sum above 0 in scan s, counted from 1:
+**
+**   scan    1      2      3      4      5      6
+**   bit     0x01   0x02   0x04   0x08   0x10   0x20
+**
+** A byte of 0 is a point that no station reached. Without smoothing it still
+** holds its first guess; smoothing may have changed it.
+*/
+
+/*
+** REFUSALS
+**
+** The call returns 0 if the request was accepted, and otherwise
+** refusal*65536 + place. Tested in this order; the first that fits is given,
+** at the first place that it fits.
+**
+**   refusal   when                                         place
+**   1         nx or ny is out of 2 .. 64, or first_guess   0
+**             is not nx*ny long
+**   3         grid or support is not nx*ny long, or        0
+**             verdict is not as long as x
+**   4         the six station columns are not equally      0
+**             long, or longer than 512
+**   5         scans is out of 1 .. 6, or radius or limit   0
+**             is shorter than scans
+**   6         a radius is out of range or above the one    scan, from 0
+**             before, or a limit is out of range
+**   7         a first-guess value is out of range          point, from 0
+**   8         a station's value is out of range and not    row, from 0
+**             the mark, its position is out of range, or
+**             from is not below until
+**
+** Refusal 2 belongs to another call and is never returned by this one. A row
+** with a verdict of 1 .. 5 to come is tested for refusal 8 like any other.
+**
+** A mistake for each, and what comes back:
+**
+**   nx = 65, one column too many                           0x00010000 =  65536
+**   a station added to the columns, and not to verdict     0x00030000 = 196608
+**   a station added to all columns but y, and to verdict   0x00040000 = 262144
+**   scans = 3, with two radii                              0x00050000 = 327680
+**   radius = {96, 192}, the narrow scan first: scan 1      0x00060001 = 393217
+**   first_guess[4] = SOSNYAVIK_MISSING: point 4            0x00070004 = 458756
+**   from[2] and until[2] exchanged: row 2                  0x00080002 = 524290
+**
+** SOSNYAVIK_REFUSAL and SOSNYAVIK_PLACE take such a number apart.
+*/
+#define SOSNYAVIK_REFUSAL(r) ((uint32_t)(r) / 65536u)
+#define SOSNYAVIK_PLACE(r) ((uint32_t)(r) % 65536u)
+
+/*
+** WHAT THE CALLER OWES
+**
+** None of this can be tested by the call, and all of it is relied upon.
+**
+**   - Each pointer leads to as many entries as the length after it says, and
+**     is aligned for them. A null pointer comes only with a length of 0.
+**   - grid, support and verdict overlap neither the inputs nor each other.
+**     Inputs may overlap inputs.
+**   - Nobody writes to the inputs, or uses the results, during the call.
+**   - A bool is 0 or 1.
+**
+** WHAT THE CALL KEEPS
+**
+**   - A refused call writes nothing. An accepted call writes every entry of
+**     the three results, and nothing else.
+**   - It allocates nothing, keeps no state between calls and has no global
+**     state. Any number of threads may call it at once, each with results of
+**     its own; they may share inputs.
+*/
+
+/*
+** THE CALL
+**
+** The example of the paper: three by three points at 10 degrees, and three
+** stations, the last of them taken down at minute 995.
+**
+**   int32_t first_guess[9] = {640, 640, 640, 640, 640, 640, 640, 640, 640};
+**   int32_t x[3] = {64, 0, 128}, y[3] = {64, 0, 128}, value[3] = {768, 576, 700};
+**   uint32_t observed[3] = {990, 1000, 990}, from[3] = {0, 0, 0};
+**   uint32_t until[3] = {SOSNYAVIK_NO_END, SOSNYAVIK_NO_END, 995};
+**   int32_t radius[1] = {96}, limit[1] = {200}, grid[9];
+**   uint8_t support[9], verdict[3];
+**   uint32_t r = sosnyavik_analyse(3, 3, first_guess, 9, x, 3, y, 3, value, 3,
+**                                  observed, 3, from, 3, until, 3,
+**                                  1, radius, 1, limit, 1, false, 1000, 60,
+**                                  grid, 9, support, 9, verdict, 3);
+**
+** Now r is 0, grid is 585, 672, 768, 672, 759, 768, 768, 768, 768, each byte
+** of support is 1, and verdict is 0, 0, 2.
+*/
+/* clang-format off */
+uint32_t sosnyavik_analyse(
+    uint32_t nx, uint32_t ny, const int32_t *first_guess, size_t first_guess_len,
+    const int32_t *x, size_t x_len,
+    const int32_t *y, size_t y_len,
+    const int32_t *value, size_t value_len,
+    const uint32_t *observed, size_t observed_len,
+    const uint32_t *from, size_t from_len,
+    const uint32_t *until, size_t until_len,
+    uint32_t scans,
+    const int32_t *radius, size_t radius_len,
+    const int32_t *limit, size_t limit_len,
+    bool smooth, uint32_t time, uint32_t age,
+    int32_t *grid, size_t grid_len,
+    uint8_t *support, size_t support_len,
+    uint8_t *verdict, size_t verdict_len);
+/* clang-format on */
+
+#ifdef __cplusplus
+}
+#endif
+
+#endif
