@@ -19,6 +19,7 @@ pub mod Accepted
 pub mod Nearest
 pub mod Weights
 pub mod Cells
+pub mod Stored
 pub mod Bounds
 pub mod Support
 pub mod DeadMasts

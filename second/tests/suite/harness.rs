@@ -117,8 +117,10 @@ fn refused_cases_of_every_number_are_made_small() {
     for (number, case) in shrink_refused::<AnalysisCase, Analysis>(300) {
         let call = case.0;
         let rows = if number == 4 { 513 } else { 1 };
-        let points = if number == 1 { 4096 } else { 4 };
+        let points = if number == 1 { 130 } else { 4 };
         assert!(call.x.len() <= rows && call.first_guess.len() <= points, "{number}: {call:?}");
+        let others = call.y.len().max(call.value.len()).max(call.observed.len());
+        assert!(others.max(call.from.len()).max(call.until.len()) <= rows, "{number}: {call:?}");
     }
     for (number, case) in shrink_refused::<WindowCase, Analysis>(300) {
         let rows = if number == 4 { 513 } else { 1 };
