@@ -258,3 +258,32 @@ roomy-set lx ly ld n x y d r =
       y-long = length-set ly n y ∙ r .y-long;
       d-long = length-set ld n d ∙ r .d-long;
     }
+
+-- the sums over all rows are small too
+module _ (xs ys : List ℤ) (st : List ℕ) (ds : List ℤ) (r2 i j : ℕ) (cs : Columns xs ys st ds) where
+  share-small : (k : ℕ) → k < length xs → natAbs (shareAt xs ys st ds r2 i j k .pulls) ≤ 2000000 * shareAt xs ys st ds r2 i j k .weights
+  unfolding shareAt weightAt
+  share-small k h = go (isAccepted (getD st k 0)) (eqb-true (getD st k 0) 0)
+    where
+      full : ℕ
+      full = weight r2 (square (getD xs k (pos 0) -ℤ pos (64 * i)) + square (getD ys k (pos 0) -ℤ pos (64 * j)))
+
+      go : (b : Bool) → (b ≡ true → getD st k 0 ≡ 0) → natAbs (pos (cond b full 0) *ℤ getD ds k (pos 0)) ≤ 2000000 * cond b full 0
+      go true f = rw (size-mul (pos full) (getD ds k (pos 0))) (omega (arith, mul-le-mul-left full (cs .inside k h (f refl) .d-small)))
+      go false f = rw (zero-*ℤ (getD ds k (pos 0))) (omega arith)
+
+  some-small : (n : ℕ) → n ≤ length xs
+      → natAbs (upTo nothing plus n (shareAt xs ys st ds r2 i j) .pulls) ≤ 2000000 * upTo nothing plus n (shareAt xs ys st ds r2 i j) .weights
+  unfolding upTo
+  some-small zero h = omega arith
+  some-small (suc n) h =
+      omega (
+        arith,
+        size-add (upTo nothing plus n (shareAt xs ys st ds r2 i j) .pulls) (shareAt xs ys st ds r2 i j n .pulls),
+        some-small n (omega arith),
+        share-small n h,
+      )
+
+  pub over-small : natAbs (sumsOver xs ys st ds r2 i j .pulls) ≤ 2000000 * sumsOver xs ys st ds r2 i j .weights
+  unfolding sumsOver
+  over-small = some-small (length xs) (omega arith)

@@ -37,7 +37,7 @@ Within most z = (i j : ℕ) → natAbs (z i j) ≤ most
 abbrev Passed : ℕ → (Station → ℤ) → Row → Type 0
 Passed limit D r = isAccepted (r .verdict) ≡ true → natAbs (D (r .station)) ≤ limit
 
-passed : (scan limit : ℕ) (D : ℤ) (verdict : ℕ) → isAccepted (afterTest scan limit D verdict) ≡ true → natAbs D ≤ limit
+pub passed : (scan limit : ℕ) (D : ℤ) (verdict : ℕ) → isAccepted (afterTest scan limit D verdict) ≡ true → natAbs D ≤ limit
 unfolding afterTest
 passed scan limit D verdict = go (true-or-false (isAccepted verdict)) (true-or-false (ltb limit (natAbs D)))
   where
@@ -46,6 +46,15 @@ passed scan limit D verdict = go (true-or-false (isAccepted verdict)) (true-or-f
     go (inr v) t e = absurd (not-both (sym (rw (v) at e) ∙ v))
     go (inl v) (inr t) e = ltb-false limit (natAbs D) t
     go (inl v) (inl t) e = absurd (let n : 10 + scan ≡ 0 = eqb-true (10 + scan) 0 (rw (v, t) at e) in omega arith)
+
+-- and was accepted before it
+pub was-accepted : (scan limit : ℕ) (D : ℤ) (verdict : ℕ) → isAccepted (afterTest scan limit D verdict) ≡ true → isAccepted verdict ≡ true
+unfolding afterTest
+was-accepted scan limit D verdict e = go (true-or-false (isAccepted verdict))
+  where
+    go : (isAccepted verdict ≡ true) ⊎ (isAccepted verdict ≡ false) → isAccepted verdict ≡ true
+    go (inl v) = v
+    go (inr v) = absurd (not-both (sym (rw v at e) ∙ v))
 
 all-passed : (q : Request) (m : ℕ) (found : State) → All (Passed (E q m) (difference q (found .field))) (rowsJudged q m found)
 unfolding rowsJudged judged
@@ -156,7 +165,7 @@ module _ (q : Request) (sound : Sound q) where
       go (inr h) = rw (List·getD-eq-default (q .firstGuess) (pos 0) h) (omega arith)
 
   -- after m scans
-  after-within : (m : ℕ) → m ≤ q .scans → Within (mostValue + m * mostLimit) (after q m .field)
+  pub after-within : (m : ℕ) → m ≤ q .scans → Within (mostValue + m * mostLimit) (after q m .field)
   unfolding after start
   after-within zero h = λ i j. omega (arith, guess-within i j)
   after-within (suc m) h =

@@ -8,9 +8,9 @@ use mathlib.Core.Logic.{_⊎_, inl, inr}
 use mathlib.Core.List.{List}
 use borrow.Author.Tests.{ltb-true}
 use lib.Arith.{digits-div, digits-mod}
-use lib.ListN.{length, getD}
+use lib.ListN.{length, getD, List·getD-eq-default}
 use lib.IntN.{ℤ, pos, _+ℤ_, _*ℤ_}
-use Rattle.lists.specs.Tests.{true-or-false, and-true}
+use Rattle.lists.specs.Tests.{lt-or-le, true-or-false, and-true}
 use Rattle.lists.specs.Tab.{tab, getD-tab, length-tab, tab-same}
 use Rattle.lists.specs.Sums.{upTo-same}
 use Rattle.scheme.specs.Units.{Field, stored, fieldOf}
@@ -85,3 +85,13 @@ smoothed-same nx ny z z' h i j hi hj = go (true-or-false (inner nx i && inner ny
         let (p, q) = and-true (inner nx i) (inner ny j) e in
         rw e (ap (λ (t : ℤ). rounded t 16) (sums (inner-in nx i p) (inner-in ny j q)))
     go (inr e) = rw e (h i j hi hj)
+
+-- what holds of a field's values, and past its end, holds of the list that stores it
+pub stored-all : {A : Type 0} (P : A → Type 0) (past : A) (nx ny : ℕ) (f : Field A) → P past → ((i j : ℕ) → P (f i j)) → (k : ℕ) → P (getD (stored nx ny f) k past)
+unfolding stored
+stored-all {A = A} P past nx ny f e h k = go (lt-or-le k (nx * ny))
+  where
+    go : (k < nx * ny) ⊎ (nx * ny ≤ k) → P (getD (tab (nx * ny) (λ n. f (n % nx) (n / nx))) k past)
+    go (inl l) = rw (getD-tab (nx * ny) (λ n. f (n % nx) (n / nx)) k past l) (h (k % nx) (k / nx))
+    go (inr l) =
+        rw (List·getD-eq-default (tab (nx * ny) (λ n. f (n % nx) (n / nx))) past {n = k} (omega (arith, length-tab (nx * ny) (λ n. f (n % nx) (n / nx))))) e
