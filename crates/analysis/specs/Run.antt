@@ -64,7 +64,7 @@ module _ (q : Request) (m : ℕ) (z : List ℤ) (sup st : List ℕ) (now : Reach
     pub bit-small : 2 ^ m ≤ 32
     bit-small = pow-le-pow-right {n = 2} (omega arith) few-scans
 
-    pub scan-ready : (ds : List ℤ) → length ds ≡ 512
+    scan-ready : (ds : List ℤ) → length ds ≡ 512
         → ScanReady (q .nx) (q .ny) (q .columns .x) (q .columns .y) (q .columns .value) (R q m) (E q m) (m + 1) (2 ^ m) z sup st ds
     scan-ready ds long =
         record {
@@ -102,7 +102,7 @@ module _ (q : Request) (m : ℕ) (z : List ℤ) (sup st : List ℕ) (now : Reach
             (stored-all (λ (b : ℕ). b + 2 ^ m < 256) 0 (q .nx) (q .ny) (after q m .support) (omega (arith, bit-small))
             (λ i j. omega (arith, support-small q i j m, bit-small)) k)
 
-    pub next : (z' : List ℤ) (sup' st' : List ℕ) (ds : List ℤ)
+    next : (z' : List ℤ) (sup' st' : List ℕ) (ds : List ℤ)
         → Scanned (q .nx) (q .ny) (q .columns .x) (q .columns .y) (q .columns .value) (q .smooth) (R q m) (E q m) (m + 1) (2 ^ m) z sup st z' sup' st' ds
         → Reached q (m + 1) z' sup' st'
     unfolding after
@@ -113,3 +113,14 @@ module _ (q : Request) (m : ℕ) (z : List ℤ) (sup st : List ℕ) (now : Reach
           holds = scan-holds q (now .sound .shape) m (after q m) z sup st (now .holds) (now .on-grid) z' sup' st' ds did;
           on-grid = scan-on-grid q (now .sound .shape) m (after q m) z sup st (now .holds) (now .on-grid) z' sup' st' ds did;
         })
+
+    -- the same, of the numbers that the code has
+    module _ (radius limit bit : ℕ) (radius-is : radius ≡ R q m) (limit-is : limit ≡ E q m) (bit-is : bit ≡ 2 ^ m) where
+      pub ready-for : (ds : List ℤ) → length ds ≡ 512
+          → ScanReady (q .nx) (q .ny) (q .columns .x) (q .columns .y) (q .columns .value) radius limit (m + 1) bit z sup st ds
+      ready-for ds long = rw (radius-is, limit-is, bit-is) (scan-ready ds long)
+
+      pub next-after : (z' : List ℤ) (sup' st' : List ℕ) (ds : List ℤ)
+          → Scanned (q .nx) (q .ny) (q .columns .x) (q .columns .y) (q .columns .value) (q .smooth) radius limit (m + 1) bit z sup st z' sup' st' ds
+          → Reached q (m + 1) z' sup' st'
+      next-after z' sup' st' ds did = next z' sup' st' ds (rw (radius-is, limit-is, bit-is) at did)
