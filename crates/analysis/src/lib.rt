@@ -1,12 +1,23 @@
 // The whole analysis over lent slices (document 01): refusals in the table's order, then the scans, in the caller's own slices.
 ghost use mathlib.Core.Path.{_≡_};
+ghost use mathlib.Core.Bool.{not, _||_};
 ghost use Prim.Native.Nat.{ℕ, _+_, _*_, _≤_, _<_};
+ghost use lib.Dec.{eqb, ltb};
 ghost use lib.ListN.{length};
+ghost use lib.IntN.{pos};
+ghost use Rattle.lists.specs.Tab.{tab};
+ghost use Rattle.lists.specs.First.{first, ended};
+ghost use Rattle.scheme.specs.Units.{Request, stationAt, valueInRange};
+ghost use Rattle.scheme.specs.Refusals.{badShape, badScan, badGuess, badStation, analysisRefusal};
+ghost use Rattle.scheme.specs.Verdicts.{beforeScans};
 ghost use Rattle.scheme.specs.Accepted.{Shaped};
 ghost use Rattle.smoothing.specs.Pattern.{Small};
+ghost use Rattle.station.specs.Verdict.{Suits, stationOf};
 ghost use Rattle.analysis.specs.Scanned.{Scanned};
 ghost use Rattle.analysis.specs.Ready.{ScanReady, smoothedIf};
 ghost use Rattle.analysis.specs.Run.{Rest, requestWith, Reached};
+ghost use Rattle.analysis.specs.Start.{columnsOf6, VerdictsReady};
+
 
 // Smoothing, if it is on.
 fn smooth_if(z: &mut [i32], nx: usize, ny: usize, on: bool)
@@ -86,5 +97,65 @@ fn scans(
         );
         bit = bit * 2;
         m += 1;
+    }
+}
+
+// ---- before the first scan
+
+fn copy(to: &mut [i32], from: &[i32])
+    requires { ⌜ (length (now to) ≡ length (now from)) × (length (now from) ≤ 4096) ⌝ }
+    ensures { λ u. ⌜ now (to .exit) ≡ now (from .entry) ⌝ }
+{
+    let mut k: usize = 0;
+    while k < from.len() {
+        to[k] = from[k];
+        k += 1;
+    }
+}
+
+fn clear(to: &mut [u8])
+    requires { ⌜ length (now to) ≤ 4096 ⌝ }
+    ensures { λ u. ⌜ now (to .exit) ≡ tab (length (now (to .entry))) (λ k. 0) ⌝ }
+{
+    let mut k: usize = 0;
+    while k < to.len() {
+        to[k] = 0;
+        k += 1;
+    }
+}
+
+// The verdict of each row before the first scan.
+fn first_verdicts(
+    verdict: &mut [u8],
+    x: &[i32],
+    y: &[i32],
+    value: &[i32],
+    observed: &[u32],
+    from: &[u32],
+    until: &[u32],
+    nx: usize,
+    ny: usize,
+    time: u32,
+    age: u32,
+)
+    requires { ⌜ VerdictsReady nx ny (columnsOf6 (now x) (now y) (now value) (now observed) (now from) (now until)) (length (now verdict)) ⌝ }
+    ensures { λ u. ⌜ ((q : Request) → Suits q nx ny time age
+        → now (verdict .exit) ≡ tab (length (now (x .entry))) (λ k. beforeScans q (stationAt (columnsOf6 (now (x .entry)) (now (y .entry)) (now (value .entry)) (now (observed .entry)) (now (from .entry)) (now (until .entry))) k))) ⌝ }
+{
+    let mut k: usize = 0;
+    while k < x.len() {
+        verdict[k] = station::first_verdict(
+            x[k],
+            y[k],
+            value[k],
+            observed[k],
+            from[k],
+            until[k],
+            nx,
+            ny,
+            time,
+            age,
+        );
+        k += 1;
     }
 }

@@ -1,9 +1,11 @@
 -- The first bad place of a search.
 use Prim.Native.Nat.{ℕ, zero, suc, _+_, _≤_, _<_}
 use native.Mathlib.Omega.{arith}
-use mathlib.Core.Path.{_≡_, refl}
+use mathlib.Core.Path.{_≡_, refl, sym}
 use mathlib.Core.Logic.{_⊎_, inl, inr}
 use mathlib.Core.Bool.{Bool, true, false, cond}
+use borrow.Author.Tests.{lt-ltb, le-ltb}
+use lib.Dec.{ltb}
 use Rattle.lists.specs.Tests.{lt-or-le, true-or-false}
 
 pub data Found : Type 0 where
@@ -19,6 +21,10 @@ orNext (at k) next = at k
 unfoldable pub first : ℕ → (ℕ → Bool) → Found
 first zero bad = nowhere
 first (suc n) bad = orNext (first n bad) (cond (bad n) (at n) nowhere)
+
+-- a search over n places that ends at r: there, or past them all
+abbrev pub ended : ℕ → ℕ → Found
+ended n r = cond (ltb r n) (at r) nowhere
 
 -- ---- laws
 
@@ -83,3 +89,10 @@ first-good n bad e = go (search n bad)
     go : Search n bad → Good n bad
     go (all-good q g) = g
     go (bad-at k q f) = absurd (let z : _≡_ {A = ℕ} 0 1 = cc in omega arith)
+
+-- how a search ends
+pub ends-at : (n : ℕ) (bad : ℕ → Bool) (k : ℕ) → k < n → Good k bad → bad k ≡ true → ended n k ≡ first n bad
+ends-at n bad k h g b = rw (lt-ltb k n h) (sym (bad-first n bad k (record { inside = h; here = b; before = g })))
+
+pub ends-past : (n : ℕ) (bad : ℕ → Bool) (k : ℕ) → n ≤ k → Good n bad → ended n k ≡ first n bad
+ends-past n bad k h g = rw (le-ltb k n h) (sym (good-first n bad g))

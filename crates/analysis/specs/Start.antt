@@ -1,0 +1,102 @@
+-- The slices before the first scan hold the run's start.
+use Prim.Native.Nat.{ℕ, _+_, _-_, _*_, _/_, _%_, _≤_, _<_}
+use native.Mathlib.Omega.{arith}
+use native.Mathlib.Nat.{div-add-mod'}
+use mathlib.Core.Path.{_≡_, refl, sym, ap, _∙_}
+use mathlib.Core.Bool.{Bool, true, false, not, cond, _&&_}
+use mathlib.Core.List.{List, [], _∷_, map}
+use borrow.Author.Tests.{leb-true, not-false}
+use lib.Dec.{leb, ltb}
+use lib.ListN.{length, getD}
+use lib.IntN.{ℤ, pos, negsuc, natAbs}
+use Rattle.lists.specs.Tests.{and-true, not-both}
+use Rattle.lists.specs.Tab.{tab, length-tab, getD-tab, is-tab, map-tab, tab-same}
+use Rattle.scheme.specs.Units.{Request, Columns, Station, stationAt, stations, guess, stored, fieldOf, isMissing}
+use Rattle.scheme.specs.Verdicts.{missing, outOfService, observedAfter, tooOld, onAxis, offGrid, firstThatFits, beforeScans}
+use Rattle.scheme.specs.Difference.{Row}
+use Rattle.scheme.specs.Scan.{start, after}
+use Rattle.scheme.specs.Accepted.{Sound}
+use Rattle.station.specs.Judge.{OnGrid}
+use Rattle.analysis.specs.Scanned.{rowOf, Holds}
+use Rattle.analysis.specs.Run.{Reached}
+
+abbrev pub columnsOf6 : (xs ys vs : List ℤ) (os fs us : List ℕ) → Columns
+columnsOf6 xs ys vs os fs us = record { x = xs; y = ys; value = vs; observed = os; from = fs; until = us }
+
+-- what the first verdicts need
+pub record VerdictsReady (nx ny : ℕ) (c : Columns) (room : ℕ) : Type 0 where
+  pub two-columns : 2 ≤ nx
+  pub few-columns : nx ≤ 64
+  pub two-rows : 2 ≤ ny
+  pub few-rows : ny ≤ 64
+  pub y : length (c .y) ≡ length (c .x)
+  pub value : length (c .value) ≡ length (c .x)
+  pub observed : length (c .observed) ≡ length (c .x)
+  pub from : length (c .from) ≡ length (c .x)
+  pub until : length (c .until) ≡ length (c .x)
+  pub few : length (c .x) ≤ 512
+  pub room-is : room ≡ length (c .x)
+
+-- a stored first guess is stored
+pub guess-stored : (nx ny : ℕ) (l : List ℤ) → length l ≡ nx * ny → l ≡ stored nx ny (fieldOf (pos 0) nx l)
+unfolding stored fieldOf
+guess-stored nx ny l e = is-tab (pos 0) (nx * ny) _ l e (λ k h. ap (λ (n : ℕ). getD l n (pos 0)) (sym (div-add-mod' k nx)))
+
+-- an accepted row is there and on the grid
+all-five : (a b c d e : Bool) → firstThatFits ((a, 1) ∷ (b, 2) ∷ (c, 3) ∷ (d, 4) ∷ (e, 5) ∷ []) ≡ 0 → (a ≡ false) × (e ≡ false)
+unfolding firstThatFits
+all-five true b c d e h = absurd (omega arith)
+all-five false true c d e h = absurd (omega arith)
+all-five false false true d e h = absurd (omega arith)
+all-five false false false true e h = absurd (omega arith)
+all-five false false false false true h = absurd (omega arith)
+all-five false false false false false h = (refl, refl)
+
+on-axis : (n : ℕ) (x : ℤ) → onAxis n x ≡ true → (x ≡ pos (natAbs x)) × (natAbs x ≤ 64 * (n - 1))
+unfolding onAxis
+on-axis n (pos x) e = (refl, leb-true x (64 * (n - 1)) e)
+on-axis n (negsuc x) e = absurd (not-both (sym e))
+
+accepted-on-grid : (q : Request) (s : Station) → beforeScans q s ≡ 0 → (isMissing (s .value) ≡ false) × (onAxis (q .nx) (s .x) ≡ true) × (onAxis (q .ny) (s .y) ≡ true)
+unfolding beforeScans missing offGrid
+accepted-on-grid q s e =
+    let (a, b) = all-five _ _ _ _ _ e in
+    let (x, y) = and-true _ _ (not-false _ b) in
+    (a, x, y)
+
+-- the start
+module _ (q : Request) (sound : Sound q) (st : List ℕ)
+    (verdicts : st ≡ tab (length (q .columns .x)) (λ k. beforeScans q (stationAt (q .columns) k))) where
+  verdict-is : (k : ℕ) → k < length (q .columns .x) → getD st k 0 ≡ beforeScans q (stationAt (q .columns) k)
+  verdict-is k h = ap (λ (l : List ℕ). getD l k 0) verdicts ∙ getD-tab (length (q .columns .x)) _ k 0 h
+
+  start-rows : start q .rows ≡ tab (length (q .columns .x)) (rowOf (q .columns) st)
+  unfolding start stations
+  start-rows = map-tab _ (length (q .columns .x)) (stationAt (q .columns)) ∙ tab-same (length (q .columns .x)) _ _ same
+    where
+      same : (k : ℕ) → k < length (q .columns .x) → record { station = stationAt (q .columns) k; verdict = beforeScans q (stationAt (q .columns) k) } ≡ rowOf (q .columns) st k
+      same k h = cc (verdict-is k h)
+
+  on-grid : (k : ℕ) → k < length (q .columns .x) → getD st k 0 ≡ 0
+      → OnGrid (q .nx) (q .ny) (getD (q .columns .x) k (pos 0)) (getD (q .columns .y) k (pos 0)) (getD (q .columns .value) k (pos 0))
+  unfolding stationAt
+  on-grid k h e =
+      let (there, x, y) = accepted-on-grid q (stationAt (q .columns) k) (sym (verdict-is k h) ∙ e) in
+      let (x-is, x-in) = on-axis (q .nx) _ x in
+      let (y-is, y-in) = on-axis (q .ny) _ y in
+      record { x-is = x-is; x-in = x-in; y-is = y-is; y-in = y-in; v-small = sound .stations k h .value there }
+
+  pub starts : (sup : List ℕ) → sup ≡ tab (q .nx * q .ny) (λ k. 0) → Reached q 0 (q .firstGuess) sup st
+  unfolding after start guess stored
+  starts sup e =
+      record {
+        sound = sound;
+        holds =
+            record {
+              field = guess-stored (q .nx) (q .ny) (q .firstGuess) (sound .shape .whole);
+              support = e;
+              rows = start-rows;
+              long = ap length verdicts ∙ length-tab (length (q .columns .x)) _;
+            };
+        on-grid = on-grid;
+      }
