@@ -3,3 +3,4 @@ pub mod Scanned
 pub mod Ready
 pub mod Run
 pub mod Start
+pub mod Whole

@@ -1,23 +1,20 @@
 // The whole analysis over lent slices (document 01): refusals in the table's order, then the scans, in the caller's own slices.
 ghost use mathlib.Core.Path.{_≡_};
-ghost use mathlib.Core.Bool.{not, _||_};
 ghost use Prim.Native.Nat.{ℕ, _+_, _*_, _≤_, _<_};
-ghost use lib.Dec.{eqb, ltb};
 ghost use lib.ListN.{length};
-ghost use lib.IntN.{pos};
 ghost use Rattle.lists.specs.Tab.{tab};
-ghost use Rattle.lists.specs.First.{first, ended};
-ghost use Rattle.scheme.specs.Units.{Request, stationAt, valueInRange};
-ghost use Rattle.scheme.specs.Refusals.{badShape, badScan, badGuess, badStation, analysisRefusal};
+ghost use Rattle.scheme.specs.Units.{Request, stationAt};
 ghost use Rattle.scheme.specs.Verdicts.{beforeScans};
+ghost use Rattle.scheme.specs.Scan.{analysis};
 ghost use Rattle.scheme.specs.Accepted.{Shaped};
+ghost use Rattle.scheme.specs.Promises.{requestOf, slices, lengthsOf, Analyses};
 ghost use Rattle.smoothing.specs.Pattern.{Small};
-ghost use Rattle.station.specs.Verdict.{Suits, stationOf};
+ghost use Rattle.station.specs.Verdict.{Suits};
 ghost use Rattle.analysis.specs.Scanned.{Scanned};
 ghost use Rattle.analysis.specs.Ready.{ScanReady, smoothedIf};
 ghost use Rattle.analysis.specs.Run.{Rest, requestWith, Reached};
 ghost use Rattle.analysis.specs.Start.{columnsOf6, VerdictsReady};
-
+ghost use Rattle.analysis.specs.Whole.{WorkReady};
 
 // Smoothing, if it is on.
 fn smooth_if(z: &mut [i32], nx: usize, ny: usize, on: bool)
@@ -158,4 +155,102 @@ fn first_verdicts(
         );
         k += 1;
     }
+}
+
+// ---- the whole analysis
+
+// The work on an accepted request, in the caller's own slices.
+fn work(
+    nx: usize,
+    ny: usize,
+    guess: &[i32],
+    x: &[i32],
+    y: &[i32],
+    value: &[i32],
+    observed: &[u32],
+    from: &[u32],
+    until: &[u32],
+    count: usize,
+    radius: &[i32],
+    limit: &[i32],
+    smooth: bool,
+    time: u32,
+    age: u32,
+    grid: &mut [i32],
+    support: &mut [u8],
+    verdict: &mut [u8],
+)
+    requires { ⌜ WorkReady (requestOf nx ny (now guess) (now x) (now y) (now value) (now observed) (now from) (now until) count (now radius) (now limit) smooth time age) (lengthsOf (slices (now grid) (now support) (now verdict))) ⌝ }
+    ensures { λ u. ⌜ slices (now (grid .exit)) (now (support .exit)) (now (verdict .exit)) ≡ analysis (requestOf nx ny (now (guess .entry)) (now (x .entry)) (now (y .entry)) (now (value .entry)) (now (observed .entry)) (now (from .entry)) (now (until .entry)) count (now (radius .entry)) (now (limit .entry)) smooth time age) ⌝ }
+{
+    copy(grid, guess);
+    clear(support);
+    first_verdicts(verdict, x, y, value, observed, from, until, nx, ny, time, age);
+    scans(grid, support, verdict, nx, ny, x, y, value, radius, limit, count, smooth);
+}
+
+// The call: a refusal before anything is written, or the work. It answers refusal·65,536 + place.
+pub fn analyse(
+    nx: u32,
+    ny: u32,
+    guess: &[i32],
+    x: &[i32],
+    y: &[i32],
+    value: &[i32],
+    observed: &[u32],
+    from: &[u32],
+    until: &[u32],
+    count: u32,
+    radius: &[i32],
+    limit: &[i32],
+    smooth: bool,
+    time: u32,
+    age: u32,
+    grid: &mut [i32],
+    support: &mut [u8],
+    verdict: &mut [u8],
+) -> u32
+    ensures { λ r. ⌜ Analyses (requestOf nx ny (now (guess .entry)) (now (x .entry)) (now (y .entry)) (now (value .entry)) (now (observed .entry)) (now (from .entry)) (now (until .entry)) count (now (radius .entry)) (now (limit .entry)) smooth time age) (slices (now (grid .entry)) (now (support .entry)) (now (verdict .entry))) r (slices (now (grid .exit)) (now (support .exit)) (now (verdict .exit))) ⌝ }
+{
+    let refused = refusal::of_analysis(
+        nx as usize,
+        ny as usize,
+        guess,
+        x,
+        y,
+        value,
+        observed,
+        from,
+        until,
+        count as usize,
+        radius,
+        limit,
+        grid.len(),
+        support.len(),
+        verdict.len(),
+    );
+    if refused != 0 {
+        return refused;
+    }
+    work(
+        nx as usize,
+        ny as usize,
+        guess,
+        x,
+        y,
+        value,
+        observed,
+        from,
+        until,
+        count as usize,
+        radius,
+        limit,
+        smooth,
+        time,
+        age,
+        grid,
+        support,
+        verdict,
+    );
+    0
 }

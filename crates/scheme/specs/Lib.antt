@@ -14,6 +14,7 @@ pub mod Scan
 pub mod Reach
 pub mod Readings
 pub mod Text
+pub mod Promises
 -- PROVED: theorems about the definitions above.
 pub mod Accepted
 pub mod Nearest

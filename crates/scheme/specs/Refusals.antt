@@ -23,6 +23,10 @@ abbrev pub placeOf : Refusal → ℕ
 placeOf accepted = 0
 placeOf (refused number place) = place
 
+-- Analysis and window query return refusal·65,536 + place as one u32
+abbrev pub asOne : Refusal → ℕ
+asOne r = numberOf r * 65536 + placeOf r
+
 -- tested in this order: the first that refuses
 unfoldable pub inOrder : List Refusal → Refusal
 inOrder [] = accepted

@@ -1,0 +1,99 @@
+-- An accepted call: what its slices measure, and that after the last scan they hold the analysis.
+use Prim.Native.Nat.{ℕ, _*_, _≤_}
+use native.Mathlib.Omega.{arith}
+use native.Mathlib.Nat.{mul-le-mul}
+use mathlib.Core.Path.{_≡_, refl, sym, ap, _∙_}
+use mathlib.Core.List.{List, _∷_, map}
+use borrow.Author.Tests.{eqb-true, not-false}
+use lib.ListN.{length, getD}
+use lib.IntN.{ℤ}
+use Rattle.lists.specs.Tests.{or-false}
+use Rattle.lists.specs.Members.{All, more}
+use Rattle.lists.specs.Tab.{tab, map-tab, tab-getD}
+use Rattle.scheme.specs.Units.{Request, stationAt}
+use Rattle.scheme.specs.Refusals.{Refusal, accepted, refused, asOne, Lengths, refusedIf, badShape, badLengths, fromFour, analysisRefusal}
+use Rattle.scheme.specs.Verdicts.{beforeScans}
+use Rattle.scheme.specs.Difference.{Row}
+use Rattle.scheme.specs.Scan.{Analysis, after, analysis}
+use Rattle.scheme.specs.Accepted.{Sound, all-accepted, not-refused, analysis-sound}
+use Rattle.scheme.specs.Promises.{slices, lengthsOf, leftBy, Analyses}
+use Rattle.refusal.specs.Coded.{Coded}
+use Rattle.analysis.specs.Scanned.{rowOf}
+use Rattle.analysis.specs.Run.{Reached}
+use Rattle.analysis.specs.Start.{VerdictsReady, starts}
+
+-- what the work needs
+pub record WorkReady (q : Request) (l : Lengths) : Type 0 where
+  pub sound : Sound q
+  pub grid : l .grid ≡ q .nx * q .ny
+  pub support : l .support ≡ q .nx * q .ny
+  pub verdict : l .verdict ≡ length (q .columns .x)
+
+pub ready : (q : Request) (l : Lengths) → analysisRefusal q l ≡ accepted → WorkReady q l
+unfolding analysisRefusal badLengths
+ready q l e = go (all-accepted _ e)
+  where
+    go : All (λ r. r ≡ accepted) (refusedIf 1 (badShape (q .nx) (q .ny) (length (q .firstGuess))) ∷ refusedIf 3 (badLengths q l) ∷ fromFour q) → WorkReady q l
+    go (more one (more three rest)) =
+        let (f, v) = or-false _ _ (not-refused 3 _ three) in
+        let (g, s) = or-false _ _ f in
+        record {
+          sound = analysis-sound q l e;
+          grid = eqb-true _ _ (not-false _ g);
+          support = eqb-true _ _ (not-false _ s);
+          verdict = eqb-true _ _ (not-false _ v);
+        }
+
+module _ (q : Request) (l : Lengths) (w : WorkReady q l) where
+  pub few-points : q .nx * q .ny ≤ 4096
+  few-points = mul-le-mul (w .sound .shape .few-columns) (w .sound .shape .few-rows)
+
+  pub verdicts-ready : VerdictsReady (q .nx) (q .ny) (q .columns) (l .verdict)
+  verdicts-ready =
+      record {
+        two-columns = w .sound .shape .two-columns;
+        few-columns = w .sound .shape .few-columns;
+        two-rows = w .sound .shape .two-rows;
+        few-rows = w .sound .shape .few-rows;
+        y = w .sound .columns .y;
+        value = w .sound .columns .value;
+        observed = w .sound .columns .observed;
+        from = w .sound .columns .from;
+        until = w .sound .columns .until;
+        few = w .sound .columns .few;
+        room-is = w .verdict;
+      }
+
+  -- before the first scan
+  pub begins : (z : List ℤ) (sup st : List ℕ) → z ≡ q .firstGuess → sup ≡ tab (l .support) (λ k. 0)
+      → st ≡ tab (length (q .columns .x)) (λ k. beforeScans q (stationAt (q .columns) k)) → Reached q 0 z sup st
+  begins z sup st ez es ev = rw ez (starts q (w .sound) st ev sup (es ∙ ap (λ (n : ℕ). tab n (λ k. 0)) (w .support)))
+
+-- after the last scan
+pub whole : (q : Request) (z : List ℤ) (sup st : List ℕ) → Reached q (q .scans) z sup st → slices z sup st ≡ analysis q
+unfolding analysis
+whole q z sup st r = cc (r .holds .field, r .holds .support, verdicts)
+  where
+    verdicts : st ≡ map (λ (o : Row). o .verdict) (after q (q .scans) .rows)
+    verdicts =
+        sym
+        (ap (map (λ (o : Row). o .verdict)) (r .holds .rows)
+        ∙ map-tab (λ (o : Row). o .verdict) (length (q .columns .x)) (rowOf (q .columns) st)
+        ∙ ap (λ (n : ℕ). tab n (λ k. getD st k 0)) (sym (r .holds .long))
+        ∙ tab-getD st 0)
+
+-- ---- the two outcomes
+
+pub refuses : (q : Request) (found : Analysis) (r : ℕ) → Coded r (analysisRefusal q (lengthsOf found)) → (r ≡ 0 → ⊥) → Analyses q found r found
+unfolding leftBy
+refuses q found r c some = record { answers = c .same; leaves = go (analysisRefusal q (lengthsOf found)) (c .same) }
+  where
+    go : (f : Refusal) → r ≡ asOne f → found ≡ leftBy f q found
+    go accepted e = absurd (some e)
+    go (refused number place) e = refl
+
+pub works : (q : Request) (found left : Analysis) (r : ℕ) → Coded r (analysisRefusal q (lengthsOf found)) → r ≡ 0 → left ≡ analysis q → Analyses q found 0 left
+unfolding leftBy
+works q found left r c none e =
+    let a = c .only none in
+    record { answers = sym none ∙ c .same; leaves = e ∙ rw a }

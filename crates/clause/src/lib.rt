@@ -1,0 +1,47 @@
+// The exports of the archive: each hands its arguments on, and promises what the call behind it promises. See include/sosnyavik.h.
+ghost use Rattle.scheme.specs.Promises.{requestOf, slices, Analyses};
+
+#[no_mangle]
+pub extern "C" fn sosnyavik_analyse(
+    nx: u32,
+    ny: u32,
+    guess: &[i32],
+    x: &[i32],
+    y: &[i32],
+    value: &[i32],
+    observed: &[u32],
+    from: &[u32],
+    until: &[u32],
+    count: u32,
+    radius: &[i32],
+    limit: &[i32],
+    smooth: bool,
+    time: u32,
+    age: u32,
+    grid: &mut [i32],
+    support: &mut [u8],
+    verdict: &mut [u8],
+) -> u32
+    ensures { λ r. ⌜ Analyses (requestOf nx ny (now (guess .entry)) (now (x .entry)) (now (y .entry)) (now (value .entry)) (now (observed .entry)) (now (from .entry)) (now (until .entry)) count (now (radius .entry)) (now (limit .entry)) smooth time age) (slices (now (grid .entry)) (now (support .entry)) (now (verdict .entry))) r (slices (now (grid .exit)) (now (support .exit)) (now (verdict .exit))) ⌝ }
+{
+    analysis::analyse(
+        nx,
+        ny,
+        guess,
+        x,
+        y,
+        value,
+        observed,
+        from,
+        until,
+        count,
+        radius,
+        limit,
+        smooth,
+        time,
+        age,
+        grid,
+        support,
+        verdict,
+    )
+}

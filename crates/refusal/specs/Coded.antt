@@ -1,0 +1,76 @@
+-- A refusal and its place, as the one number that a call answers.
+use Prim.Native.Nat.{ℕ, _+_, _*_, _≤_, _<_}
+use native.Mathlib.Omega.{arith}
+use mathlib.Core.Path.{_≡_, refl, sym, ap, _∙_}
+use mathlib.Core.Bool.{Bool, true, false, not, _||_}
+use mathlib.Core.List.{List, [], _∷_}
+use borrow.Author.Tests.{lt-ltb, le-ltb, leb-true, ltb-false, not-false}
+use lib.Dec.{leb, ltb}
+use lib.ListN.{length}
+use lib.IntN.{ℤ}
+use Rattle.lists.specs.Tests.{and-true, or-false}
+use Rattle.lists.specs.First.{Found, nowhere, at, first, ended}
+use Rattle.scheme.specs.Units.{Request, stationAt, among, mostScans}
+use Rattle.scheme.specs.Refusals.{Refusal, accepted, refused, asOne, inOrder, refusedIf, refusedAt, badScan, badGuess, badStation}
+use Rattle.scheme.specs.Accepted.{Shaped}
+
+-- the number says the refusal, and 0 says that there is none
+pub record Coded (r : ℕ) (f : Refusal) : Type 0 where
+  pub same : r ≡ asOne f
+  pub only : r ≡ 0 → f ≡ accepted
+
+-- ---- rows 6 to 8
+
+abbrev pub fromSix : Request → List Refusal
+fromSix q =
+    refusedAt 6 (first (q .scans) (badScan q))
+    ∷ refusedAt 7 (first (length (q .firstGuess)) (badGuess q))
+    ∷ refusedAt 8 (first (length (q .columns .x)) (λ k. badStation (stationAt (q .columns) k)))
+    ∷ []
+
+-- what their tests need of the rows before
+pub record SixReady (nx ny : ℕ) (fg xs ys vs : List ℤ) (fs us : List ℕ) (scans : ℕ) (radius limit : List ℤ) : Type 0 where
+  pub shape : Shaped nx ny (length fg)
+  pub scans-few : scans ≤ 6
+  pub radii : scans ≤ length radius
+  pub limits : scans ≤ length limit
+  pub few : length xs ≤ 512
+  pub y : length ys ≡ length xs
+  pub value : length vs ≡ length xs
+  pub from : length fs ≡ length xs
+  pub until : length us ≡ length xs
+
+pub scans-fit : (s r l : ℕ) → not (among 1 mostScans s) || ltb r s || ltb l s ≡ false → (s ≤ 6) × (s ≤ r) × (s ≤ l)
+scans-fit s r l e =
+    let (f, limits) = or-false _ _ e in
+    let (count, radii) = or-false _ _ f in
+    let (some, few) = and-true (leb 1 s) (leb s mostScans) (not-false _ count) in
+    (leb-true s mostScans few, ltb-false r s radii, ltb-false l s limits)
+
+-- ---- lists of tests: the first is settled, or the rest decide
+
+module _ (number : ℕ) (rest : List Refusal) (some : 1 ≤ number) where
+  pub refused-here : (bad : Bool) (r : ℕ) → bad ≡ true → r ≡ number * 65536 + 0 → Coded r (inOrder (refusedIf number bad ∷ rest))
+  unfolding inOrder refusedIf
+  refused-here bad r e h = rw e (record { same = h; only = λ z. absurd (omega arith) })
+
+  pub not-here : (bad : Bool) (r : ℕ) → bad ≡ false → Coded r (inOrder rest) → Coded r (inOrder (refusedIf number bad ∷ rest))
+  unfolding inOrder refusedIf
+  not-here bad r e h = rw e h
+
+  pub refused-there : (f : Found) (n k r : ℕ) → ended n k ≡ f → k < n → r ≡ number * 65536 + k → Coded r (inOrder (refusedAt number f ∷ rest))
+  unfolding inOrder refusedAt
+  refused-there f n k r e l h =
+      let a : f ≡ at k = sym e ∙ rw (lt-ltb k n l) in
+      rw a (record { same = h; only = λ z. absurd (omega arith) })
+
+  pub not-there : (f : Found) (n k r : ℕ) → ended n k ≡ f → n ≤ k → Coded r (inOrder rest) → Coded r (inOrder (refusedAt number f ∷ rest))
+  unfolding inOrder refusedAt
+  not-there f n k r e l h =
+      let a : f ≡ nowhere = sym e ∙ rw (le-ltb k n l) in
+      rw a h
+
+-- no test is left
+pub none-left : Coded 0 (inOrder [])
+unfolding inOrder
+none-left = record { same = refl; only = λ z. refl }
