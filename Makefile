@@ -1,12 +1,15 @@
-# make run: answer a request.  make test: the gate.
-.PHONY: run test tools clean
+# make run: answer a request.  make test: the gate.  make bench: the archive against plain C.
+.PHONY: run test bench tools clean
 .DEFAULT_GOAL := test
 
 CARGO = CARGO_TARGET_DIR=build/second cargo
 REQUEST ?= examples/paper.txt
 
+# the archive is x86-64 code: elsewhere it is linked by a cross compiler and run by an emulator
+X86_TOOLS = $(if $(filter x86_64,$(shell uname -m)),gcc,x86_64-linux-gnu-gcc qemu-x86_64-static)
+
 tools:
-	@scripts/tools rt git cargo rustfmt clang-format shellcheck
+	@scripts/tools rt git cargo rustfmt clang-format shellcheck $(X86_TOOLS)
 
 # The proved program is yet to come: until then the second program answers.
 run:
@@ -17,6 +20,12 @@ run:
 test: tools
 	@scripts/test-gate
 	@scripts/gate
+
+bench:
+	@scripts/tools rt
+	@mkdir -p build/bench
+	@rt staticlib clause > build/bench/staticlib.log 2>&1 || { echo "make bench: rt staticlib clause failed: see build/bench/staticlib.log" >&2; exit 1; }
+	@bench/run target/staticlib
 
 clean:
 	@rm -rf build target

@@ -1,9 +1,9 @@
 //! The five kinds of comparison: analysis, window, reading, summary, text.
 
 use crate::call::{Analysis, Call, Query, Refusal, Window};
-use crate::compare::{read, Case, Results, Subject};
+use crate::compare::{read, Answer, Case, Results, Subject};
 use crate::generate;
-use crate::guarded::{Guarded, BYTE_PATTERN, GRID_PATTERN};
+use crate::patterned::{Patterned, BYTE_PATTERN, GRID_PATTERN};
 use crate::reading::Reading;
 use crate::scheme::analyse;
 use crate::shrink;
@@ -14,7 +14,6 @@ use crate::window::{pick, whole};
 use crate::write::{listing, printf_form, rerun_form};
 
 const VERDICTS: [u32; 12] = [0, 1, 2, 3, 4, 5, 11, 12, 13, 14, 15, 16];
-const NOT_OFFERED: &str = "the subject does not offer this call";
 
 /// The floors of the kinds that run the scheme.
 fn scheme_floors(accepted: u64, refusals: &[u32]) -> Vec<Floor> {
@@ -32,9 +31,10 @@ fn count_scheme(call: &Call, outcome: &Result<Analysis, Refusal>, tally: &mut Ta
     }
 }
 
-fn unlike_code<T>(code: Option<u32>, outcome: &Result<T, Refusal>) -> Option<String> {
-    let Some(code) = code else {
-        return Some(NOT_OFFERED.to_string());
+fn unlike_code<T>(code: Answer<u32>, outcome: &Result<T, Refusal>) -> Option<String> {
+    let code = match code {
+        Ok(code) => code,
+        Err(wrong) => return Some(wrong),
     };
     let (number, place) = match outcome {
         Ok(_) => (0, 0),
@@ -68,9 +68,9 @@ impl Case for AnalysisCase {
 
     fn difference(&self, expected: &Self::Expected, subject: &dyn Subject) -> Option<String> {
         let call = &self.0;
-        let mut grid = Guarded::new("grid", call.grid_len, GRID_PATTERN);
-        let mut support = Guarded::new("support", call.support_len, BYTE_PATTERN);
-        let mut verdict = Guarded::new("verdict", call.verdict_len, BYTE_PATTERN);
+        let mut grid = Patterned::new("grid", call.grid_len, GRID_PATTERN);
+        let mut support = Patterned::new("support", call.support_len, BYTE_PATTERN);
+        let mut verdict = Patterned::new("verdict", call.verdict_len, BYTE_PATTERN);
         let results =
             Results { grid: grid.lent(), support: support.lent(), verdict: verdict.lent() };
         let code = subject.analyse(call, results);
@@ -125,8 +125,8 @@ impl Case for WindowCase {
 
     fn difference(&self, expected: &Self::Expected, subject: &dyn Subject) -> Option<String> {
         let (call, window) = (&self.call, &self.window);
-        let mut grid = Guarded::new("grid", call.grid_len, GRID_PATTERN);
-        let mut support = Guarded::new("support", call.support_len, BYTE_PATTERN);
+        let mut grid = Patterned::new("grid", call.grid_len, GRID_PATTERN);
+        let mut support = Patterned::new("support", call.support_len, BYTE_PATTERN);
         let results = Results { grid: grid.lent(), support: support.lent(), verdict: &mut [] };
         let code = subject.window(call, window, results);
         let answer = expected.as_ref().ok();
@@ -182,10 +182,9 @@ impl Case for ReadingCase {
     }
 
     fn difference(&self, expected: &Reading, subject: &dyn Subject) -> Option<String> {
-        let kind = subject.reading_kind(&self.0);
-        let value = subject.reading_value(&self.0);
-        let (Some(kind), Some(value)) = (kind, value) else {
-            return Some(NOT_OFFERED.to_string());
+        let (kind, value) = match (subject.reading_kind(&self.0), subject.reading_value(&self.0)) {
+            (Ok(kind), Ok(value)) => (kind, value),
+            (Err(wrong), _) | (_, Err(wrong)) => return Some(wrong),
         };
         let same = kind == expected.kind() && value.to_bits() == expected.value().to_bits();
         (!same).then(|| format!("kind {kind} with {value:?}, not {expected:?}"))
@@ -224,8 +223,9 @@ impl Case for SummaryCase {
     }
 
     fn difference(&self, expected: &Summary, subject: &dyn Subject) -> Option<String> {
-        let Some(given) = subject.summary(&self.0) else {
-            return Some(NOT_OFFERED.to_string());
+        let given = match subject.summary(&self.0) {
+            Ok(given) => given,
+            Err(wrong) => return Some(wrong),
         };
         let bits = |s: &Summary| [s.lowest, s.highest, s.span].map(f64::to_bits);
         let same = (given.refusal, given.place) == (expected.refusal, expected.place)
@@ -269,8 +269,9 @@ impl Case for TextCase {
     }
 
     fn difference(&self, expected: &Self::Expected, subject: &dyn Subject) -> Option<String> {
-        let Some(given) = subject.text(&self.0) else {
-            return Some(NOT_OFFERED.to_string());
+        let given = match subject.text(&self.0) {
+            Ok(given) => given,
+            Err(wrong) => return Some(wrong),
         };
         let asked = text::print(expected);
         let lines = |bytes: &[u8]| -> Vec<String> {

@@ -18,31 +18,38 @@ pub struct Results<'a> {
     pub verdict: &'a mut [u8],
 }
 
-/// A program under comparison, behind the interface of the C calls. A call
-/// that a subject does not offer gives nothing, and a run that needs it fails.
+/// What a call gives, or in words what is wrong with it whatever it gives.
+pub type Answer<T> = Result<T, String>;
+
+fn not_offered<T>() -> Answer<T> {
+    Err("the subject does not offer this call".to_string())
+}
+
+/// A program under comparison, behind the interface of the C calls. A run
+/// fails if it needs a call that the subject does not offer.
 pub trait Subject {
-    fn analyse(&self, _call: &Call, _results: Results) -> Option<u32> {
-        None
+    fn analyse(&self, _call: &Call, _results: Results) -> Answer<u32> {
+        not_offered()
     }
 
-    fn window(&self, _call: &Call, _window: &Window, _results: Results) -> Option<u32> {
-        None
+    fn window(&self, _call: &Call, _window: &Window, _results: Results) -> Answer<u32> {
+        not_offered()
     }
 
-    fn reading_kind(&self, _query: &Query) -> Option<u32> {
-        None
+    fn reading_kind(&self, _query: &Query) -> Answer<u32> {
+        not_offered()
     }
 
-    fn reading_value(&self, _query: &Query) -> Option<f64> {
-        None
+    fn reading_value(&self, _query: &Query) -> Answer<f64> {
+        not_offered()
     }
 
-    fn summary(&self, _query: &Query) -> Option<Summary> {
-        None
+    fn summary(&self, _query: &Query) -> Answer<Summary> {
+        not_offered()
     }
 
-    fn text(&self, _request: &[u8]) -> Option<Vec<u8>> {
-        None
+    fn text(&self, _request: &[u8]) -> Answer<Vec<u8>> {
+        not_offered()
     }
 }
 
@@ -50,35 +57,35 @@ pub trait Subject {
 pub struct Own;
 
 impl Subject for Own {
-    fn analyse(&self, call: &Call, results: Results) -> Option<u32> {
-        Some(written(analyse(call), |analysis| {
+    fn analyse(&self, call: &Call, results: Results) -> Answer<u32> {
+        Ok(written(analyse(call), |analysis| {
             results.grid.copy_from_slice(&analysis.grid);
             results.support.copy_from_slice(&analysis.support);
             results.verdict.copy_from_slice(&analysis.verdict);
         }))
     }
 
-    fn window(&self, call: &Call, ends: &Window, results: Results) -> Option<u32> {
-        Some(written(window(call, ends), |answer| {
+    fn window(&self, call: &Call, ends: &Window, results: Results) -> Answer<u32> {
+        Ok(written(window(call, ends), |answer| {
             results.grid.copy_from_slice(&answer.grid);
             results.support.copy_from_slice(&answer.support);
         }))
     }
 
-    fn reading_kind(&self, query: &Query) -> Option<u32> {
-        Some(read(query).kind())
+    fn reading_kind(&self, query: &Query) -> Answer<u32> {
+        Ok(read(query).kind())
     }
 
-    fn reading_value(&self, query: &Query) -> Option<f64> {
-        Some(read(query).value())
+    fn reading_value(&self, query: &Query) -> Answer<f64> {
+        Ok(read(query).value())
     }
 
-    fn summary(&self, query: &Query) -> Option<Summary> {
-        Some(summarise(query.nx, query.ny, &query.field))
+    fn summary(&self, query: &Query) -> Answer<Summary> {
+        Ok(summarise(query.nx, query.ny, &query.field))
     }
 
-    fn text(&self, request: &[u8]) -> Option<Vec<u8>> {
-        Some(text::answer(request))
+    fn text(&self, request: &[u8]) -> Answer<Vec<u8>> {
+        Ok(text::answer(request))
     }
 }
 

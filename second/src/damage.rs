@@ -43,8 +43,7 @@ fn break_shape(rng: &mut Rng, call: &mut Call) {
         _ => {
             change_length(rng, &mut call.first_guess, 0);
             if rng.one_in(2) {
-                (call.grid_len, call.support_len) =
-                    (call.first_guess.len(), call.first_guess.len());
+                call.fit_results();
             }
         }
     }
@@ -67,8 +66,9 @@ fn wrong_length(rng: &mut Rng, right: usize) -> usize {
     rng.pick(&wrong)
 }
 
-/// One column longer or shorter than the rest or empty, or a row too many. Verdicts
-/// are mostly kept as long as x, so that refusal 3 does not come first.
+/// One column empty or longer or shorter than the rest, or a row too many.
+/// Verdicts are mostly kept as long as x, so that refusal 3 does not come
+/// first.
 fn break_columns(rng: &mut Rng, call: &mut Call) {
     let column = rng.below(7);
     match column {

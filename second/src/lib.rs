@@ -1,19 +1,16 @@
 //! The independent second program: document 01 worked out plainly, to be
 //! compared number for number with the proved implementation.
 
-#![deny(unsafe_code)]
+#![forbid(unsafe_code)]
 
-#[cfg(any(test, feature = "archive"))]
-#[allow(unsafe_code)]
-pub mod archive;
+pub mod bridge;
 pub mod call;
 pub mod cases;
 pub mod compare;
 pub mod damage;
-pub mod digest;
 pub mod field;
 pub mod generate;
-pub mod guarded;
+pub mod patterned;
 pub mod reading;
 pub mod refusals;
 pub mod rng;

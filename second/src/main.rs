@@ -2,8 +2,9 @@
 
 #![forbid(unsafe_code)]
 
+use second::bridge::{Bridge, Empty};
 use second::cases::{AnalysisCase, ReadingCase, SummaryCase, TextCase, WindowCase};
-use second::compare::{Case, Own, Subject};
+use second::compare::{Case, Own};
 use second::survey::{compare_kind, survey};
 use second::text;
 use std::env::{args, var_os};
@@ -14,6 +15,10 @@ const SEED: u64 = 20_261_947;
 const COUNT: u64 = 20_000;
 const USAGE: &str = "use: second text | second generate KIND SEED COUNT | \
     second survey [SEED [COUNT]] | second compare KIND [SEED [COUNT]]";
+const BRIDGE: &str = "SOSNYAVIK_BRIDGE";
+const BRIDGE_HELP: &str = "in the repository's root, run second/bridge/build FOLDER \
+    build/bridge/bridge with the folder of libclause.a, and set SOSNYAVIK_BRIDGE to \
+    'scripts/x86 run build/bridge/bridge'";
 
 /// What went wrong, with the exit code that says whose fault it was.
 enum Wrong {
@@ -111,13 +116,11 @@ fn compare(kind: &str, seed: Option<&str>, count: Option<&str>) -> Result<(), Wr
         _ => return Err(no_such_kind(kind)),
     };
     let (seed, count) = seed_and_count(seed, count)?;
-    compare_kind(&*archive()?, seed, count, &mut io::stdout()).map_err(Wrong::Found)
+    compare_kind(&bridge()?, seed, count, &mut io::stdout()).map_err(Wrong::Found)
 }
 
-#[cfg(feature = "archive")]
-fn archive() -> Result<Box<dyn Subject>, Wrong> {
-    use second::archive::{check_current, Archive, Empty};
-    check_current().map_err(Wrong::Found)?;
+/// The bridge that the environment names, with the archive behind it.
+fn bridge() -> Result<Bridge, Wrong> {
     let name = "SOSNYAVIK_EMPTY";
     let empty = match var_os(name) {
         None => Empty::default(),
@@ -127,14 +130,13 @@ fn archive() -> Result<Box<dyn Subject>, Wrong> {
             return Err(Wrong::Asked(format!("{name} is {value:?}; give dangling or null")));
         }
     };
-    Ok(Box::new(Archive { empty }))
-}
-
-#[cfg(not(feature = "archive"))]
-fn archive() -> Result<Box<dyn Subject>, Wrong> {
-    let build = "SOSNYAVIK_ARCHIVE=FOLDER cargo build --release --features archive";
-    let message = format!("this program was built without the archive; build it with {build}");
-    Err(Wrong::Asked(message))
+    let Some(command) = var_os(BRIDGE) else {
+        return Err(Wrong::Asked(format!("{BRIDGE} is not set; {BRIDGE_HELP}")));
+    };
+    let command = command.to_string_lossy();
+    Bridge::start(&command, empty).map_err(|why| {
+        Wrong::Asked(format!("{BRIDGE} is {command:?}, which does not start: {why}; {BRIDGE_HELP}"))
+    })
 }
 
 fn seed_and_count(seed: Option<&str>, count: Option<&str>) -> Result<(u64, u64), Wrong> {

@@ -69,31 +69,23 @@ impl Tally {
     /// What only a C call can be handed: empty slices, lengths that do not
     /// fit, and plan entries that are not read. By refusal number, 0 for none.
     pub fn add_lengths(&mut self, call: &Call, refusal: u32) {
-        let rows = call.x.len();
-        let others = [&call.y, &call.value].map(Vec::len);
+        let (points, rows) = (call.first_guess.len(), call.x.len());
         let minutes = [&call.observed, &call.from, &call.until].map(Vec::len);
-        let columns = [&others[..], &minutes].concat();
+        let columns = [&[call.y.len(), call.value.len()], &minutes[..]].concat();
         let results = [call.grid_len, call.support_len, call.verdict_len];
-        let plan = [call.radius.len(), call.limit.len()];
-        let slices = [&columns[..], &results, &plan, &[call.first_guess.len(), rows]].concat();
-        if slices.contains(&0) {
+        let others = [points, rows, call.radius.len(), call.limit.len()];
+        if columns.iter().chain(&results).chain(&others).any(|length| *length == 0) {
             self.add("empty slice", refusal);
         }
-        let points = (call.nx as usize).saturating_mul(call.ny as usize);
+        let most_off = |given: &[usize], asked: &[usize]| {
+            given.iter().zip(asked).map(|(given, asked)| given.abs_diff(*asked)).max().unwrap_or(0)
+        };
         let off = match refusal {
             1 if SIDE.contains(&call.nx) && SIDE.contains(&call.ny) => {
-                call.first_guess.len().abs_diff(points)
+                points.abs_diff(call.shape().points())
             }
-            3 => {
-                let asked = [points, points, rows];
-                results
-                    .iter()
-                    .zip(asked)
-                    .map(|(given, asked)| given.abs_diff(asked))
-                    .max()
-                    .unwrap_or(0)
-            }
-            4 => columns.iter().map(|length| length.abs_diff(rows)).max().unwrap_or(0),
+            3 => most_off(&results, &[points, points, rows]),
+            4 => most_off(&columns, &[rows; 5]),
             _ => 0,
         };
         match off {

@@ -6,9 +6,9 @@ use mathlib.Core.Bool.{Bool, true, false, cond}
 use mathlib.Core.List.{List}
 use borrow.Author.Tests.{eqb-true, eq-eqb}
 use lib.ListN.{length, getD}
-use lib.IntN.{ℤ, pos, natAbs, _+ℤ_}
+use lib.IntN.{ℤ, pos, natAbs}
 use Rattle.integers.specs.Sizes.{size-add}
-use Rattle.lists.specs.Tab.{tab, getD-tab, length-tab}
+use Rattle.lists.specs.Tab.{tab}
 use Rattle.lists.specs.Filled.{Filled, filled-all}
 use Rattle.scheme.specs.Units.{Field, stored, fieldOf, mostLimit, mostRadius}
 use Rattle.scheme.specs.Verdicts.{isAccepted}

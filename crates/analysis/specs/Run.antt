@@ -1,16 +1,16 @@
 -- The scans of a plan, one after the other, are document 01's run.
-use Prim.Native.Nat.{ℕ, zero, suc, _+_, _-_, _*_, _≤_, _<_, _^_}
+use Prim.Native.Nat.{ℕ, _+_, _-_, _*_, _≤_, _<_, _^_}
 use native.Mathlib.Omega.{arith}
 use native.Mathlib.Nat.{pow-le-pow-right}
 use native.Mathlib.Numerals.{add-one}
-use mathlib.Core.Path.{_≡_, refl, sym, ap, subst, _∙_}
+use mathlib.Core.Path.{_≡_, sym, ap, subst, _∙_}
 use mathlib.Core.Bool.{Bool}
 use mathlib.Core.List.{List}
 use lib.ListN.{length, getD}
 use lib.IntN.{ℤ, pos, natAbs}
-use Rattle.scheme.specs.Units.{Request, mostValue, mostLimit, R, E}
-use Rattle.scheme.specs.Scan.{start, after, scan}
-use Rattle.scheme.specs.Accepted.{Shaped, Sound}
+use Rattle.scheme.specs.Units.{Request, R, E}
+use Rattle.scheme.specs.Scan.{after, scan}
+use Rattle.scheme.specs.Accepted.{Sound}
 use Rattle.scheme.specs.Bounds.{after-within}
 use Rattle.scheme.specs.Support.{support-small}
 use Rattle.scheme.specs.Stored.{length-stored, stored-all}

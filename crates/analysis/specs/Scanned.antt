@@ -1,31 +1,29 @@
 -- One scan in code, on stored grids and columns, is one scan of document 01.
-use Prim.Native.Nat.{ℕ, suc, _+_, _-_, _*_, _≤_, _<_, _^_}
-use native.Mathlib.Omega.{arith}
+use Prim.Native.Nat.{ℕ, _+_, _-_, _*_, _<_, _^_}
 use native.Mathlib.Nat.{zero-add, add-zero, add-assoc}
-use mathlib.Core.Path.{_≡_, refl, sym, ap, _∙_}
+use mathlib.Core.Path.{_≡_, sym, ap, _∙_}
 use mathlib.Core.Logic.{_⊎_, inl, inr, ⊎-elim}
 use mathlib.Core.Bool.{Bool, true, false, cond}
 use mathlib.Core.List.{List, map}
 use borrow.Author.Tests.{eqb-true, eq-eqb}
-use lib.Dec.{ltb}
 use lib.ListN.{length, getD}
 use lib.IntN.{ℤ, pos, natAbs, _+ℤ_, _-ℤ_, _*ℤ_, +ℤ-idl, +ℤ-idr, +ℤ-assoc, zero-*ℤ}
 use Rattle.lists.specs.Tests.{true-or-false, not-both}
 use Rattle.lists.specs.Tab.{tab, length-tab, getD-tab, map-tab, tab-same}
-use Rattle.lists.specs.Sums.{upTo, upTo-same, total, total-tab}
-use Rattle.scheme.specs.Units.{Request, Columns, Station, Field, stationAt, stored, fieldOf, R, E}
+use Rattle.lists.specs.Sums.{upTo-same, total, total-tab}
+use Rattle.scheme.specs.Units.{Request, Columns, Field, stationAt, stored, fieldOf, R, E}
 use Rattle.scheme.specs.Verdicts.{isAccepted}
 use Rattle.scheme.specs.Rounding.{rounded}
-use Rattle.scheme.specs.Value.{place, sumAt, valueAt}
+use Rattle.scheme.specs.Value.{place, valueAt}
 use Rattle.scheme.specs.Difference.{Row, difference, afterTest, judged}
-use Rattle.scheme.specs.Weight.{weight, square, squaredDistance}
-use Rattle.scheme.specs.Correction.{Sums, nothing, plus, weightOf, share, sums, correction, backedBy}
+use Rattle.scheme.specs.Weight.{squaredDistance}
+use Rattle.scheme.specs.Correction.{Sums, nothing, plus, weightOf, share, sums, backedBy}
 use Rattle.scheme.specs.Smoothing.{smoothed}
 use Rattle.scheme.specs.Scan.{State, rowsJudged, sumsAt, scan}
 use Rattle.scheme.specs.Scan as paper
 use Rattle.scheme.specs.Accepted.{Shaped}
 use Rattle.scheme.specs.Cells.{place-on}
-use Rattle.scheme.specs.Stored.{Same, field-stored, stored-same, sum-same, smoothed-same}
+use Rattle.scheme.specs.Stored.{Same, field-stored, stored-same, sum-same}
 use Rattle.station.specs.Judge.{OnGrid, diffAt, verdictAt}
 use Rattle.point.specs.Near.{weightAt, shareAt, sumsOver}
 use Rattle.point.specs.Pass.{corrected, backed}
@@ -85,9 +83,9 @@ module _ (q : Request) (shape : Shaped (q .nx) (q .ny) (length (q .firstGuess)))
   same-difference k h e =
       let o = on-grid k h e in
       let px : place (q .nx) (getD (q .columns .x) k (pos 0)) ≡ natAbs (getD (q .columns .x) k (pos 0)) =
-          ap (place (q .nx)) (o .x-is) ∙ place-on (q .nx) (natAbs (getD (q .columns .x) k (pos 0))) (o .x-in) in
+      ap (place (q .nx)) (o .x-is) ∙ place-on (q .nx) (natAbs (getD (q .columns .x) k (pos 0))) (o .x-in) in
       let py : place (q .ny) (getD (q .columns .y) k (pos 0)) ≡ natAbs (getD (q .columns .y) k (pos 0)) =
-          ap (place (q .ny)) (o .y-is) ∙ place-on (q .ny) (natAbs (getD (q .columns .y) k (pos 0))) (o .y-in) in
+      ap (place (q .ny)) (o .y-is) ∙ place-on (q .ny) (natAbs (getD (q .columns .y) k (pos 0))) (o .y-in) in
       rw (e, px, py)
       (ap (λ (t : ℤ). getD (q .columns .value) k (pos 0) -ℤ rounded t 4096)
       (sum-same (q .nx) (q .ny) (fieldOf (pos 0) (q .nx) z) (s .field) (shape .two-columns) (shape .two-rows) same-field _ _))

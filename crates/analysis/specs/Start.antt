@@ -1,23 +1,21 @@
 -- The slices before the first scan hold the run's start.
-use Prim.Native.Nat.{ℕ, _+_, _-_, _*_, _/_, _%_, _≤_, _<_}
+use Prim.Native.Nat.{ℕ, _-_, _*_, _≤_, _<_}
 use native.Mathlib.Omega.{arith}
 use native.Mathlib.Nat.{div-add-mod'}
 use mathlib.Core.Path.{_≡_, refl, sym, ap, _∙_}
-use mathlib.Core.Bool.{Bool, true, false, not, cond, _&&_}
-use mathlib.Core.List.{List, [], _∷_, map}
+use mathlib.Core.Bool.{Bool, true, false}
+use mathlib.Core.List.{List, [], _∷_}
 use borrow.Author.Tests.{leb-true, not-false}
-use lib.Dec.{leb, ltb}
 use lib.ListN.{length, getD}
 use lib.IntN.{ℤ, pos, negsuc, natAbs}
 use Rattle.lists.specs.Tests.{and-true, not-both}
 use Rattle.lists.specs.Tab.{tab, length-tab, getD-tab, is-tab, map-tab, tab-same}
 use Rattle.scheme.specs.Units.{Request, Columns, Station, stationAt, stations, guess, stored, fieldOf, isMissing}
-use Rattle.scheme.specs.Verdicts.{missing, outOfService, observedAfter, tooOld, onAxis, offGrid, firstThatFits, beforeScans}
-use Rattle.scheme.specs.Difference.{Row}
+use Rattle.scheme.specs.Verdicts.{missing, onAxis, offGrid, firstThatFits, beforeScans}
 use Rattle.scheme.specs.Scan.{start, after}
 use Rattle.scheme.specs.Accepted.{Sound}
 use Rattle.station.specs.Judge.{OnGrid}
-use Rattle.analysis.specs.Scanned.{rowOf, Holds}
+use Rattle.analysis.specs.Scanned.{rowOf}
 use Rattle.analysis.specs.Run.{Reached}
 
 abbrev pub columnsOf6 : (xs ys vs : List ℤ) (os fs us : List ℕ) → Columns

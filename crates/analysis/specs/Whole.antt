@@ -1,6 +1,5 @@
 -- An accepted call: what its slices measure, and that after the last scan they hold the analysis.
 use Prim.Native.Nat.{ℕ, _*_, _≤_}
-use native.Mathlib.Omega.{arith}
 use native.Mathlib.Nat.{mul-le-mul}
 use mathlib.Core.Path.{_≡_, refl, sym, ap, _∙_}
 use mathlib.Core.List.{List, _∷_, map}
@@ -20,7 +19,7 @@ use Rattle.scheme.specs.Promises.{slices, lengthsOf, leftBy, Analyses}
 use Rattle.refusal.specs.Coded.{Coded}
 use Rattle.analysis.specs.Scanned.{rowOf}
 use Rattle.analysis.specs.Run.{Reached}
-use Rattle.analysis.specs.Start.{VerdictsReady, starts}
+use Rattle.analysis.specs.Start.{starts}
 
 -- what the work needs
 pub record WorkReady (q : Request) (l : Lengths) : Type 0 where
@@ -47,22 +46,6 @@ ready q l e = go (all-accepted _ e)
 module _ (q : Request) (l : Lengths) (w : WorkReady q l) where
   pub few-points : q .nx * q .ny ≤ 4096
   few-points = mul-le-mul (w .sound .shape .few-columns) (w .sound .shape .few-rows)
-
-  pub verdicts-ready : VerdictsReady (q .nx) (q .ny) (q .columns) (l .verdict)
-  verdicts-ready =
-      record {
-        two-columns = w .sound .shape .two-columns;
-        few-columns = w .sound .shape .few-columns;
-        two-rows = w .sound .shape .two-rows;
-        few-rows = w .sound .shape .few-rows;
-        y = w .sound .columns .y;
-        value = w .sound .columns .value;
-        observed = w .sound .columns .observed;
-        from = w .sound .columns .from;
-        until = w .sound .columns .until;
-        few = w .sound .columns .few;
-        room-is = w .verdict;
-      }
 
   -- before the first scan
   pub begins : (z : List ℤ) (sup st : List ℕ) → z ≡ q .firstGuess → sup ≡ tab (l .support) (λ k. 0)

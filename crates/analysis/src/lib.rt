@@ -1,6 +1,6 @@
 // The whole analysis over lent slices (document 01): refusals in the table's order, then the scans, in the caller's own slices.
 ghost use mathlib.Core.Path.{_≡_};
-ghost use Prim.Native.Nat.{ℕ, _+_, _*_, _≤_, _<_};
+ghost use Prim.Native.Nat.{_+_, _*_, _≤_, _<_};
 ghost use lib.ListN.{length};
 ghost use Rattle.lists.specs.Tab.{tab};
 ghost use Rattle.scheme.specs.Units.{Request, stationAt};
@@ -185,8 +185,33 @@ fn work(
 {
     copy(grid, guess);
     clear(support);
-    first_verdicts(verdict, x, y, value, observed, from, until, nx, ny, time, age);
-    scans(grid, support, verdict, nx, ny, x, y, value, radius, limit, count, smooth);
+    first_verdicts(
+        verdict,
+        x,
+        y,
+        value,
+        observed,
+        from,
+        until,
+        nx,
+        ny,
+        time,
+        age,
+    );
+    scans(
+        grid,
+        support,
+        verdict,
+        nx,
+        ny,
+        x,
+        y,
+        value,
+        radius,
+        limit,
+        count,
+        smooth,
+    );
 }
 
 // The call: a refusal before anything is written, or the work. It answers refusal·65,536 + place.

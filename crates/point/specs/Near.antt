@@ -1,28 +1,35 @@
 -- The stations near a grid row: what each gives to a point of the row, and that those left out give nothing.
-use Prim.Native.Nat.{ℕ, zero, suc, _+_, _-_, _*_, _≤_, _<_}
+use Prim.Native.Nat.{ℕ, zero, suc, _+_, _-_, _*_, _/_, _≤_, _<_}
 use native.Mathlib.Omega.{arith}
 use native.Mathlib.Numerals.{add-one}
-use native.Mathlib.Nat.{mul-le-mul, mul-le-mul-left, zero-add, add-zero}
+use native.Mathlib.Nat.{mul-le-mul-left, zero-add, add-zero, add-mul-div-right}
 use mathlib.Core.Path.{_≡_, refl, sym, ap, _∙_}
 use mathlib.Core.Logic.{_⊎_, inl, inr}
 use mathlib.Core.Bool.{Bool, true, false, cond}
 use mathlib.Core.List.{List}
 use borrow.Author.Tests.{lt-ltb, le-ltb, eqb-true}
-use lib.Dec.{ltb, eqb}
+use lib.Dec.{ltb}
 use lib.ListN.{length, getD, set, length-set}
 use lib.Seq.{getD-set-same, getD-set-other}
-use lib.IntN.{ℤ, pos, natAbs, _+ℤ_, _-ℤ_, _*ℤ_, zero-*ℤ, +ℤ-idl, +ℤ-idr}
+use lib.IntN.{ℤ, pos, natAbs, _+ℤ_, _-ℤ_, _*ℤ_, zero-*ℤ, +ℤ-idl, +ℤ-idr, +ℤ-assoc, +ℤ-comm}
 use Rattle.integers.specs.Sizes.{size-add, size-mul}
-use Rattle.lists.specs.Tests.{lt-or-le, true-or-false}
+use Rattle.lists.specs.Tests.{lt-or-le}
 use Rattle.lists.specs.Sums.{upTo, upTo-next, upTo-same}
 use Rattle.scheme.specs.Verdicts.{isAccepted}
 use Rattle.scheme.specs.Weight.{square, weight}
-use Rattle.scheme.specs.Weights.{weight-beyond, weight-most}
+use Rattle.scheme.specs.Weights.{weight-beyond, weight-within, weight-most}
 use Rattle.scheme.specs.Correction.{Sums, nothing, plus}
 
 -- a station with that weight and difference
 abbrev pub giving : ℕ → ℤ → Sums
 giving w d = record { weights = w; pulls = pos w *ℤ d }
+
+-- a weight by a product that is the same for every station of a scan: the whole part of 200R²/(R² + d2), less 100
+module _ (r2 d2 : ℕ) (near : d2 < r2) where
+  pub by-product : 2 * 100 * r2 / (r2 + d2) ≡ weight r2 d2 + 100
+  by-product =
+      let parts : 2 * 100 * r2 ≡ 100 * (r2 - d2) + 100 * (r2 + d2) = omega arith in
+      rw (parts, weight-within r2 d2 near) (add-mul-div-right (100 * (r2 - d2)) 100 {z = r2 + d2} (omega arith))
 
 -- ---- from all the columns: what row k gives to point (i, j)
 
@@ -73,18 +80,56 @@ module _ (lx : List ℤ) (ly : List ℕ) (ld : List ℤ) (r2 i : ℕ) where
       (giving-small (nearWeight n) (getD ld n (pos 0)) n (upTo nothing plus n (nearShare lx ly ld r2 i)) (weight-most r2 _)
       (h n (omega arith) .d-small) (near-small n (λ t l. h t (omega arith))))
 
-  -- a turn: with the station t at squared distance g along the row
-  module _ (t : ℕ) (g : ℕ) (g-is : g ≡ square (getD lx t (pos 0) -ℤ pos (64 * i))) where
-    pub near-next-w : (w w' : ℕ) → w ≡ upTo nothing plus t (nearShare lx ly ld r2 i) .weights → w' ≡ w + weight r2 (g + getD ly t 0)
-        → w' ≡ upTo nothing plus (t + 1) (nearShare lx ly ld r2 i) .weights
-    unfolding nearShare
-    near-next-w w w' h e = e ∙ rw (h, g-is) (sym (ap (λ (s : Sums). s .weights) (upTo-next nothing plus t (nearShare lx ly ld r2 i))))
+  -- the sums of the stations from t on, as a loop from the last to the first makes them
+  pub record Down (n t w : ℕ) (wd : ℤ) : Type 0 where
+    pub weights : upTo nothing plus n (nearShare lx ly ld r2 i) .weights ≡ upTo nothing plus t (nearShare lx ly ld r2 i) .weights + w
+    pub pulls : upTo nothing plus n (nearShare lx ly ld r2 i) .pulls ≡ upTo nothing plus t (nearShare lx ly ld r2 i) .pulls +ℤ wd
+    pub kept : natAbs wd ≤ 2000000 * w
 
-    pub near-next-wd : (wd wd' : ℤ) → wd ≡ upTo nothing plus t (nearShare lx ly ld r2 i) .pulls
-        → wd' ≡ wd +ℤ pos (weight r2 (g + getD ly t 0)) *ℤ getD ld t (pos 0)
-        → wd' ≡ upTo nothing plus (t + 1) (nearShare lx ly ld r2 i) .pulls
+  pub down-none : (n : ℕ) → Down n n 0 (pos 0)
+  down-none n =
+      record {
+        weights = sym (add-zero (upTo nothing plus n (nearShare lx ly ld r2 i) .weights));
+        pulls = sym (+ℤ-idr (upTo nothing plus n (nearShare lx ly ld r2 i) .pulls));
+        kept = omega arith;
+      }
+
+  pub down-all : (n w : ℕ) (wd : ℤ) → Down n 0 w wd
+      → (w ≡ upTo nothing plus n (nearShare lx ly ld r2 i) .weights) × (wd ≡ upTo nothing plus n (nearShare lx ly ld r2 i) .pulls)
+  unfolding upTo
+  down-all n w wd h = (sym (h .weights ∙ zero-add w), sym (h .pulls ∙ +ℤ-idl wd))
+
+  pub down-small : (n t w : ℕ) (wd : ℤ) → ((t : ℕ) → t < n → Sized lx ly ld t) → Down n t w wd → w ≤ n * 100
+  down-small n t w wd sized h = omega (arith, h .weights, near-small n sized .weights-most)
+
+  -- the sums with the station t
+  pub record WithNear (t w : ℕ) (wd : ℤ) (w' : ℕ) (wd' : ℤ) : Type 0 where
+    pub weights : w' ≡ w + nearWeight t
+    pub pulls : wd' ≡ wd +ℤ pos (nearWeight t) *ℤ getD ld t (pos 0)
+
+  module _ (n t : ℕ) (here : Sized lx ly ld t) (w w' : ℕ) (wd wd' : ℤ) (h : Down n (t + 1) w wd) (new : WithNear t w wd w' wd') where
+    abbrev pull : ℤ
+    pull = pos (nearWeight t) *ℤ getD ld t (pos 0)
+
+    new-weights : upTo nothing plus n (nearShare lx ly ld r2 i) .weights ≡ upTo nothing plus t (nearShare lx ly ld r2 i) .weights + w'
     unfolding nearShare
-    near-next-wd wd wd' h e = e ∙ rw (h, g-is) (sym (ap (λ (s : Sums). s .pulls) (upTo-next nothing plus t (nearShare lx ly ld r2 i))))
+    new-weights = omega (arith, h .weights, new .weights, ap (λ (s : Sums). s .weights) (upTo-next nothing plus t (nearShare lx ly ld r2 i)))
+
+    new-pulls : upTo nothing plus n (nearShare lx ly ld r2 i) .pulls ≡ upTo nothing plus t (nearShare lx ly ld r2 i) .pulls +ℤ wd'
+    unfolding nearShare
+    new-pulls =
+        h .pulls
+        ∙ ap (λ (s : Sums). s .pulls +ℤ wd) (upTo-next nothing plus t (nearShare lx ly ld r2 i))
+        ∙ +ℤ-assoc (upTo nothing plus t (nearShare lx ly ld r2 i) .pulls) pull wd
+        ∙ ap (λ (z : ℤ). upTo nothing plus t (nearShare lx ly ld r2 i) .pulls +ℤ z) (+ℤ-comm pull wd ∙ sym (new .pulls))
+
+    new-kept : natAbs wd' ≤ 2000000 * w'
+    new-kept =
+        rw (new .pulls, new .weights)
+        (omega (arith, h .kept, size-add wd pull, size-mul (pos (nearWeight t)) (getD ld t (pos 0)), mul-le-mul-left (nearWeight t) (here .d-small)))
+
+    pub down-next : Down n t w' wd'
+    down-next = record { weights = new-weights; pulls = new-pulls; kept = new-kept }
 
 -- ---- gathering the near ones: those accepted and nearer than R to the row, along the other axis
 

@@ -3,15 +3,15 @@ ghost use mathlib.Core.Path.{_≡_};
 ghost use Prim.Native.Nat.{ℕ, _+_, _*_, _≤_, _<_};
 ghost use lib.IntN.{natAbs, _-ℤ_};
 ghost use mathlib.Core.Bool.{cond};
-ghost use lib.Dec.{eqb, ltb};
+ghost use lib.Dec.{ltb};
 ghost use lib.ListN.{length};
 ghost use lib.IntN.{ℤ, pos, _+ℤ_, _*ℤ_};
 ghost use Rattle.lists.specs.Sums.{upTo};
 ghost use Rattle.lists.specs.Filled.{Filled};
-ghost use Rattle.scheme.specs.Units.{stored, fieldOf};
+ghost use Rattle.scheme.specs.Units.{stored};
 ghost use Rattle.scheme.specs.Weight.{square, weight};
 ghost use Rattle.scheme.specs.Correction.{nothing, plus, correction};
-ghost use Rattle.point.specs.Near.{nearShare, Sized, rowGap, Columns, Roomy, Near};
+ghost use Rattle.point.specs.Near.{nearShare, Sized, WithNear, rowGap, Columns, Roomy, Near};
 ghost use Rattle.point.specs.Pass.{rowZ, rowS, RowReady, PassReady, corrected, backed};
 
 // A weight is in parts of this.
@@ -34,7 +34,8 @@ pub fn squared_distance(x: i32, y: i32, px: i32, py: i32) -> u32
     square_apart(x, px) + square_apart(y, py)
 }
 
-// The weight at squared distance d2 for squared radius r2. A station beyond the radius costs a compare and no division.
+// The weight at squared distance d2 for squared radius r2. A station beyond the radius costs a compare and no division. The quotient's
+// upper part is the same for all stations of a scan: 100(R² - d2) = 200R² - 100(R² + d2).
 pub fn weight(r2: u32, d2: u32) -> u32
     requires { ⌜ r2 ≤ 1048576 ⌝ }
     ensures { λ r. ⌜ r ≡ weight r2 d2 ⌝ }
@@ -42,17 +43,17 @@ pub fn weight(r2: u32, d2: u32) -> u32
     if r2 <= d2 {
         return 0;
     }
-    SCALE * (r2 - d2) / (r2 + d2)
+    2 * SCALE * r2 / (r2 + d2) - SCALE
 }
 
 // The sum of weights, and the sum of weight·D.
 pub struct Sums {
-    pub w: u32,
+    pub w: u64,
     pub wd: i64,
 }
 
 // The sums with one more station, of difference d at squared distance d2.
-fn more(w: u32, wd: i64, r2: u32, d2: u32, d: i64) -> Sums
+fn more(w: u64, wd: i64, r2: u32, d2: u32, d: i64) -> Sums
     requires { ⌜ (w ≤ 51200) × (natAbs wd ≤ 102400000000) × (r2 ≤ 1048576) × (natAbs d ≤ 2000000) ⌝ }
     ensures { λ s. ⌜ (s .w ≡ w + weight r2 d2) × (s .wd ≡ wd +ℤ pos (weight r2 d2) *ℤ d) ⌝ }
 {
@@ -61,40 +62,68 @@ fn more(w: u32, wd: i64, r2: u32, d2: u32, d: i64) -> Sums
     }
     let q = weight(r2, d2);
     Sums {
-        w: w + q,
+        w: w + (q as u64),
         wd: wd + (q as i64) * d,
     }
 }
 
-// The sums at column i of a grid row, over the n stations near that row.
-fn point_sums(lx: &[i32; 512], ly: &[u32; 512], ld: &[i64; 512], n: usize, i: usize, r2: u32) -> Sums
+// The sums at column i of a grid row with one more of the stations near that row, the one at t.
+fn with_near(
+    w: u64,
+    wd: i64,
+    lx: &[i32; 512],
+    ly: &[u32; 512],
+    ld: &[i64; 512],
+    t: usize,
+    i: usize,
+    r2: u32,
+) -> Sums
+    requires { ⌜ (w ≤ 51200) × (natAbs wd ≤ 102400000000) × (t < 512) × (i < 64) × (r2 ≤ 1048576) × Sized (now lx) (now ly) (now ld) t ⌝ }
+    ensures { λ s. ⌜ WithNear (now (lx .entry)) (now (ly .entry)) (now (ld .entry)) r2 i t w wd (s .w) (s .wd) ⌝ }
+{
+    let px = (64 * i) as i32;
+    more(w, wd, r2, square_apart(lx[t], px) + ly[t], ld[t])
+}
+
+// The sums at column i of a grid row, over the n stations near that row: from the last to the first, two in a turn.
+fn point_sums(
+    lx: &[i32; 512],
+    ly: &[u32; 512],
+    ld: &[i64; 512],
+    n: usize,
+    i: usize,
+    r2: u32,
+) -> Sums
     requires { ⌜ (n ≤ 512) × (i < 64) × (r2 ≤ 1048576) × ((t : ℕ) → t < n → Sized (now lx) (now ly) (now ld) t) ⌝ }
     ensures { λ s. ⌜ (s .w ≡ upTo nothing plus n (nearShare (now (lx .entry)) (now (ly .entry)) (now (ld .entry)) r2 i) .weights)
         × (s .wd ≡ upTo nothing plus n (nearShare (now (lx .entry)) (now (ly .entry)) (now (ld .entry)) r2 i) .pulls) ⌝ }
 {
-    let px = (64 * i) as i32;
     let mut s = Sums { w: 0, wd: 0 };
-    let mut t: usize = 0;
-    while t < n {
-        s = more(s.w, s.wd, r2, square_apart(lx[t], px) + ly[t], ld[t]);
-        t += 1;
+    let mut t = n;
+    while 1 < t {
+        s = with_near(s.w, s.wd, lx, ly, ld, t - 1, i, r2);
+        s = with_near(s.w, s.wd, lx, ly, ld, t - 2, i, r2);
+        t -= 2;
+    }
+    if 0 < t {
+        return with_near(s.w, s.wd, lx, ly, ld, 0, i, r2);
     }
     s
 }
 
 // A point's value after its correction.
-fn moved(z: i32, w: u32, wd: i64) -> i32
+fn moved(z: i32, w: u64, wd: i64) -> i32
     requires { ⌜ (natAbs z ≤ 13000000) × (w ≤ 51200) × (natAbs wd ≤ 2000000 * w) ⌝ }
     ensures { λ r. ⌜ r ≡ z +ℤ correction (record { weights = w; pulls = wd }) ⌝ }
 {
     if w == 0 {
         return z;
     }
-    ((z as i64) + weighted::rounded(wd, w)) as i32
+    ((z as i64) + weighted::rounded(wd, w as u32)) as i32
 }
 
 // A point's support byte after its correction.
-fn with_bit(b: u8, w: u32, bit: u8) -> u8
+fn with_bit(b: u8, w: u64, bit: u8) -> u8
     requires { ⌜ b + bit < 256 ⌝ }
     ensures { λ r. ⌜ r ≡ b + cond (ltb 0 w) bit 0 ⌝ }
 {

@@ -1,7 +1,7 @@
 -- A refusal and its place, as the one number that a call answers.
 use Prim.Native.Nat.{ℕ, _+_, _*_, _≤_, _<_}
 use native.Mathlib.Omega.{arith}
-use mathlib.Core.Path.{_≡_, refl, sym, ap, _∙_}
+use mathlib.Core.Path.{_≡_, refl, sym, _∙_}
 use mathlib.Core.Bool.{Bool, true, false, not, _||_}
 use mathlib.Core.List.{List, [], _∷_}
 use borrow.Author.Tests.{lt-ltb, le-ltb, leb-true, ltb-false, not-false}
@@ -11,7 +11,7 @@ use lib.IntN.{ℤ}
 use Rattle.lists.specs.Tests.{and-true, or-false}
 use Rattle.lists.specs.First.{Found, nowhere, at, first, ended}
 use Rattle.scheme.specs.Units.{Request, stationAt, among, mostScans}
-use Rattle.scheme.specs.Refusals.{Refusal, accepted, refused, asOne, inOrder, refusedIf, refusedAt, badScan, badGuess, badStation}
+use Rattle.scheme.specs.Refusals.{Refusal, accepted, asOne, inOrder, refusedIf, refusedAt, badScan, badGuess, badStation}
 use Rattle.scheme.specs.Accepted.{Shaped}
 
 -- the number says the refusal, and 0 says that there is none

@@ -5,9 +5,9 @@ ghost use Prim.Native.Nat.{ℕ, _+_, _*_, _≤_, _<_};
 ghost use lib.Dec.{eqb, ltb};
 ghost use lib.ListN.{length};
 ghost use mathlib.Core.List.{List};
-ghost use Rattle.scheme.specs.Units.{Columns, among, mostScans, mostStations};
+ghost use Rattle.scheme.specs.Units.{among, mostScans, mostStations};
 ghost use Rattle.scheme.specs.Refusals.{inOrder, fromFour, badShape, analysisRefusal};
-ghost use Rattle.scheme.specs.Accepted.{Shaped, Equal};
+ghost use Rattle.scheme.specs.Accepted.{Shaped};
 ghost use Rattle.scheme.specs.Promises.{requestOf};
 ghost use Rattle.refusal.specs.Coded.{Coded, SixReady, fromSix};
 
@@ -52,14 +52,7 @@ fn lengths_bad(points: usize, rows: usize, grid: usize, support: usize, verdict:
 }
 
 // 4: station columns unequal, or more than 512
-fn columns_bad(
-    x: usize,
-    y: usize,
-    value: usize,
-    observed: usize,
-    from: usize,
-    until: usize,
-) -> bool
+fn columns_bad(x: usize, y: usize, value: usize, observed: usize, from: usize, until: usize) -> bool
     ensures { λ r. ⌜ r ≡ not (eqb y x) || not (eqb value x) || not (eqb observed x) || not (eqb from x) || not (eqb until x) || ltb mostStations x ⌝ }
 {
     if y != x {
@@ -148,13 +141,32 @@ pub fn from_four(
     ensures { λ r. ⌜ ((smooth : Bool) (time age : ℕ)
         → Coded r (inOrder (fromFour (requestOf nx ny (now (guess .entry)) (now (x .entry)) (now (y .entry)) (now (value .entry)) (now (observed .entry)) (now (from .entry)) (now (until .entry)) scans (now (radius .entry)) (now (limit .entry)) smooth time age)))) ⌝ }
 {
-    if columns_bad(x.len(), y.len(), value.len(), observed.len(), from.len(), until.len()) {
+    if columns_bad(
+        x.len(),
+        y.len(),
+        value.len(),
+        observed.len(),
+        from.len(),
+        until.len(),
+    ) {
         return coded(4, 0);
     }
     if scans_bad(scans, radius.len(), limit.len()) {
         return coded(5, 0);
     }
-    from_six(nx, ny, guess, x, y, value, from, until, scans, radius, limit)
+    from_six(
+        nx,
+        ny,
+        guess,
+        x,
+        y,
+        value,
+        from,
+        until,
+        scans,
+        radius,
+        limit,
+    )
 }
 
 // The whole analysis: 1 and 3, then from 4 on. 0 if no test refuses.
@@ -184,5 +196,18 @@ pub fn of_analysis(
     if lengths_bad(nx * ny, x.len(), grid, support, verdict) {
         return coded(3, 0);
     }
-    from_four(nx, ny, guess, x, y, value, observed, from, until, scans, radius, limit)
+    from_four(
+        nx,
+        ny,
+        guess,
+        x,
+        y,
+        value,
+        observed,
+        from,
+        until,
+        scans,
+        radius,
+        limit,
+    )
 }

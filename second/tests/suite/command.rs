@@ -10,6 +10,7 @@ fn second(arguments: &[&str], environment: &[(&str, &str)], input: &str) -> Outp
         .env_remove("SOSNYAVIK_SEED")
         .env_remove("SOSNYAVIK_COUNT")
         .env_remove("SOSNYAVIK_EMPTY")
+        .env_remove("SOSNYAVIK_BRIDGE")
         .envs(environment.iter().copied())
         .stdin(Stdio::piped())
         .stdout(Stdio::piped())
@@ -44,18 +45,30 @@ fn the_environment_overrides_seed_and_count() {
 }
 
 #[test]
-fn compare_runs_the_archive_or_says_how_to_build_it() {
-    let output = second(&["compare", "analysis", "3", "200"], &[], "");
-    if cfg!(feature = "archive") {
-        assert!(output.status.success(), "{}", String::from_utf8_lossy(&output.stderr));
-        assert!(output.stdout.starts_with(b"seed 3, count 200\nanalysis, 200 cases\n"));
-        let null = second(&["compare", "analysis", "3", "200"], &[("SOSNYAVIK_EMPTY", "null")], "");
-        assert_eq!(null, output, "the address of an empty slice means nothing");
-    } else {
+fn compare_says_how_to_get_a_bridge() {
+    let asked = |environment: &[(&str, &str)]| {
+        let output = second(&["compare", "analysis", "3", "20"], environment, "");
         let message = String::from_utf8_lossy(&output.stderr).into_owned();
         assert_eq!((output.status.code(), message.lines().count()), (Some(2), 1), "{message}");
-        assert!(message.contains("SOSNYAVIK_ARCHIVE=") && message.contains("--features archive"));
-    }
+        assert!(message.contains("run second/bridge/build FOLDER"), "{message}");
+        message
+    };
+    assert!(asked(&[]).contains("SOSNYAVIK_BRIDGE is not set"));
+    assert!(asked(&[("SOSNYAVIK_BRIDGE", " ")]).contains("an empty command"));
+    assert!(asked(&[("SOSNYAVIK_BRIDGE", "/nowhere/bridge")]).contains("No such file"));
+    assert!(asked(&[("SOSNYAVIK_BRIDGE", "false")]).contains("exit status: 1"));
+    assert!(asked(&[("SOSNYAVIK_BRIDGE", "cat")]).contains("not as the bridge does"));
+}
+
+#[test]
+fn compare_reports_a_bridge_that_dies() {
+    let environment = [("SOSNYAVIK_BRIDGE", "sh tests/suite/dying_bridge.sh")];
+    let output = second(&["compare", "analysis", "3", "20"], &environment, "");
+    let message = String::from_utf8_lossy(&output.stderr).into_owned();
+    assert_eq!(output.status.code(), Some(1), "{message}");
+    let died = "the archive died in this call: exit status: 7, shot down\n";
+    assert!(message.contains(&format!("analysis case 0 of seed 3: {died}")), "{message}");
+    assert!(message.contains("\nsmallest failing request:\n"), "{message}");
 }
 
 #[test]

@@ -1,7 +1,7 @@
 //! Subjects with one planted fault each, to show that the harness sees it.
 
 use second::call::{Analysis, Call, Query, Window};
-use second::compare::{Own, Results, Subject};
+use second::compare::{Answer, Own, Results, Subject};
 use second::field::Shape;
 use second::scan::{correct, difference, judge, smoothed, sums, Accepted};
 use second::scheme::analyse;
@@ -30,24 +30,24 @@ pub enum Fault {
 pub struct Faulty(pub Fault);
 
 impl Subject for Faulty {
-    fn analyse(&self, call: &Call, results: Results) -> Option<u32> {
+    fn analyse(&self, call: &Call, results: Results) -> Answer<u32> {
         if self.0 == Fault::WritesBeforeRefusal {
             results.grid.iter_mut().for_each(|value| *value = 0);
         }
         if let Err(refusal) = analyse(call) {
-            return Some(refusal.code());
+            return Ok(refusal.code());
         }
         let analysis = faulty_run(call, self.0);
         results.grid.copy_from_slice(&analysis.grid);
         results.support.copy_from_slice(&analysis.support);
         results.verdict.copy_from_slice(&analysis.verdict);
-        Some(0)
+        Ok(0)
     }
 
-    fn window(&self, call: &Call, ends: &Window, results: Results) -> Option<u32> {
+    fn window(&self, call: &Call, ends: &Window, results: Results) -> Answer<u32> {
         let (grid, support) = (results.grid, results.support);
         let code = Own.window(call, ends, Results { grid, support, verdict: &mut [] });
-        if code == Some(0) && self.0 == Fault::WidenedByLargestOnly {
+        if code == Ok(0) && self.0 == Fault::WidenedByLargestOnly {
             let part = widened(call, ends, call.radius[0].unsigned_abs().div_ceil(64));
             let cut = cut(call, &part);
             let (left, right) = (ends.left - part.left, ends.right - part.left);
@@ -60,30 +60,30 @@ impl Subject for Faulty {
         code
     }
 
-    fn reading_kind(&self, query: &Query) -> Option<u32> {
+    fn reading_kind(&self, query: &Query) -> Answer<u32> {
         let kind = Own.reading_kind(query)?;
         if kind != 2 || self.0 != Fault::IdleCornersCount {
-            return Some(kind);
+            return Ok(kind);
         }
         let shape = Shape { nx: query.nx as usize, ny: query.ny as usize };
         let corners = shape.corners(query.x, query.y);
-        Some(if corners.iter().any(|corner| query.support[corner.0] == 0) { 1 } else { 2 })
+        Ok(if corners.iter().any(|corner| query.support[corner.0] == 0) { 1 } else { 2 })
     }
 
-    fn reading_value(&self, query: &Query) -> Option<f64> {
+    fn reading_value(&self, query: &Query) -> Answer<f64> {
         let value = Own.reading_value(query)?;
-        Some(if self.0 == Fault::NegativeZero && value == 0.0 { -0.0 } else { value })
+        Ok(if self.0 == Fault::NegativeZero && value == 0.0 { -0.0 } else { value })
     }
 
-    fn summary(&self, query: &Query) -> Option<Summary> {
+    fn summary(&self, query: &Query) -> Answer<Summary> {
         let mut summary = Own.summary(query)?;
         if self.0 == Fault::RefusedSummaryFilled && summary.refusal != 0 {
             summary.span = 1.0;
         }
-        Some(summary)
+        Ok(summary)
     }
 
-    fn text(&self, request: &[u8]) -> Option<Vec<u8>> {
+    fn text(&self, request: &[u8]) -> Answer<Vec<u8>> {
         if self.0 == Fault::CarriageReturns {
             let kept = request.iter().copied().filter(|byte| *byte != b'\r');
             return Own.text(&kept.collect::<Vec<u8>>());

@@ -2,6 +2,7 @@
 
 use crate::faulty::{Fault, Faulty};
 use crate::sample;
+use second::bridge::{Bridge, Empty};
 use second::call::{Analysis, Call, Refusal};
 use second::cases::{AnalysisCase, ReadingCase, SummaryCase, TextCase, WindowCase};
 use second::compare::{run, Case, Failure, Own, Subject};
@@ -137,6 +138,16 @@ fn a_write_before_a_refusal_is_seen() {
     let failure = failure::<AnalysisCase>(Fault::WritesBeforeRefusal);
     assert_eq!(failure.difference, "grid[0] is written though refused");
     assert!(failure.smallest.0.x.is_empty(), "no station is needed");
+}
+
+#[test]
+fn a_death_is_made_small_over_many_starts() {
+    let bridge = Bridge::start("sh tests/suite/dying_bridge.sh", Empty::default());
+    let outcome = run::<AnalysisCase>(&bridge.expect("it starts"), SEED, 1);
+    let failure = outcome.failure.expect("it dies in every call");
+    assert!(failure.difference.starts_with("the archive died in this call: exit status: 7"));
+    let call = failure.smallest.0;
+    assert!(call.x.is_empty() && call.radius.is_empty(), "nothing is needed: {call:?}");
 }
 
 #[test]

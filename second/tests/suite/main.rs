@@ -1,5 +1,6 @@
 //! The tests of the second program, in one binary.
 
+mod bridge;
 mod command;
 mod faulty;
 mod harness;

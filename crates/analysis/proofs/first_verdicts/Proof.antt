@@ -4,7 +4,7 @@ use native.Mathlib.Omega.{arith}
 use borrow.Author.Needs.{sfits-of}
 use mathlib.Core.Path.{_≡_, refl, _∙_}
 use lib.ListN.{length, getD, length-set}
-use lib.IntN.{ℤ, pos}
+use lib.IntN.{pos}
 use mir.Syntax.{w32}
 use mir.Val.{toZ, ofZ}
 use mir.Facts.{toZ-ofZ}
@@ -117,10 +117,12 @@ unfolding stationAt
 loop-again c =
     let g = c .before .before .before .before in
     let t = turn g in
-    let l = t .before .loop in
-    (omega (arith, t .loop-test .taken), length-set (l .verdict) (k t) (c .first-verdict .result) ∙ l .inv .1,
-    λ q h. filled-set 0 _ 0 (k t) (k t + 1) (start t .args .verdict .now) (l .verdict) _ refl (omega arith) (in-verdict t)
-    (rw (x-is g, y-is g, value-is g) at (c .first-verdict .ensures q h)) (l .inv .2 q h))
+    let l = t .before .loop in (
+      omega (arith, t .loop-test .taken),
+      length-set (l .verdict) (k t) (c .first-verdict .result) ∙ l .inv .1,
+      λ q h. filled-set 0 _ 0 (k t) (k t + 1) (start t .args .verdict .now) (l .verdict) _ refl (omega arith) (in-verdict t)
+          (rw (x-is g, y-is g, value-is g) at (c .first-verdict .ensures q h)) (l .inv .2 q h),
+    )
 
 same-length : tie.Need-same-length Inv-loop μ-loop
 same-length c = c .before .loop .inv .1

@@ -18,9 +18,10 @@ smooth-if-requires : tie.Need-smooth-if-requires
 smooth-if-requires c κs =
     let k = c .before .before .before .before in
     let j = k .before .before .before .before .before .before .before in
-    let s = j .before .before .before .before .before .before in
-    (smooth-shaped (s .args .nx) (s .args .ny) (s .args .x .now) (s .args .y .now) (s .args .value .now) (s .args .radius) (s .args .limit) (s .args .number) (s .args .bit) (s .args .z .now) (s .args .support .now) (s .args .verdict .now) (s .args .d .now) (s .pre) (j .judge .last .1 .1 .1 .1 .1 .1 .0) (j .judge .last .1 .1 .1 .1 .1 .1 .1 .0) (j .judge .ensures .1) (j .judge .ensures .0) (k .correct .last .0) (k .correct .ensures .0),
-    smooth-small (s .args .nx) (s .args .ny) (s .args .x .now) (s .args .y .now) (s .args .value .now) (s .args .radius) (s .args .limit) (s .args .number) (s .args .bit) (s .args .z .now) (s .args .support .now) (s .args .verdict .now) (s .args .d .now) (s .pre) (j .judge .last .1 .1 .1 .1 .1 .1 .0) (j .judge .last .1 .1 .1 .1 .1 .1 .1 .0) (j .judge .ensures .1) (j .judge .ensures .0) (k .correct .last .0) (k .correct .ensures .0))
+    let s = j .before .before .before .before .before .before in (
+      smooth-shaped (s .args .nx) (s .args .ny) (s .args .x .now) (s .args .y .now) (s .args .value .now) (s .args .radius) (s .args .limit) (s .args .number) (s .args .bit) (s .args .z .now) (s .args .support .now) (s .args .verdict .now) (s .args .d .now) (s .pre) (j .judge .last .1 .1 .1 .1 .1 .1 .0) (j .judge .last .1 .1 .1 .1 .1 .1 .1 .0) (j .judge .ensures .1) (j .judge .ensures .0) (k .correct .last .0) (k .correct .ensures .0),
+      smooth-small (s .args .nx) (s .args .ny) (s .args .x .now) (s .args .y .now) (s .args .value .now) (s .args .radius) (s .args .limit) (s .args .number) (s .args .bit) (s .args .z .now) (s .args .support .now) (s .args .verdict .now) (s .args .d .now) (s .pre) (j .judge .last .1 .1 .1 .1 .1 .1 .0) (j .judge .last .1 .1 .1 .1 .1 .1 .1 .0) (j .judge .ensures .1) (j .judge .ensures .0) (k .correct .last .0) (k .correct .ensures .0),
+    )
 
 same-length : tie.Need-same-length
 same-length c = search needs
@@ -36,10 +37,11 @@ returns c =
     let m = c .before in
     let k = m .before .before .before .before .before in
     let j = k .before .before .before .before .before .before .before in
-    let s = j .before .before .before .before .before .before in
-    (scanned (s .args .nx) (s .args .ny) (s .args .x .now) (s .args .y .now) (s .args .value .now) (s .args .radius) (s .args .limit) (s .args .number) (s .args .bit) (s .args .z .now) (s .args .support .now) (s .args .verdict .now) (s .args .d .now) (s .pre) (j .judge .last .1 .1 .1 .1 .1 .1 .0) (j .judge .last .1 .1 .1 .1 .1 .1 .1 .0) (j .judge .ensures .1) (j .judge .ensures .0) (k .correct .last .0) (k .correct .ensures .0)
-    (s .args .smooth) (m .smooth-if .last .0) (k .correct .last .1 .0) (m .smooth-if .ensures) (k .correct .ensures .1),
-    j .judge .ensures .0 .same-length ∙ s .pre .long)
+    let s = j .before .before .before .before .before .before in (
+      scanned (s .args .nx) (s .args .ny) (s .args .x .now) (s .args .y .now) (s .args .value .now) (s .args .radius) (s .args .limit) (s .args .number) (s .args .bit) (s .args .z .now) (s .args .support .now) (s .args .verdict .now) (s .args .d .now) (s .pre) (j .judge .last .1 .1 .1 .1 .1 .1 .0) (j .judge .last .1 .1 .1 .1 .1 .1 .1 .0) (j .judge .ensures .1) (j .judge .ensures .0) (k .correct .last .0) (k .correct .ensures .0)
+          (s .args .smooth) (m .smooth-if .last .0) (k .correct .last .1 .0) (m .smooth-if .ensures) (k .correct .ensures .1),
+      j .judge .ensures .0 .same-length ∙ s .pre .long,
+    )
 
 pub scan-spec : {M : Type 1} → statement M
 scan-spec =

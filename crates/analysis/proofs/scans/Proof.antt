@@ -14,9 +14,6 @@ use Rattle.scheme.specs.Accepted.{Scanned}
 use Rattle.analysis.specs.Run.{Rest, requestWith, Reached, z-long, sup-long, bit-small, ready-for, next-after}
 use Rattle.analysis.proofs.scans.Statement.{statement}
 use Rattle.analysis.proofs.scans.Tie as tie
-use Rattle.analysis.proofs.scans.Reads as reads
-use Rattle.analysis.proofs.scans.Lts as lts
-use Rattle.analysis.proofs.scan.Reads as scan-reads
 
 abbrev Inv-loop : tie.InvT-loop
 Inv-loop z₀ support₀ verdict₀ nx ny x y value radius limit count smooth d₀ bit₀ m₀ z support verdict d bit m =
@@ -123,12 +120,15 @@ loop-again c =
     let k = c .before .before .before .before .before .before .before .before .before .before .before .before in
     let l = k .before .loop in
     let a = c .before .before .before .before .before .scan in
-    let doubled : l .bit * 2 ≡ 2 ^ (l .m + 1) = ap (λ (b : ℕ). b * 2) (l .inv .1) ∙ sym (pow-suc 2 (l .m)) ∙ ap (λ (n : ℕ). 2 ^ n) (sym (add-one (l .m))) in
-    (omega (arith, k .loop-test .taken), doubled, a .ensures .1,
-    λ r h. next-after (requestWith r (s k .args .nx) (s k .args .ny) (s k .args .x .now) (s k .args .y .now) (s k .args .value .now) (s k .args .radius .now) (s k .args .limit .now) (s k .args .count) (s k .args .smooth))
-    (l .m) (l .z) (l .support) (l .verdict) (l .inv .3 r h) (k .loop-test .taken)
-    (natAbs (toZ w32 (ofZ w32 (rad k)))) (natAbs (toZ w32 (ofZ w32 (lim k)))) (l .bit) (radius-is k) (limit-is k) (l .inv .1)
-    (a .last .0) (a .last .1 .0) (a .last .1 .1 .0) (a .last .1 .1 .1 .0) (a .ensures .0))
+    let doubled : l .bit * 2 ≡ 2 ^ (l .m + 1) = ap (λ (b : ℕ). b * 2) (l .inv .1) ∙ sym (pow-suc 2 (l .m)) ∙ ap (λ (n : ℕ). 2 ^ n) (sym (add-one (l .m))) in (
+      omega (arith, k .loop-test .taken),
+      doubled,
+      a .ensures .1,
+      λ r h. next-after (requestWith r (s k .args .nx) (s k .args .ny) (s k .args .x .now) (s k .args .y .now) (s k .args .value .now) (s k .args .radius .now) (s k .args .limit .now) (s k .args .count) (s k .args .smooth))
+          (l .m) (l .z) (l .support) (l .verdict) (l .inv .3 r h) (k .loop-test .taken)
+          (natAbs (toZ w32 (ofZ w32 (rad k)))) (natAbs (toZ w32 (ofZ w32 (lim k)))) (l .bit) (radius-is k) (limit-is k) (l .inv .1)
+          (a .last .0) (a .last .1 .0) (a .last .1 .1 .0) (a .last .1 .1 .1 .0) (a .ensures .0),
+    )
 
 -- the slices keep their lengths
 end : (c : tie.After-loop Inv-loop μ-loop) → Reached (requestWith (c .before .before .before .before .pre .0) (c .before .before .before .before .args .nx) (c .before .before .before .before .args .ny) (c .before .before .before .before .args .x .now) (c .before .before .before .before .args .y .now) (c .before .before .before .before .args .value .now) (c .before .before .before .before .args .radius .now) (c .before .before .before .before .args .limit .now) (c .before .before .before .before .args .count) (c .before .before .before .before .args .smooth)) (c .before .loop .m) (c .before .loop .z) (c .before .loop .support) (c .before .loop .verdict)

@@ -1,10 +1,8 @@
 -- `analysis::work` meets its contract: the start, then the scans. Assumes nothing.
-use Prim.Native.Nat.{ℕ}
 use borrow.Author.Needs.{needs}
 use native.Mathlib.Omega.{arith}
 use mathlib.Core.Path.{refl, sym, _∙_}
-use Rattle.analysis.specs.Run.{Rest}
-use Rattle.analysis.specs.Whole.{few-points, verdicts-ready, begins, whole}
+use Rattle.analysis.specs.Whole.{few-points, begins, whole}
 use Rattle.analysis.proofs.work.Statement.{statement}
 use Rattle.analysis.proofs.work.Tie as tie
 
@@ -22,16 +20,17 @@ first-verdicts-requires c κs = search needs
 scans-requires : tie.Need-scans-requires
 scans-requires c κs =
     let v = c .before .before .before .before in
-    let s = v .before .before .before .before .before .before .before .before .before .before .before .before .before .before .before in
-    (record {
-       firstGuess = s .args .guess .now;
-       observed = s .args .observed .now;
-       from = s .args .from .now;
-       until = s .args .until .now;
-       T = s .args .time;
-       A = s .args .age;
-     },
-    begins _ _ (s .pre) _ _ _ (c .before .before .before .before .before .before .before .before .before .before .before .before .copy .ensures) (c .before .before .before .before .before .before .before .before .before .clear .ensures) (v .before .first-verdicts .ensures _ (record { columns = refl; rows = refl; minute = refl; oldest = refl })))
+    let s = v .before .before .before .before .before .before .before .before .before .before .before .before .before .before .before in (
+      record {
+        firstGuess = s .args .guess .now;
+        observed = s .args .observed .now;
+        from = s .args .from .now;
+        until = s .args .until .now;
+        T = s .args .time;
+        A = s .args .age;
+      },
+      begins _ _ (s .pre) _ _ _ (c .before .before .before .before .before .before .before .before .before .before .before .before .copy .ensures) (c .before .before .before .before .before .before .before .before .before .clear .ensures) (v .before .first-verdicts .ensures _ (record { columns = refl; rows = refl; minute = refl; oldest = refl })),
+    )
 
 same-length : tie.Need-same-length
 same-length c = search needs
@@ -51,13 +50,13 @@ returns c =
     whole _ _ _ _
     (d .scans .ensures
     (record {
-       firstGuess = s .args .guess .now;
-       observed = s .args .observed .now;
-       from = s .args .from .now;
-       until = s .args .until .now;
-       T = s .args .time;
-       A = s .args .age;
-     })
+      firstGuess = s .args .guess .now;
+      observed = s .args .observed .now;
+      from = s .args .from .now;
+      until = s .args .until .now;
+      T = s .args .time;
+      A = s .args .age;
+    })
     (begins _ _ (s .pre) _ _ _ (a .before .before .before .before .before .before .before .before .before .before .before .before .copy .ensures) (a .before .before .before .before .before .before .before .before .before .clear .ensures) (v .before .first-verdicts .ensures _ (record { columns = refl; rows = refl; minute = refl; oldest = refl }))))
 
 pub work-spec : {M : Type 1} → statement M

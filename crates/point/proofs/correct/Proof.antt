@@ -1,7 +1,7 @@
 -- `point::correct` meets its contract. The loop's invariant: the rows passed are corrected. Assumes nothing.
-use Prim.Native.Nat.{ℕ, _+_, _-_, _*_, _≤_, _<_}
+use Prim.Native.Nat.{ℕ, _+_, _-_, _*_, _≤_}
 use native.Mathlib.Omega.{arith}
-use mathlib.Core.Path.{_≡_, refl, sym, ap, _∙_}
+use mathlib.Core.Path.{_≡_}
 use mathlib.Core.List.{List}
 use lib.ListN.{length-replicate}
 use lib.IntN.{ℤ, pos}
@@ -61,11 +61,12 @@ mul-r2 c =
 
 loop-holds : tie.Need-loop-holds Inv-loop μ-loop
 loop-holds c =
-    let s = c .before .before in
-    (omega arith,
-    record { x-long = length-replicate {A = ℤ} 512 (pos 0); y-long = length-replicate {A = ℕ} 512 0; d-long = length-replicate {A = ℤ} 512 (pos 0) },
-    filled-none (pos 0) _ 0 (0 * s .args .nx) (s .args .z .now) (omega arith),
-    filled-none 0 _ 0 (0 * s .args .nx) (s .args .support .now) (omega arith))
+    let s = c .before .before in (
+      omega arith,
+      record { x-long = length-replicate {A = ℤ} 512 (pos 0); y-long = length-replicate {A = ℕ} 512 0; d-long = length-replicate {A = ℤ} 512 (pos 0) },
+      filled-none (pos 0) _ 0 (0 * s .args .nx) (s .args .z .now) (omega arith),
+      filled-none 0 _ 0 (0 * s .args .nx) (s .args .support .now) (omega arith),
+    )
 
 near-row-requires : tie.Need-near-row-requires Inv-loop μ-loop
 near-row-requires c κs =

@@ -3,10 +3,10 @@ use Prim.Native.Nat.{ℕ, _+_, _*_, _≤_, _<_}
 use native.Mathlib.Omega.{arith}
 use native.Mathlib.Nat.{mul-le-mul, add-zero}
 use borrow.Author.Needs.{needs}
-use mathlib.Core.Path.{_≡_, refl, sym, ap, _∙_}
+use mathlib.Core.Path.{_≡_, sym, ap, _∙_}
 use lib.IntN.{ℤ, pos, natAbs, _+ℤ_, _*ℤ_, zero-*ℤ, +ℤ-idr}
 use mir.Syntax.{w64}
-use mir.Val.{SFits, toZ, ofZ}
+use mir.Val.{toZ, ofZ}
 use mir.Facts.{toZ-ofZ, toZ-pos}
 use Rattle.integers.specs.Sizes.{size-add, size-mul}
 use Rattle.integers.specs.Words.{fits-size, bits-back}
@@ -46,32 +46,37 @@ module _ (c : lts.After-weight (weight-reads.Asked, weight-reads.Learnt) reads.P
 returns : tie.Need-returns
 returns c =
     let s = c .before in
-    let e = weight-beyond (s .args .r2) (s .args .d2) (c .if1 .taken) in
-    (sym (ap (λ (n : ℕ). s .args .w + n) e ∙ add-zero (s .args .w)),
-    toZ-ofZ (s .fits .wd)
-    ∙ sym (ap (λ (n : ℕ). s .args .wd +ℤ pos n *ℤ s .args .d) e ∙ ap (λ (z : ℤ). s .args .wd +ℤ z) (zero-*ℤ (s .args .d)) ∙ +ℤ-idr (s .args .wd)))
+    let e = weight-beyond (s .args .r2) (s .args .d2) (c .if1 .taken) in (
+      sym (ap (λ (n : ℕ). s .args .w + n) e ∙ add-zero (s .args .w)),
+      toZ-ofZ (s .fits .wd)
+          ∙ sym (ap (λ (n : ℕ). s .args .wd +ℤ pos n *ℤ s .args .d) e ∙ ap (λ (z : ℤ). s .args .wd +ℤ z) (zero-*ℤ (s .args .d)) ∙ +ℤ-idr (s .args .wd)),
+    )
 
 weight-requires : tie.Need-weight-requires
 weight-requires c κs = search needs
 
-add-t8 : tie.Need-add-t8
-add-t8 c = record { fits = omega (arith, q-most c, c .before .before .pre .0) }
+cast-t8 : tie.Need-cast-t8
+cast-t8 c = search needs
 
-cast-t9 : tie.Need-cast-t9
-cast-t9 c = search needs
+add-t9 : tie.Need-add-t9
+add-t9 c = record { fits = omega (arith, q-most c, c .before .before .pre .0) }
 
-mul-t10 : tie.Need-mul-t10
-mul-t10 c = rw (product-is c) (fits-size w64 (pos (q c) *ℤ d c) (omega (arith, product-small c)))
+cast-t10 : tie.Need-cast-t10
+cast-t10 c = search needs
 
-add-t11 : tie.Need-add-t11
-add-t11 c = rw (sum-is c) (fits-size w64 _ (sum-small c))
+mul-t11 : tie.Need-mul-t11
+mul-t11 c = rw (product-is c) (fits-size w64 (pos (q c) *ℤ d c) (omega (arith, product-small c)))
+
+add-t12 : tie.Need-add-t12
+add-t12 c = rw (sum-is c) (fits-size w64 _ (sum-small c))
 
 returns-2 : tie.Need-returns-2
 returns-2 c =
-    let s = c .before .before in
-    (ap (λ (n : ℕ). s .args .w + n) (c .weight .ensures),
-    ap (λ (z : ℤ). toZ w64 (ofZ w64 z)) (sum-is c) ∙ bits-back w64 _ (sum-small c)
-    ∙ ap (λ (n : ℕ). s .args .wd +ℤ pos n *ℤ s .args .d) (c .weight .ensures))
+    let s = c .before .before in (
+      ap (λ (n : ℕ). s .args .w + n) (c .weight .ensures),
+      ap (λ (z : ℤ). toZ w64 (ofZ w64 z)) (sum-is c) ∙ bits-back w64 _ (sum-small c)
+          ∙ ap (λ (n : ℕ). s .args .wd +ℤ pos n *ℤ s .args .d) (c .weight .ensures),
+    )
 
 pub more-spec : {M : Type 1} → statement M
-more-spec = tie.close (tie.spec returns weight-requires add-t8 cast-t9 mul-t10 add-t11 returns-2)
+more-spec = tie.close (tie.spec returns weight-requires cast-t8 add-t9 cast-t10 mul-t11 add-t12 returns-2)

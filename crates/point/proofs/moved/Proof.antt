@@ -1,11 +1,11 @@
 -- `point::moved` meets its contract: a correction is at most 2,000,000 in size, so that the value stays an i32. Assumes nothing.
-use Prim.Native.Nat.{ℕ, _*_, _≤_, _<_}
+use Prim.Native.Nat.{ℕ, _≤_}
 use native.Mathlib.Omega.{arith}
 use mathlib.Core.Path.{_≡_, sym, ap, _∙_}
 use borrow.Author.Tests.{eq-eqb, ne-eqb}
 use lib.IntN.{ℤ, pos, natAbs, _+ℤ_, +ℤ-idr}
 use mir.Syntax.{w32, w64}
-use mir.Val.{SFits, toZ, ofZ}
+use mir.Val.{toZ, ofZ}
 use mir.Facts.{toZ-ofZ, sfits-widen}
 use Rattle.integers.specs.Sizes.{size-add}
 use Rattle.integers.specs.Words.{fits-size, bits-back}
@@ -63,6 +63,9 @@ returns c =
 cast-result : tie.Need-cast-result
 cast-result c = rw (toZ-ofZ (c .before .fits .z)) (sfits-widen tt (c .before .fits .z))
 
+cast-rounded : tie.Need-cast-rounded
+cast-rounded c = omega (arith, c .before .pre .1)
+
 rounded-requires : tie.Need-rounded-requires
 rounded-requires c κs =
     let s = c .before in
@@ -83,4 +86,4 @@ returns-2 c =
 
 pub moved-spec : {M : Type 1} → statement M
 moved-spec =
-    tie.close (tie.spec returns cast-result rounded-requires add-result cast-result-2 returns-2)
+    tie.close (tie.spec returns cast-result cast-rounded rounded-requires add-result cast-result-2 returns-2)

@@ -1,15 +1,15 @@
 -- `point::near_row` meets its contract. The loop's invariant: the stations gathered give what the rows passed give. Assumes nothing.
-use Prim.Native.Nat.{ℕ, _+_, _-_, _*_, _≤_, _<_}
+use Prim.Native.Nat.{ℕ, _-_, _≤_, _<_}
 use native.Mathlib.Omega.{arith}
 use borrow.Author.Needs.{needs, sfits-of}
 use mathlib.Core.Path.{_≡_, ap, _∙_}
 use mathlib.Core.Bool.{Bool, true, false, cond}
 use lib.Dec.{ltb}
 use lib.ListN.{length, getD}
-use lib.IntN.{ℤ, pos, natAbs}
+use lib.IntN.{ℤ, pos}
 use mir.Syntax.{w32, w64}
 use mir.Facts.{toZ-ofZ}
-use Rattle.point.specs.Near.{rowGap, Columns, Roomy, Near, near-none, near-step, roomy-set}
+use Rattle.point.specs.Near.{rowGap, Roomy, Near, near-none, near-step, roomy-set}
 use Rattle.point.proofs.near_row.Statement.{statement}
 use Rattle.point.proofs.near_row.Tie as tie
 use Rattle.point.proofs.near_row.Reads as reads
@@ -50,9 +50,11 @@ at-most-one false = omega arith
 
 loop-holds : tie.Need-loop-holds Inv-loop μ-loop
 loop-holds c =
-    let a = c .before .args in
-    (omega arith, c .before .pre .3,
-    near-none (a .lx .now) (a .ly .now) (a .ld .now) (a .x .now) (a .y .now) (a .verdict .now) (a .d .now) (a .r2) (a .j))
+    let a = c .before .args in (
+      omega arith,
+      c .before .pre .3,
+      near-none (a .lx .now) (a .ly .now) (a .ld .now) (a .x .now) (a .y .now) (a .verdict .now) (a .d .now) (a .r2) (a .j),
+    )
 
 shared-slice-read-row-gap : tie.Need-shared-slice-read-row-gap Inv-loop μ-loop
 shared-slice-read-row-gap c = let h = at (c .before) in omega arith
@@ -67,9 +69,10 @@ row-gap-requires : tie.Need-row-gap-requires Inv-loop μ-loop
 row-gap-requires c κs =
     let k = c .before .before in
     let s = k .before .before .before in
-    let y = getD (s .args .y .now) (k .before .loop .k) (pos 0) in
-    (s .pre .1,
-    λ e. rw (toZ-ofZ {w = w32} (sfits-of {z = y} (c .row-gap-arg .given))) (s .pre .2 .inside (k .before .loop .k) (k .loop-test .taken) e .y-small))
+    let y = getD (s .args .y .now) (k .before .loop .k) (pos 0) in (
+      s .pre .1,
+      λ e. rw (toZ-ofZ {w = w32} (sfits-of {z = y} (c .row-gap-arg .given))) (s .pre .2 .inside (k .before .loop .k) (k .loop-test .taken) e .y-small),
+    )
 
 mul-lx : tie.Need-mul-lx Inv-loop μ-loop
 mul-lx c = let h = at (c .before .before .before) in omega arith
@@ -127,10 +130,11 @@ loop-again c =
     let y-is = toZ-ofZ {w = w32} (sfits-of {z = getD (a .y .now) (l .k) (pos 0)} (g .before .row-gap-arg .given)) in
     let d-is = toZ-ofZ {w = w64} (sfits-of {z = getD (a .d .now) (l .k) (pos 0)} (c .before .ld .given)) in
     let gap-is = g .row-gap .ensures ∙ ap (λ (y : ℤ). rowGap (getD (a .verdict .now) (l .k) 0) y (a .j) (a .r2)) y-is in
-    rw (c .one-if-below .ensures, x-is, d-is, gap-is)
-    (omega (arith, k .loop-test .taken),
-    roomy-set (l .lx) (l .ly) (l .ld) (l .n) _ _ _ (l .inv .1),
-    near-step (a .x .now) (a .y .now) (a .verdict .now) (a .d .now) (a .r2) (a .j) (s .pre .0) (s .pre .2) (l .lx) (l .ly) (l .ld) (l .inv .1) (l .n) (l .k) (k .loop-test .taken) (l .inv .2))
+    rw (c .one-if-below .ensures, x-is, d-is, gap-is) (
+      omega (arith, k .loop-test .taken),
+      roomy-set (l .lx) (l .ly) (l .ld) (l .n) _ _ _ (l .inv .1),
+      near-step (a .x .now) (a .y .now) (a .verdict .now) (a .d .now) (a .r2) (a .j) (s .pre .0) (s .pre .2) (l .lx) (l .ly) (l .ld) (l .inv .1) (l .n) (l .k) (k .loop-test .taken) (l .inv .2),
+    )
 
 returns : tie.Need-returns Inv-loop μ-loop
 returns c =

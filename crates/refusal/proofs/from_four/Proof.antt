@@ -1,7 +1,7 @@
 -- `refusal::from_four` meets its contract. Assumes nothing.
 use native.Mathlib.Omega.{arith}
 use borrow.Author.Needs.{needs}
-use mathlib.Core.Path.{_≡_, sym, _∙_}
+use mathlib.Core.Path.{sym, _∙_}
 use Rattle.scheme.specs.Units.{Columns}
 use Rattle.scheme.specs.Refusals.{fromFour, badColumns, badScans}
 use Rattle.scheme.specs.Accepted.{equal}
@@ -40,14 +40,14 @@ from-six-requires c κs =
     let b = c .before in
     let s = b .before .before .before .before .before .before in
     let columns : Columns =
-        record {
-          x = s .args .x .now;
-          y = s .args .y .now;
-          value = s .args .value .now;
-          observed = s .args .observed .now;
-          from = s .args .from .now;
-          until = s .args .until .now;
-        } in
+    record {
+      x = s .args .x .now;
+      y = s .args .y .now;
+      value = s .args .value .now;
+      observed = s .args .observed .now;
+      from = s .args .from .now;
+      until = s .args .until .now;
+    } in
     let e = equal columns (sym (b .before .before .columns-bad .ensures) ∙ b .before .if1 .left) in
     let (few, radii, limits) = scans-fit _ _ _ (sym (b .scans-bad .ensures) ∙ c .if2 .left) in
     record {

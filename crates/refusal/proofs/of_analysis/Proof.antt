@@ -2,7 +2,7 @@
 use native.Mathlib.Omega.{arith}
 use native.Mathlib.Nat.{mul-le-mul}
 use borrow.Author.Needs.{needs}
-use mathlib.Core.Path.{_≡_, sym, _∙_}
+use mathlib.Core.Path.{sym, _∙_}
 use Rattle.scheme.specs.Refusals.{analysisRefusal, badLengths}
 use Rattle.scheme.specs.Accepted.{shaped}
 use Rattle.refusal.specs.Coded.{refused-here, not-here}

@@ -9,8 +9,6 @@ use Rattle.scheme.specs.Rounding.{rounded}
 use Rattle.scheme.specs.Nearest.{rounded-size}
 use Rattle.station.proofs.value_at.Statement.{statement}
 use Rattle.station.proofs.value_at.Tie as tie
-use Rattle.station.proofs.value_at.Reads as reads
-use Rattle.station.proofs.value_at.Lts as lts
 
 sum-at-requires : tie.Need-sum-at-requires
 sum-at-requires c κs = search needs

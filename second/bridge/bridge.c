@@ -1,0 +1,220 @@
+/*
+ * bridge.c: calls of the archive libclause.a, asked for on standard input and answered on standard output.
+ *
+ * The archive is x86-64 code and the second program runs on any processor, so the two meet over pipes. The other end is
+ * second/src/bridge.rs. Every number is 32 bits, little-endian, as it lies in memory here. A column is its length and
+ * then its numbers. A call is the number of its function and then what the function asks for:
+ *
+ *   0, greet     nothing. The answer is GREETING.
+ *   1, analyse   whether empty slices get null; the byte that fills results and guards; nx, ny, scans, smooth, time,
+ *                age; the nine columns in the order of enum column_name; the lengths of grid, support and verdict. The
+ *                answer is what the archive returned, the flags, and grid, support and verdict as they are then.
+ *
+ * Bit r of the flags is set where the archive wrote outside result r, and bit RESULTS + c where it changed column c.
+ */
+#include "sosnyavik.h"
+
+#include <stdio.h>
+#include <stdlib.h>
+#include <string.h>
+#include <sys/resource.h>
+
+enum function { GREET = 0, ANALYSE = 1 };
+enum column_name { FIRST_GUESS, X, Y, VALUE, OBSERVED, FROM, UNTIL, RADIUS, LIMIT, COLUMNS };
+enum result_name { GRID, SUPPORT, VERDICT, RESULTS };
+
+static const uint32_t GREETING = 0x536F736E;
+
+/* As many cells as the largest grid has points: whoever writes a whole result into a slice that is too short, even an
+ * empty one, stays inside. */
+enum { GUARD = 4096 };
+
+/* An input as it came, and in a block of its own and exactly its length: a write beyond that damages the heap, which
+ * ends the program, and a read beyond it is a memory checker's to find. */
+struct column {
+    size_t length, size;
+    void *sent, *lent;
+    const void *address;
+};
+
+/* A result between two guards. All is in one block; size and guard are bytes. */
+struct result {
+    size_t length, size, guard;
+    unsigned char pattern, *block;
+    void *address;
+};
+
+struct analysis {
+    uint32_t nx, ny, scans, smooth, time, age;
+    struct column columns[COLUMNS];
+    struct result results[RESULTS];
+};
+
+static _Noreturn void fail(const char *reason) {
+    fprintf(stderr, "bridge: %s\n", reason);
+    exit(2);
+}
+
+/* Aligned and not null, with glibc also for a size of 0. */
+static void *allocate(size_t size) {
+    void *block = malloc(size);
+    if (block == NULL)
+        fail("out of memory");
+    return block;
+}
+
+static void take(void *to, size_t size) {
+    if (fread(to, 1, size, stdin) != size)
+        fail("a call ends before all of it has come");
+}
+
+static uint32_t take_number(void) {
+    uint32_t number;
+    take(&number, sizeof number);
+    return number;
+}
+
+static void give(const void *from, size_t size) {
+    if (fwrite(from, 1, size, stdout) != size)
+        fail("an answer cannot be written");
+}
+
+static void give_number(uint32_t number) { give(&number, sizeof number); }
+
+static struct column take_column(bool null) {
+    struct column column = {.length = take_number()};
+    column.size = column.length * sizeof(uint32_t);
+    column.sent = allocate(column.size);
+    column.lent = allocate(column.size);
+    take(column.sent, column.size);
+    memcpy(column.lent, column.sent, column.size);
+    column.address = null && column.length == 0 ? NULL : column.lent;
+    return column;
+}
+
+static bool is_changed(const struct column *column) { return memcmp(column->sent, column->lent, column->size) != 0; }
+
+static struct result take_result(size_t cell, unsigned char pattern, bool null) {
+    struct result result = {.length = take_number(), .guard = GUARD * cell, .pattern = pattern};
+    result.size = result.length * cell;
+    result.block = allocate(result.guard + result.size + result.guard);
+    memset(result.block, pattern, result.guard + result.size + result.guard);
+    result.address = null && result.length == 0 ? NULL : result.block + result.guard;
+    return result;
+}
+
+/* Each byte is like the one after it: this is quick under an emulator too. */
+static bool is_whole(const unsigned char *guard, size_t size, unsigned char pattern) {
+    return guard[0] == pattern && memcmp(guard, guard + 1, size - 1) == 0;
+}
+
+static bool is_written_outside(const struct result *result) {
+    const unsigned char *before = result->block, *after = before + result->guard + result->size;
+    return !is_whole(before, result->guard, result->pattern) || !is_whole(after, result->guard, result->pattern);
+}
+
+static struct analysis take_analysis(void) {
+    struct analysis a;
+    bool null = take_number() != 0;
+    unsigned char pattern = (unsigned char)take_number();
+    a.nx = take_number();
+    a.ny = take_number();
+    a.scans = take_number();
+    a.smooth = take_number();
+    a.time = take_number();
+    a.age = take_number();
+    for (size_t c = 0; c < COLUMNS; c++)
+        a.columns[c] = take_column(null);
+    for (size_t r = 0; r < RESULTS; r++)
+        a.results[r] = take_result(r == GRID ? sizeof(int32_t) : sizeof(uint8_t), pattern, null);
+    return a;
+}
+
+/* clang-format off */
+static uint32_t call_analyse(const struct analysis *a) {
+    const struct column *in = a->columns;
+    const struct result *out = a->results;
+    return sosnyavik_analyse(
+        a->nx, a->ny, in[FIRST_GUESS].address, in[FIRST_GUESS].length,
+        in[X].address, in[X].length,
+        in[Y].address, in[Y].length,
+        in[VALUE].address, in[VALUE].length,
+        in[OBSERVED].address, in[OBSERVED].length,
+        in[FROM].address, in[FROM].length,
+        in[UNTIL].address, in[UNTIL].length,
+        a->scans,
+        in[RADIUS].address, in[RADIUS].length,
+        in[LIMIT].address, in[LIMIT].length,
+        a->smooth != 0, a->time, a->age,
+        out[GRID].address, out[GRID].length,
+        out[SUPPORT].address, out[SUPPORT].length,
+        out[VERDICT].address, out[VERDICT].length);
+}
+/* clang-format on */
+
+static uint32_t flags_of(const struct analysis *a) {
+    uint32_t flags = 0;
+    for (size_t r = 0; r < RESULTS; r++)
+        flags |= (uint32_t)is_written_outside(&a->results[r]) << r;
+    for (size_t c = 0; c < COLUMNS; c++)
+        flags |= (uint32_t)is_changed(&a->columns[c]) << (RESULTS + c);
+    return flags;
+}
+
+static void release(struct analysis *a) {
+    for (size_t c = 0; c < COLUMNS; c++) {
+        free(a->columns[c].sent);
+        free(a->columns[c].lent);
+    }
+    for (size_t r = 0; r < RESULTS; r++)
+        free(a->results[r].block);
+}
+
+static void analyse(void) {
+    struct analysis a = take_analysis();
+    uint32_t code = call_analyse(&a);
+    give_number(code);
+    give_number(flags_of(&a));
+    for (size_t r = 0; r < RESULTS; r++)
+        give(a.results[r].block + a.results[r].guard, a.results[r].size);
+    release(&a);
+}
+
+/* The number of the next call's function, unless the input ends before it. */
+static bool next_call(uint32_t *function) {
+    size_t size = fread(function, 1, sizeof *function, stdin);
+    if (size != 0 && size != sizeof *function)
+        fail("the input ends inside the number of a function");
+    return size != 0;
+}
+
+static void answer(uint32_t function) {
+    switch (function) {
+    case GREET:
+        give_number(GREETING);
+        break;
+    case ANALYSE:
+        analyse();
+        break;
+    default:
+        fail("a call names no function of the bridge");
+    }
+    /* Only now, after the blocks are freed: a heap that the archive damaged shows in the call that did it. */
+    if (fflush(stdout) != 0)
+        fail("an answer cannot be written");
+}
+
+/* The second program makes a crash small by many more crashes; each could leave a file behind. */
+static void leave_no_core_files(void) {
+    struct rlimit none = {0, 0};
+    if (setrlimit(RLIMIT_CORE, &none) != 0)
+        fail("core files cannot be turned off");
+}
+
+int main(void) {
+    uint32_t function;
+    leave_no_core_files();
+    while (next_call(&function))
+        answer(function);
+    return 0;
+}

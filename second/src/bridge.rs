@@ -1,0 +1,266 @@
+//! The archive libclause.a as a subject. It is x86-64 code and this program
+//! runs on any processor, so its calls are made by a program of their own,
+//! the bridge, over pipes. `bridge/bridge.c` has the protocol.
+
+use crate::call::Call;
+use crate::compare::{Answer, Results, Subject};
+use crate::patterned::BYTE_PATTERN;
+use std::cell::RefCell;
+use std::io::{self, BufRead, BufReader, Read, Write};
+use std::process::{Child, ChildStdin, ChildStdout, Command, Stdio};
+use std::thread::{spawn, JoinHandle};
+
+const GREET: u32 = 0;
+const ANALYSE: u32 = 1;
+const GREETING: u32 = 0x536F_736E;
+
+/// What the lowest bits of the flags stand for; one for each result, then one
+/// for each column.
+const RESULTS: [&str; 3] = ["grid", "support", "verdict"];
+const COLUMNS: [&str; 9] =
+    ["first_guess", "x", "y", "value", "observed", "from", "until", "radius", "limit"];
+
+/// What a C caller hands over as the address of an empty slice. Its length is
+/// 0, so the address must not be followed.
+#[derive(Clone, Copy, Debug, Default, PartialEq, Eq)]
+pub enum Empty {
+    /// An aligned address that is not null.
+    #[default]
+    Dangling,
+    Null,
+}
+
+/// The archive behind a bridge that runs over all calls, and is started anew
+/// after a call in which it died.
+pub struct Bridge {
+    command: String,
+    empty: Empty,
+    running: RefCell<Option<Running>>,
+}
+
+impl Bridge {
+    /// Starts the bridge: a program and its arguments, split on spaces.
+    pub fn start(command: &str, empty: Empty) -> Result<Self, String> {
+        let running = RefCell::new(Some(Running::start(command)?));
+        Ok(Bridge { command: command.to_string(), empty, running })
+    }
+}
+
+impl Subject for Bridge {
+    fn analyse(&self, call: &Call, results: Results) -> Answer<u32> {
+        let request = analyse_request(call, &results, self.empty);
+        let mut place = self.running.borrow_mut();
+        let mut running = match place.take() {
+            Some(running) => running,
+            None => Running::start(&self.command)
+                .map_err(|why| format!("the bridge does not start again: {why}"))?,
+        };
+        match running.ask(&request).and_then(|output| read_answer(output, results)) {
+            Ok((code, flags)) => {
+                *place = Some(running);
+                seen_by_bridge(flags).map_or(Ok(code), Err)
+            }
+            Err(_) => Err(format!("the archive died in this call: {}", running.end())),
+        }
+    }
+}
+
+struct Running {
+    child: Child,
+    input: ChildStdin,
+    output: BufReader<ChildStdout>,
+    /// Gives the last line of its standard error, once that has ended.
+    last_words: JoinHandle<String>,
+}
+
+impl Running {
+    fn start(command: &str) -> Result<Self, String> {
+        let mut words = command.split_whitespace();
+        let program = words.next().ok_or("an empty command")?;
+        let mut child = Command::new(program)
+            .args(words)
+            .stdin(Stdio::piped())
+            .stdout(Stdio::piped())
+            .stderr(Stdio::piped())
+            .spawn()
+            .map_err(|error| error.to_string())?;
+        let (Some(input), Some(output), Some(errors)) =
+            (child.stdin.take(), child.stdout.take(), child.stderr.take())
+        else {
+            unreachable!("all three are piped");
+        };
+        let last_words = spawn(|| last_line(errors));
+        Running { child, input, output: BufReader::new(output), last_words }.greeted()
+    }
+
+    /// Fails if something else than a bridge was started.
+    fn greeted(mut self) -> Result<Self, String> {
+        match self.ask(&GREET.to_le_bytes()).and_then(read_number) {
+            Ok(GREETING) => Ok(self),
+            Ok(_) => {
+                self.end();
+                Err("it answers, but not as the bridge does".to_string())
+            }
+            Err(_) => Err(self.end()),
+        }
+    }
+
+    /// Hands a call over; what comes next is its answer.
+    fn ask(&mut self, request: &[u8]) -> io::Result<&mut BufReader<ChildStdout>> {
+        self.input.write_all(request)?;
+        Ok(&mut self.output)
+    }
+
+    /// How it ended. Killing it changes nothing if it has died by itself.
+    fn end(self) -> String {
+        let Running { mut child, input, output, last_words } = self;
+        drop((input, output));
+        let status = child.kill().and_then(|()| child.wait());
+        let status = status.map_or_else(|error| error.to_string(), |status| status.to_string());
+        match last_words.join() {
+            Ok(line) if !line.is_empty() => format!("{status}, {line}"),
+            _ => status,
+        }
+    }
+}
+
+fn last_line(errors: impl Read) -> String {
+    let lines = BufReader::new(errors).split(b'\n').map_while(Result::ok);
+    let last = lines.last().unwrap_or_default();
+    String::from_utf8_lossy(&last).trim().to_string()
+}
+
+fn analyse_request(call: &Call, results: &Results, empty: Empty) -> Vec<u8> {
+    let null = u32::from(empty == Empty::Null);
+    let mut bytes = Vec::new();
+    put_numbers(&mut bytes, &[ANALYSE, null, BYTE_PATTERN.into()]);
+    put_numbers(&mut bytes, &[call.nx, call.ny, call.scans]);
+    put_numbers(&mut bytes, &[call.smooth.into(), call.time, call.age]);
+    put_column(&mut bytes, &call.first_guess, i32::to_le_bytes);
+    put_column(&mut bytes, &call.x, i32::to_le_bytes);
+    put_column(&mut bytes, &call.y, i32::to_le_bytes);
+    put_column(&mut bytes, &call.value, i32::to_le_bytes);
+    put_column(&mut bytes, &call.observed, u32::to_le_bytes);
+    put_column(&mut bytes, &call.from, u32::to_le_bytes);
+    put_column(&mut bytes, &call.until, u32::to_le_bytes);
+    put_column(&mut bytes, &call.radius, i32::to_le_bytes);
+    put_column(&mut bytes, &call.limit, i32::to_le_bytes);
+    let Results { grid, support, verdict } = results;
+    put_numbers(&mut bytes, &[grid.len(), support.len(), verdict.len()].map(length));
+    bytes
+}
+
+fn put_numbers(bytes: &mut Vec<u8>, numbers: &[u32]) {
+    bytes.extend(numbers.iter().flat_map(|number| number.to_le_bytes()));
+}
+
+fn put_column<T: Copy>(bytes: &mut Vec<u8>, column: &[T], as_bytes: fn(T) -> [u8; 4]) {
+    put_numbers(bytes, &[length(column.len())]);
+    bytes.extend(column.iter().flat_map(|number| as_bytes(*number)));
+}
+
+fn length(length: usize) -> u32 {
+    u32::try_from(length).expect("no column is that long")
+}
+
+/// Fills the results in and gives the code and the flags.
+fn read_answer(mut input: impl Read, results: Results) -> io::Result<(u32, u32)> {
+    let code = read_number(&mut input)?;
+    let flags = read_number(&mut input)?;
+    for value in results.grid {
+        *value = read_number(&mut input)? as i32;
+    }
+    input.read_exact(results.support)?;
+    input.read_exact(results.verdict)?;
+    Ok((code, flags))
+}
+
+fn read_number(mut input: impl Read) -> io::Result<u32> {
+    let mut bytes = [0; 4];
+    input.read_exact(&mut bytes)?;
+    Ok(u32::from_le_bytes(bytes))
+}
+
+/// The first thing that the flags say.
+fn seen_by_bridge(flags: u32) -> Option<String> {
+    let bit = (0..u32::BITS as usize).find(|bit| flags >> bit & 1 == 1)?;
+    let column = bit.checked_sub(RESULTS.len()).and_then(|column| COLUMNS.get(column));
+    Some(match (RESULTS.get(bit), column) {
+        (Some(name), _) => format!("{name} is written outside its slice"),
+        (None, Some(name)) => format!("the input {name} is changed by the call"),
+        (None, None) => format!("the bridge answers with flags that mean nothing, {flags:#x}"),
+    })
+}
+
+#[cfg(test)]
+mod tests {
+    use super::*;
+
+    /// The bytes of a request as 32-bit numbers.
+    fn numbers_of(request: &[u8]) -> Vec<u32> {
+        let numbers = request.chunks(4).map(|bytes| bytes.try_into().expect("whole numbers"));
+        numbers.map(u32::from_le_bytes).collect()
+    }
+
+    #[test]
+    fn every_argument_is_in_its_place() {
+        let call = Call {
+            nx: 1,
+            ny: 2,
+            first_guess: vec![-3],
+            x: vec![4, i32::MIN],
+            y: vec![5],
+            value: vec![6],
+            observed: vec![7, u32::MAX],
+            from: vec![8],
+            until: vec![9],
+            scans: 10,
+            radius: vec![11],
+            limit: vec![],
+            smooth: true,
+            time: 13,
+            age: 14,
+            ..Call::default()
+        };
+        let results = Results { grid: &mut [0; 15], support: &mut [0; 16], verdict: &mut [0; 17] };
+        let null = numbers_of(&analyse_request(&call, &results, Empty::Null));
+        assert_eq!(null[..9], [1, 1, 0xA5, 1, 2, 10, 1, 13, 14]);
+        assert_eq!(null[9..16], [1, 3_u32.wrapping_neg(), 2, 4, 0x8000_0000, 1, 5]);
+        assert_eq!(null[16..25], [1, 6, 2, 7, u32::MAX, 1, 8, 1, 9]);
+        assert_eq!(null[25..], [1, 11, 0, 15, 16, 17]);
+        let dangling = numbers_of(&analyse_request(&call, &results, Empty::Dangling));
+        assert_eq!((dangling[1], &dangling[2..]), (0, &null[2..]));
+    }
+
+    #[test]
+    fn an_answer_is_read_to_its_end() {
+        let answer =
+            [1, 0, 8, 0, 4, 0, 0, 0, 0xFE, 0xFF, 0xFF, 0xFF, 7, 0, 0, 0x80, 21, 22, 31, 99];
+        let read = |mut answer: &[u8]| {
+            let (mut grid, mut support, mut verdict) = ([0; 2], [0; 2], [0; 1]);
+            let results = Results { grid: &mut grid, support: &mut support, verdict: &mut verdict };
+            let read = read_answer(&mut answer, results).ok()?;
+            Some((read, grid, support, verdict, answer.to_vec()))
+        };
+        let given = ((0x0008_0001, 4), [-2, i32::MIN + 7], [21, 22], [31], vec![99]);
+        assert_eq!(read(&answer), Some(given));
+        assert_eq!(read(&answer[..18]), None, "a verdict is missing");
+    }
+
+    #[test]
+    fn flags_name_what_was_written() {
+        let said = |flags| seen_by_bridge(flags).unwrap_or_default();
+        assert_eq!(seen_by_bridge(0), None);
+        assert_eq!(said(0b1), "grid is written outside its slice");
+        assert_eq!(said(0b100), "verdict is written outside its slice");
+        assert_eq!(said(0b1000), "the input first_guess is changed by the call");
+        assert_eq!(said(1 << 11), "the input limit is changed by the call");
+        assert_eq!(said(1 << 12), "the bridge answers with flags that mean nothing, 0x1000");
+    }
+
+    #[test]
+    fn the_last_line_is_kept() {
+        assert_eq!(last_line(&b"one\n\xFFtwo\n"[..]), "\u{FFFD}two");
+        assert_eq!(last_line(&b""[..]), "");
+    }
+}

@@ -1,0 +1,95 @@
+//! The bridge itself, built for this processor around a stub of the archive.
+
+use second::bridge::{Bridge, Empty};
+use second::call::Call;
+use second::compare::{Answer, Results, Subject};
+use std::process::Command;
+use std::sync::OnceLock;
+
+const PROGRAM: &str = concat!(env!("CARGO_TARGET_TMPDIR"), "/bridge");
+
+fn start(empty: Empty) -> Bridge {
+    static BUILT: OnceLock<()> = OnceLock::new();
+    BUILT.get_or_init(|| {
+        let flags = ["-std=c11", "-Wall", "-Wextra", "-Werror", "-I../include", "-o", PROGRAM];
+        let sources = ["bridge/bridge.c", "tests/suite/stub.c"];
+        let status = Command::new("cc").args(flags).args(sources).status();
+        assert!(status.expect("a C compiler").success());
+    });
+    Bridge::start(PROGRAM, empty).expect("it starts")
+}
+
+/// A call in which no two things are alike.
+fn call(time: u32) -> Call {
+    Call {
+        nx: 101,
+        ny: 102,
+        first_guess: vec![-201, 0, 301],
+        x: vec![-202, 0, 0, 302],
+        y: vec![-203, 0, 0, 0, 303],
+        value: vec![i32::MIN, 0, 0, 0, 0, 304],
+        observed: vec![205, 0, 0, 0, 0, 0, 305],
+        from: vec![206, 0, 0, 0, 0, 0, 0, 306],
+        until: vec![207, 0, 0, 0, 0, 0, 0, 0, u32::MAX],
+        scans: 103,
+        radius: vec![208, 308],
+        limit: vec![209],
+        smooth: true,
+        time,
+        age: 104,
+        ..Call::default()
+    }
+}
+
+fn answer(bridge: &Bridge, time: u32) -> (Answer<u32>, Vec<i32>, Vec<u8>, Vec<u8>) {
+    let (mut grid, mut support, mut verdict) = (vec![5; 40], vec![5; 3], vec![5; 2]);
+    let results = Results { grid: &mut grid, support: &mut support, verdict: &mut verdict };
+    (bridge.analyse(&call(time), results), grid, support, verdict)
+}
+
+#[test]
+fn every_argument_and_result_crosses_the_bridge() {
+    let (code, grid, support, verdict) = answer(&start(Empty::Null), 0);
+    assert_eq!((code, support, verdict), (Ok(0), vec![1; 3], vec![2; 2]));
+    assert_eq!(grid[..6], [101, 102, 103, 1, 0, 104]);
+    assert_eq!(grid[6..18], [3, -201, 301, 4, -202, 302, 5, -203, 303, 6, i32::MIN, 304]);
+    assert_eq!(grid[18..27], [7, 205, 305, 8, 206, 306, 9, 207, -1]);
+    assert_eq!(grid[27..36], [2, 208, 308, 1, 209, 209, 40, 3, 2]);
+    let untouched = i32::from_ne_bytes([0xA5; 4]);
+    assert_eq!(grid[36..], [untouched; 4], "as they were before the call");
+}
+
+#[test]
+fn empty_slices_are_null_where_asked() {
+    let nulls = |empty| {
+        let results = Results { grid: &mut [], support: &mut [], verdict: &mut [] };
+        start(empty).analyse(&Call::default(), results)
+    };
+    assert_eq!((nulls(Empty::Dangling), nulls(Empty::Null)), (Ok(0), Ok(12)));
+}
+
+#[test]
+fn writes_outside_the_results_are_seen() {
+    let bridge = start(Empty::Dangling);
+    for (time, name) in (1..).zip(["grid", "grid", "support", "support", "verdict", "verdict"]) {
+        let seen = format!("{name} is written outside its slice");
+        assert_eq!(answer(&bridge, time).0, Err(seen), "fault {time}");
+    }
+    let columns =
+        ["first_guess", "x", "y", "value", "observed", "from", "until", "radius", "limit"];
+    for (time, name) in (7..).zip(columns) {
+        let seen = format!("the input {name} is changed by the call");
+        assert_eq!(answer(&bridge, time).0, Err(seen), "fault {time}");
+    }
+    assert_eq!(answer(&bridge, 0).0, Ok(0));
+}
+
+#[test]
+fn a_crash_is_seen_and_the_next_call_answered() {
+    let bridge = start(Empty::Dangling);
+    for _ in 0..3 {
+        let died = answer(&bridge, 16).0.expect_err("it aborts");
+        assert!(died.starts_with("the archive died in this call: signal: 6"), "{died}");
+        assert_eq!(answer(&bridge, 0).0, Ok(0));
+    }
+}

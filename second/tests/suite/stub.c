@@ -1,0 +1,95 @@
+/*
+ * stub.c: stands in for the archive in the tests of the bridge. Each of its calls says what it got: in grid the plain
+ * numbers, the length, first and last number of each column, and the lengths of the results; as its result how many of
+ * the addresses are null. A time that is not 0 asks for a fault.
+ */
+#include "sosnyavik.h"
+
+#include <stdlib.h>
+#include <string.h>
+
+enum { COLUMNS = 9, OUTSIDE = 1, CHANGES = 7, ABORTS = 16 };
+
+struct column {
+    uint32_t *numbers;
+    size_t length;
+};
+
+static int32_t *tell(int32_t *to, const struct column *column) {
+    to[0] = (int32_t)column->length;
+    to[1] = (int32_t)column->numbers[0];
+    to[2] = (int32_t)column->numbers[column->length - 1];
+    return to + 3;
+}
+
+/* clang-format off */
+uint32_t sosnyavik_analyse(
+    uint32_t nx, uint32_t ny, const int32_t *first_guess, size_t first_guess_len,
+    const int32_t *x, size_t x_len,
+    const int32_t *y, size_t y_len,
+    const int32_t *value, size_t value_len,
+    const uint32_t *observed, size_t observed_len,
+    const uint32_t *from, size_t from_len,
+    const uint32_t *until, size_t until_len,
+    uint32_t scans,
+    const int32_t *radius, size_t radius_len,
+    const int32_t *limit, size_t limit_len,
+    bool smooth, uint32_t time, uint32_t age,
+    int32_t *grid, size_t grid_len,
+    uint8_t *support, size_t support_len,
+    uint8_t *verdict, size_t verdict_len) {
+    const struct column columns[COLUMNS] = {
+        {(uint32_t *)first_guess, first_guess_len},
+        {(uint32_t *)x, x_len},
+        {(uint32_t *)y, y_len},
+        {(uint32_t *)value, value_len},
+        {(uint32_t *)observed, observed_len},
+        {(uint32_t *)from, from_len},
+        {(uint32_t *)until, until_len},
+        {(uint32_t *)radius, radius_len},
+        {(uint32_t *)limit, limit_len},
+    };
+    /* clang-format on */
+    uint32_t nulls = (grid == NULL) + (support == NULL) + (verdict == NULL);
+    for (size_t c = 0; c < COLUMNS; c++)
+        nulls += columns[c].numbers == NULL;
+    if (grid_len == 0)
+        return nulls;
+
+    int32_t numbers[] = {(int32_t)nx, (int32_t)ny, (int32_t)scans, smooth, (int32_t)time, (int32_t)age};
+    memcpy(grid, numbers, sizeof numbers);
+    int32_t *to = grid + sizeof numbers / sizeof *numbers;
+    for (size_t c = 0; c < COLUMNS; c++)
+        to = tell(to, &columns[c]);
+    to[0] = (int32_t)grid_len;
+    to[1] = (int32_t)support_len;
+    to[2] = (int32_t)verdict_len;
+    memset(support, 1, support_len);
+    memset(verdict, 2, verdict_len);
+
+    switch (time) {
+    case OUTSIDE:
+        grid[-1] = 0;
+        break;
+    case OUTSIDE + 1:
+        grid[grid_len] = 0;
+        break;
+    case OUTSIDE + 2:
+        support[-1] = 0;
+        break;
+    case OUTSIDE + 3:
+        support[support_len] = 0;
+        break;
+    case OUTSIDE + 4:
+        verdict[-4096] = 0;
+        break;
+    case OUTSIDE + 5:
+        verdict[verdict_len + 4095] = 0;
+        break;
+    case ABORTS:
+        abort();
+    }
+    if (CHANGES <= time && time < CHANGES + COLUMNS)
+        columns[time - CHANGES].numbers[columns[time - CHANGES].length - 1] ^= 1;
+    return nulls;
+}
