@@ -43,7 +43,7 @@ pub record ScanReady (nx ny : ℕ) (xs ys vs : List ℤ) (radius limit number bi
 unfoldable pub smoothedIf : (nx ny : ℕ) → Bool → List ℤ → List ℤ
 smoothedIf nx ny on l = cond on (stored nx ny (smoothed nx ny (fieldOf (pos 0) nx l))) l
 
-module _ (nx ny : ℕ) (xs ys vs : List ℤ) (radius limit number bit : ℕ) (z : List ℤ) (sup st : List ℕ) (ds₀ : List ℤ)
+module _ {nx ny : ℕ} {xs ys vs : List ℤ} {radius limit number bit : ℕ} {z : List ℤ} {sup st : List ℕ} {ds₀ : List ℤ}
     (ok : ScanReady nx ny xs ys vs radius limit number bit z sup st ds₀) where
   pub judge-ready : JudgeReady z nx ny xs ys vs st ds₀ number
   judge-ready =
@@ -60,7 +60,7 @@ module _ (nx ny : ℕ) (xs ys vs : List ℤ) (radius limit number bit : ℕ) (z 
       }
 
   -- after judging
-  module _ (st' : List ℕ) (ds : List ℤ) (vf : Filled 0 (verdictAt z nx ny xs ys vs st number limit) 0 (length xs) st st')
+  module _ {st' : List ℕ} {ds : List ℤ} (vf : Filled 0 (verdictAt z nx ny xs ys vs st number limit) 0 (length xs) st st')
       (df : Filled (pos 0) (diffAt z nx ny xs ys vs st) 0 (length xs) ds₀ ds) where
     verdicts : st' ≡ tab (length xs) (verdictAt z nx ny xs ys vs st number limit)
     verdicts = filled-all 0 (verdictAt z nx ny xs ys vs st number limit) (length xs) st st' (ok .len-st) vf
@@ -112,7 +112,7 @@ module _ (nx ny : ℕ) (xs ys vs : List ℤ) (radius limit number bit : ℕ) (z 
           correction-size 2000000 (sumsOver xs ys st' ds (radius * radius) i j) (over-small xs ys st' ds (radius * radius) i j columns),
         )
 
-    module _ (z1 : List ℤ) (z1-is : z1 ≡ stored nx ny (corrected z nx xs ys st' ds (radius * radius))) where
+    module _ {z1 : List ℤ} (z1-is : z1 ≡ stored nx ny (corrected z nx xs ys st' ds (radius * radius))) where
       pub smooth-shaped : Shaped nx ny (length z1)
       smooth-shaped =
           rw (z1-is, length-stored nx ny (corrected z nx xs ys st' ds (radius * radius)))
@@ -129,10 +129,10 @@ module _ (nx ny : ℕ) (xs ys vs : List ℤ) (radius limit number bit : ℕ) (z 
           rw z1-is (stored-all (λ (v : ℤ). natAbs v ≤ 13000000) (pos 0) nx ny (corrected z nx xs ys st' ds (radius * radius)) (omega arith) corrected-size)
 
       -- and after smoothing
-      pub scanned : (smooth : Bool) (z' : List ℤ) (sup' : List ℕ) → z' ≡ smoothedIf nx ny smooth z1
+      pub scanned : {smooth : Bool} {z' : List ℤ} {sup' : List ℕ} → z' ≡ smoothedIf nx ny smooth z1
           → sup' ≡ stored nx ny (backed sup nx xs ys st' ds (radius * radius) bit)
           → Scanned nx ny xs ys vs smooth radius limit number bit z sup st z' sup' st' ds
-      scanned smooth z' sup' ez es =
+      scanned {smooth = smooth} {z' = z'} {sup' = sup'} ez es =
           record { verdicts = verdicts; differences = λ k h. df .new k (omega arith) h; supports = es; values = values smooth ez }
         where
           values : (smooth : Bool) → z' ≡ smoothedIf nx ny smooth z1 → (f : Field ℤ) → Same nx ny (corrected z nx xs ys st' ds (radius * radius)) f

@@ -49,7 +49,7 @@ pub record Reached (q : Request) (m : ℕ) (z : List ℤ) (sup st : List ℕ) : 
   pub on-grid : (k : ℕ) → k < length (q .columns .x) → getD st k 0 ≡ 0
       → OnGrid (q .nx) (q .ny) (getD (q .columns .x) k (pos 0)) (getD (q .columns .y) k (pos 0)) (getD (q .columns .value) k (pos 0))
 
-module _ (q : Request) (m : ℕ) (z : List ℤ) (sup st : List ℕ) (now : Reached q m z sup st) where
+module _ {q : Request} {m : ℕ} {z : List ℤ} {sup st : List ℕ} (now : Reached q m z sup st) where
   pub z-long : length z ≡ q .nx * q .ny
   z-long = ap length (now .holds .field) ∙ length-stored (q .nx) (q .ny) (after q m .field)
 
@@ -115,12 +115,12 @@ module _ (q : Request) (m : ℕ) (z : List ℤ) (sup st : List ℕ) (now : Reach
         })
 
     -- the same, of the numbers that the code has
-    module _ (radius limit bit : ℕ) (radius-is : radius ≡ R q m) (limit-is : limit ≡ E q m) (bit-is : bit ≡ 2 ^ m) where
+    module _ {radius limit bit : ℕ} (radius-is : radius ≡ R q m) (limit-is : limit ≡ E q m) (bit-is : bit ≡ 2 ^ m) where
       pub ready-for : (ds : List ℤ) → length ds ≡ 512
           → ScanReady (q .nx) (q .ny) (q .columns .x) (q .columns .y) (q .columns .value) radius limit (m + 1) bit z sup st ds
       ready-for ds long = rw (radius-is, limit-is, bit-is) (scan-ready ds long)
 
-      pub next-after : (z' : List ℤ) (sup' st' : List ℕ) (ds : List ℤ)
+      pub next-after : {z' : List ℤ} {sup' st' : List ℕ} {ds : List ℤ}
           → Scanned (q .nx) (q .ny) (q .columns .x) (q .columns .y) (q .columns .value) (q .smooth) radius limit (m + 1) bit z sup st z' sup' st' ds
           → Reached q (m + 1) z' sup' st'
-      next-after z' sup' st' ds did = next z' sup' st' ds (rw (radius-is, limit-is, bit-is) at did)
+      next-after {z' = z'} {sup' = sup'} {st' = st'} {ds = ds} did = next z' sup' st' ds (rw (radius-is, limit-is, bit-is) at did)

@@ -40,8 +40,8 @@ pub record RowReady (z : List ℤ) (sup : List ℕ) (base nx : ℕ) (lx : List �
   pub free : (k : ℕ) → base ≤ k → getD sup k 0 + bit < 256
 
 -- a turn along the row: w and wd are the sums at column i
-module _ (z₀ : List ℤ) (sup₀ : List ℕ) (base nx : ℕ) (lx : List ℤ) (ly : List ℕ) (ld : List ℤ) (n r2 bit : ℕ)
-    (ok : RowReady z₀ sup₀ base nx lx ly ld n r2 bit) (z : List ℤ) (sup : List ℕ) (i : ℕ) (turn : i < nx)
+module _ {z₀ : List ℤ} {sup₀ : List ℕ} {base nx : ℕ} {lx : List ℤ} {ly : List ℕ} {ld : List ℤ} {n r2 bit : ℕ}
+    (ok : RowReady z₀ sup₀ base nx lx ly ld n r2 bit) {z : List ℤ} {sup : List ℕ} {i : ℕ} (turn : i < nx)
     (pz : Filled (pos 0) (rowZ z₀ lx ly ld n r2 base) base (base + i) z₀ z) (ps : Filled 0 (rowS sup₀ lx ly ld n r2 bit base) base (base + i) sup₀ sup) where
   pub place-in : (base + i < length z) × (base + i < length sup) × (base + i < 4096)
   place-in =
@@ -59,7 +59,7 @@ module _ (z₀ : List ℤ) (sup₀ : List ℕ) (base nx : ℕ) (lx : List ℤ) (
   next-place : base + (i + 1) ≡ base + i + 1
   next-place = omega arith
 
-  module _ (w : ℕ) (wd : ℤ) (w-is : w ≡ rowSums lx ly ld n r2 i .weights) (wd-is : wd ≡ rowSums lx ly ld n r2 i .pulls) where
+  module _ {w : ℕ} {wd : ℤ} (w-is : w ≡ rowSums lx ly ld n r2 i .weights) (wd-is : wd ≡ rowSums lx ly ld n r2 i .pulls) where
     pub sums-small : (w ≤ 51200) × (natAbs wd ≤ 2000000 * w)
     sums-small =
         let h = near-small lx ly ld r2 i n (ok .sized) in
@@ -106,7 +106,7 @@ pub record PassReady (z : List ℤ) (sup : List ℕ) (nx ny : ℕ) (xs ys : List
 
 -- ---- a row of the pass
 
-module _ (z₀ : List ℤ) (sup₀ : List ℕ) (nx ny : ℕ) (xs ys : List ℤ) (st : List ℕ) (ds : List ℤ) (radius bit : ℕ)
+module _ {z₀ : List ℤ} {sup₀ : List ℕ} {nx ny : ℕ} {xs ys : List ℤ} {st : List ℕ} {ds : List ℤ} {radius bit : ℕ}
     (ok : PassReady z₀ sup₀ nx ny xs ys st ds radius bit) where
   abbrev r2 : ℕ
   r2 = radius * radius
@@ -123,9 +123,9 @@ module _ (z₀ : List ℤ) (sup₀ : List ℕ) (nx ny : ℕ) (xs ys : List ℤ) 
   pub row-place : (j : ℕ) → j < ny → j * nx + nx ≤ 4096
   row-place j h = omega (arith, row-in j h, short, ok .shape .whole)
 
-  module _ (j : ℕ) (hj : j < ny) (z : List ℤ) (sup : List ℕ)
+  module _ {j : ℕ} (hj : j < ny) {z : List ℤ} {sup : List ℕ}
       (pz : Filled (pos 0) (passZ z₀ nx xs ys st ds r2) 0 (j * nx) z₀ z) (ps : Filled 0 (passS sup₀ nx xs ys st ds r2 bit) 0 (j * nx) sup₀ sup)
-      (lx : List ℤ) (ly : List ℕ) (ld : List ℤ) (n : ℕ) (near : Near lx ly ld n xs ys st ds r2 j (length xs)) where
+      {lx : List ℤ} {ly : List ℕ} {ld : List ℤ} {n : ℕ} (near : Near lx ly ld n xs ys st ds r2 j (length xs)) where
     pub row-ready : RowReady z sup (j * nx) nx lx ly ld n r2 bit
     row-ready =
         record {

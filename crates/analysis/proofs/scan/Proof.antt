@@ -6,21 +6,21 @@ use Rattle.analysis.proofs.scan.Statement.{statement}
 use Rattle.analysis.proofs.scan.Tie as tie
 
 judge-requires : tie.Need-judge-requires
-judge-requires c κs = let s = c .before .before .before .before .before in judge-ready (s .args .nx) (s .args .ny) (s .args .x .now) (s .args .y .now) (s .args .value .now) (s .args .radius) (s .args .limit) (s .args .number) (s .args .bit) (s .args .z .now) (s .args .support .now) (s .args .verdict .now) (s .args .d .now) (s .pre)
+judge-requires c κs = judge-ready (c .before .before .before .before .before .pre)
 
 correct-requires : tie.Need-correct-requires
 correct-requires c κs =
     let j = c .before .before .before .before .before .before in
     let s = j .before .before .before .before .before .before in
-    pass-ready (s .args .nx) (s .args .ny) (s .args .x .now) (s .args .y .now) (s .args .value .now) (s .args .radius) (s .args .limit) (s .args .number) (s .args .bit) (s .args .z .now) (s .args .support .now) (s .args .verdict .now) (s .args .d .now) (s .pre) (j .judge .last .1 .1 .1 .1 .1 .1 .0) (j .judge .last .1 .1 .1 .1 .1 .1 .1 .0) (j .judge .ensures .1) (j .judge .ensures .0)
+    pass-ready (s .pre) (j .judge .ensures .1) (j .judge .ensures .0)
 
 smooth-if-requires : tie.Need-smooth-if-requires
 smooth-if-requires c κs =
     let k = c .before .before .before .before in
     let j = k .before .before .before .before .before .before .before in
     let s = j .before .before .before .before .before .before in (
-      smooth-shaped (s .args .nx) (s .args .ny) (s .args .x .now) (s .args .y .now) (s .args .value .now) (s .args .radius) (s .args .limit) (s .args .number) (s .args .bit) (s .args .z .now) (s .args .support .now) (s .args .verdict .now) (s .args .d .now) (s .pre) (j .judge .last .1 .1 .1 .1 .1 .1 .0) (j .judge .last .1 .1 .1 .1 .1 .1 .1 .0) (j .judge .ensures .1) (j .judge .ensures .0) (k .correct .last .0) (k .correct .ensures .0),
-      smooth-small (s .args .nx) (s .args .ny) (s .args .x .now) (s .args .y .now) (s .args .value .now) (s .args .radius) (s .args .limit) (s .args .number) (s .args .bit) (s .args .z .now) (s .args .support .now) (s .args .verdict .now) (s .args .d .now) (s .pre) (j .judge .last .1 .1 .1 .1 .1 .1 .0) (j .judge .last .1 .1 .1 .1 .1 .1 .1 .0) (j .judge .ensures .1) (j .judge .ensures .0) (k .correct .last .0) (k .correct .ensures .0),
+      smooth-shaped (s .pre) (j .judge .ensures .1) (j .judge .ensures .0) (k .correct .ensures .0),
+      smooth-small (s .pre) (j .judge .ensures .1) (j .judge .ensures .0) (k .correct .ensures .0),
     )
 
 same-length : tie.Need-same-length
@@ -38,8 +38,7 @@ returns c =
     let k = m .before .before .before .before .before in
     let j = k .before .before .before .before .before .before .before in
     let s = j .before .before .before .before .before .before in (
-      scanned (s .args .nx) (s .args .ny) (s .args .x .now) (s .args .y .now) (s .args .value .now) (s .args .radius) (s .args .limit) (s .args .number) (s .args .bit) (s .args .z .now) (s .args .support .now) (s .args .verdict .now) (s .args .d .now) (s .pre) (j .judge .last .1 .1 .1 .1 .1 .1 .0) (j .judge .last .1 .1 .1 .1 .1 .1 .1 .0) (j .judge .ensures .1) (j .judge .ensures .0) (k .correct .last .0) (k .correct .ensures .0)
-          (s .args .smooth) (m .smooth-if .last .0) (k .correct .last .1 .0) (m .smooth-if .ensures) (k .correct .ensures .1),
+      scanned (s .pre) (j .judge .ensures .1) (j .judge .ensures .0) (k .correct .ensures .0) (m .smooth-if .ensures) (k .correct .ensures .1),
       j .judge .ensures .0 .same-length ∙ s .pre .long,
     )
 

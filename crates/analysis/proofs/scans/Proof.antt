@@ -100,13 +100,12 @@ add-scan c = let h = few (c .before .before .before .before .before .before) in 
 scan-requires : tie.Need-scan-requires Inv-loop μ-loop
 scan-requires c κs =
     let k = c .before .before .before .before .before .before in
-    ready-for (q k) (m k) (k .before .loop .z) (k .before .loop .support) (k .before .loop .verdict) (reached k) (k .loop-test .taken)
-    (natAbs (toZ w32 (ofZ w32 (rad k)))) (natAbs (toZ w32 (ofZ w32 (lim k)))) (k .before .loop .bit) (radius-is k) (limit-is k) (k .before .loop .inv .1) (k .before .loop .d) (k .before .loop .inv .2)
+    ready-for (reached k) (k .loop-test .taken) (radius-is k) (limit-is k) (k .before .loop .inv .1) (k .before .loop .d) (k .before .loop .inv .2)
 
 mul-bit : tie.Need-mul-bit Inv-loop μ-loop
 mul-bit c =
     let k = c .before .before .before .before .before .before .before .before .before .before .before .before in
-    omega (arith, k .before .loop .inv .1, bit-small (q k) (m k) (k .before .loop .z) (k .before .loop .support) (k .before .loop .verdict) (reached k) (k .loop-test .taken))
+    omega (arith, k .before .loop .inv .1, bit-small (reached k) (k .loop-test .taken))
 
 add-m : tie.Need-add-m Inv-loop μ-loop
 add-m c = let h = few (c .before .before .before .before .before .before .before .before .before .before .before .before) in omega arith
@@ -120,28 +119,23 @@ loop-again c =
     let k = c .before .before .before .before .before .before .before .before .before .before .before .before in
     let l = k .before .loop in
     let a = c .before .before .before .before .before .scan in
-    let doubled : l .bit * 2 ≡ 2 ^ (l .m + 1) = ap (λ (b : ℕ). b * 2) (l .inv .1) ∙ sym (pow-suc 2 (l .m)) ∙ ap (λ (n : ℕ). 2 ^ n) (sym (add-one (l .m))) in (
+    let doubled : l .bit * 2 ≡ 2 ^ (l .m + 1) =
+    ap (λ (b : ℕ). b * 2) (l .inv .1) ∙ sym (pow-suc 2 (l .m)) ∙ ap (λ (n : ℕ). 2 ^ n) (sym (add-one (l .m))) in (
       omega (arith, k .loop-test .taken),
       doubled,
       a .ensures .1,
-      λ r h. next-after (requestWith r (s k .args .nx) (s k .args .ny) (s k .args .x .now) (s k .args .y .now) (s k .args .value .now) (s k .args .radius .now) (s k .args .limit .now) (s k .args .count) (s k .args .smooth))
-          (l .m) (l .z) (l .support) (l .verdict) (l .inv .3 r h) (k .loop-test .taken)
-          (natAbs (toZ w32 (ofZ w32 (rad k)))) (natAbs (toZ w32 (ofZ w32 (lim k)))) (l .bit) (radius-is k) (limit-is k) (l .inv .1)
-          (a .last .0) (a .last .1 .0) (a .last .1 .1 .0) (a .last .1 .1 .1 .0) (a .ensures .0),
+      λ r h. next-after (l .inv .3 r h) (k .loop-test .taken) (radius-is k) (limit-is k) (l .inv .1) (a .ensures .0),
     )
 
 -- the slices keep their lengths
-end : (c : tie.After-loop Inv-loop μ-loop) → Reached (requestWith (c .before .before .before .before .pre .0) (c .before .before .before .before .args .nx) (c .before .before .before .before .args .ny) (c .before .before .before .before .args .x .now) (c .before .before .before .before .args .y .now) (c .before .before .before .before .args .value .now) (c .before .before .before .before .args .radius .now) (c .before .before .before .before .args .limit .now) (c .before .before .before .before .args .count) (c .before .before .before .before .args .smooth)) (c .before .loop .m) (c .before .loop .z) (c .before .loop .support) (c .before .loop .verdict)
-end c = let s = c .before .before .before .before in c .before .loop .inv .3 (s .pre .0) (s .pre .1)
-
 same-length : tie.Need-same-length Inv-loop μ-loop
-same-length c = let s = c .before .before .before .before in z-long _ _ _ _ _ (end c) ∙ sym (z-long _ _ _ _ _ (s .pre .1))
+same-length c = let p = c .before .before .before .before .pre in z-long (c .before .loop .inv .3 (p .0) (p .1)) ∙ sym (z-long (p .1))
 
 same-length-2 : tie.Need-same-length-2 Inv-loop μ-loop
-same-length-2 c = let s = c .before .before .before .before in sup-long _ _ _ _ _ (end c) ∙ sym (sup-long _ _ _ _ _ (s .pre .1))
+same-length-2 c = let p = c .before .before .before .before .pre in sup-long (c .before .loop .inv .3 (p .0) (p .1)) ∙ sym (sup-long (p .1))
 
 same-length-3 : tie.Need-same-length-3 Inv-loop μ-loop
-same-length-3 c = let s = c .before .before .before .before in end c .holds .long ∙ sym (s .pre .1 .holds .long)
+same-length-3 c = let p = c .before .before .before .before .pre in c .before .loop .inv .3 (p .0) (p .1) .holds .long ∙ sym (p .1 .holds .long)
 
 returns : tie.Need-returns Inv-loop μ-loop
 returns c =

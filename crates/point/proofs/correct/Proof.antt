@@ -10,10 +10,6 @@ use Rattle.point.specs.Near.{Roomy}
 use Rattle.point.specs.Pass.{rowZ, rowS, RowReady, passZ, passS, r2-close, row-place, row-ready, next-z, next-s, all-z, all-s}
 use Rattle.point.proofs.correct.Statement.{statement}
 use Rattle.point.proofs.correct.Tie as tie
-use Rattle.point.proofs.correct.Reads as reads
-use Rattle.point.proofs.correct.Lts as lts
-use Rattle.point.proofs.correct_row.Reads as correct-row-reads
-use Rattle.point.proofs.near_row.Reads as near-row-reads
 
 abbrev Inv-loop : tie.InvT-loop
 Inv-loop z₀ support₀ nx ny x y verdict d radius bit r2 lx₀ ly₀ ld₀ j₀ z support lx ly ld j =
@@ -24,11 +20,11 @@ abbrev μ-loop : tie.MeasureT-loop
 μ-loop z₀ support₀ nx ny x y verdict d radius bit r2 lx₀ ly₀ ld₀ j₀ z support lx ly ld j = ny - j
 
 -- the stations near the row of a turn
-module _ (c : lts.After-near-row (near-row-reads.Asked, near-row-reads.Learnt, correct-row-reads.Asked, correct-row-reads.Learnt) reads.Pre reads.Post Inv-loop μ-loop) where
-  abbrev k : lts.In-loop (near-row-reads.Asked, near-row-reads.Learnt, correct-row-reads.Asked, correct-row-reads.Learnt) reads.Pre reads.Post Inv-loop μ-loop
+module _ (c : tie.After-near-row Inv-loop μ-loop) where
+  abbrev k : tie.In-loop Inv-loop μ-loop
   k = c .before .before .before .before
 
-  abbrev s : lts.Start (near-row-reads.Asked, near-row-reads.Learnt, correct-row-reads.Asked, correct-row-reads.Learnt) reads.Pre reads.Post Inv-loop μ-loop
+  abbrev s : tie.Start Inv-loop μ-loop
   s = k .before .before .before .before
 
   abbrev lx : List ℤ
@@ -44,20 +40,20 @@ module _ (c : lts.After-near-row (near-row-reads.Asked, near-row-reads.Learnt, c
   j = k .before .loop .j
 
   ready : RowReady (k .before .loop .z) (k .before .loop .support) (j * s .args .nx) (s .args .nx) lx ly ld (c .near-row .result) (s .args .radius * s .args .radius) (s .args .bit)
-  ready = row-ready (s .args .z .now) (s .args .support .now) (s .args .nx) (s .args .ny) (s .args .x .now) (s .args .y .now) (s .args .verdict .now) (s .args .d .now) (s .args .radius) (s .args .bit) (s .pre) j (k .loop-test .taken) (k .before .loop .z) (k .before .loop .support) (k .before .loop .inv .2) (k .before .loop .inv .3) lx ly ld (c .near-row .result) (c .near-row .ensures .1)
+  ready = row-ready (s .pre) (k .loop-test .taken) (k .before .loop .inv .2) (k .before .loop .inv .3) (c .near-row .ensures .1)
 
   after-z : (z' : List ℤ) → Filled (pos 0) (rowZ (k .before .loop .z) lx ly ld (c .near-row .result) (s .args .radius * s .args .radius) (j * s .args .nx)) (j * s .args .nx) (j * s .args .nx + s .args .nx) (k .before .loop .z) z'
       → Filled (pos 0) (passZ (s .args .z .now) (s .args .nx) (s .args .x .now) (s .args .y .now) (s .args .verdict .now) (s .args .d .now) (s .args .radius * s .args .radius)) 0 ((j + 1) * s .args .nx) (s .args .z .now) z'
-  after-z = next-z (s .args .z .now) (s .args .support .now) (s .args .nx) (s .args .ny) (s .args .x .now) (s .args .y .now) (s .args .verdict .now) (s .args .d .now) (s .args .radius) (s .args .bit) (s .pre) j (k .loop-test .taken) (k .before .loop .z) (k .before .loop .support) (k .before .loop .inv .2) (k .before .loop .inv .3) lx ly ld (c .near-row .result) (c .near-row .ensures .1)
+  after-z = next-z (s .pre) (k .loop-test .taken) (k .before .loop .inv .2) (k .before .loop .inv .3) (c .near-row .ensures .1)
 
   after-s : (b : List ℕ) → Filled 0 (rowS (k .before .loop .support) lx ly ld (c .near-row .result) (s .args .radius * s .args .radius) (s .args .bit) (j * s .args .nx)) (j * s .args .nx) (j * s .args .nx + s .args .nx) (k .before .loop .support) b
       → Filled 0 (passS (s .args .support .now) (s .args .nx) (s .args .x .now) (s .args .y .now) (s .args .verdict .now) (s .args .d .now) (s .args .radius * s .args .radius) (s .args .bit)) 0 ((j + 1) * s .args .nx) (s .args .support .now) b
-  after-s = next-s (s .args .z .now) (s .args .support .now) (s .args .nx) (s .args .ny) (s .args .x .now) (s .args .y .now) (s .args .verdict .now) (s .args .d .now) (s .args .radius) (s .args .bit) (s .pre) j (k .loop-test .taken) (k .before .loop .z) (k .before .loop .support) (k .before .loop .inv .2) (k .before .loop .inv .3) lx ly ld (c .near-row .result) (c .near-row .ensures .1)
+  after-s = next-s (s .pre) (k .loop-test .taken) (k .before .loop .inv .2) (k .before .loop .inv .3) (c .near-row .ensures .1)
 
 mul-r2 : tie.Need-mul-r2 Inv-loop μ-loop
 mul-r2 c =
     let s = c .before .before in
-    omega (arith, r2-close (s .args .z .now) (s .args .support .now) (s .args .nx) (s .args .ny) (s .args .x .now) (s .args .y .now) (s .args .verdict .now) (s .args .d .now) (s .args .radius) (s .args .bit) (s .pre))
+    omega (arith, r2-close (s .pre))
 
 loop-holds : tie.Need-loop-holds Inv-loop μ-loop
 loop-holds c =
@@ -72,13 +68,13 @@ near-row-requires : tie.Need-near-row-requires Inv-loop μ-loop
 near-row-requires c κs =
     let k = c .before .before .before in
     let s = k .before .before .before .before in
-    (r2-close (s .args .z .now) (s .args .support .now) (s .args .nx) (s .args .ny) (s .args .x .now) (s .args .y .now) (s .args .verdict .now) (s .args .d .now) (s .args .radius) (s .args .bit) (s .pre), omega (arith, k .loop-test .taken, s .pre .shape .few-rows), s .pre .columns, k .before .loop .inv .1)
+    (r2-close (s .pre), omega (arith, k .loop-test .taken, s .pre .shape .few-rows), s .pre .columns, k .before .loop .inv .1)
 
 mul-correct-row : tie.Need-mul-correct-row Inv-loop μ-loop
 mul-correct-row c =
     let k = c .before .before .before .before .before .before in
     let s = k .before .before .before .before in
-    omega (arith, row-place (s .args .z .now) (s .args .support .now) (s .args .nx) (s .args .ny) (s .args .x .now) (s .args .y .now) (s .args .verdict .now) (s .args .d .now) (s .args .radius) (s .args .bit) (s .pre) (k .before .loop .j) (k .loop-test .taken))
+    omega (arith, row-place (s .pre) (k .before .loop .j) (k .loop-test .taken))
 
 correct-row-requires : tie.Need-correct-row-requires Inv-loop μ-loop
 correct-row-requires c κs = ready (c .before .before .before .before .before)
@@ -110,7 +106,7 @@ returns c =
     let l = c .before .loop in
     let s = c .before .before .before .before in
     let e : l .j ≡ s .args .ny = omega arith in
-    (all-z (s .args .z .now) (s .args .support .now) (s .args .nx) (s .args .ny) (s .args .x .now) (s .args .y .now) (s .args .verdict .now) (s .args .d .now) (s .args .radius) (s .args .bit) (s .pre) (l .z) (rw e at (l .inv .2)), all-s (s .args .z .now) (s .args .support .now) (s .args .nx) (s .args .ny) (s .args .x .now) (s .args .y .now) (s .args .verdict .now) (s .args .d .now) (s .args .radius) (s .args .bit) (s .pre) (l .support) (rw e at (l .inv .3)))
+    (all-z (s .pre) (l .z) (rw e at (l .inv .2)), all-s (s .pre) (l .support) (rw e at (l .inv .3)))
 
 pub correct-spec : {M : Type 1} → statement M
 correct-spec =

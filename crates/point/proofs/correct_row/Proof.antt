@@ -17,11 +17,6 @@ use Rattle.scheme.specs.Bounds.{correction-size}
 use Rattle.point.specs.Pass.{rowZ, rowS, place-in, value-low, bit-free, sums-small, next-value, next-support}
 use Rattle.point.proofs.correct_row.Statement.{statement}
 use Rattle.point.proofs.correct_row.Tie as tie
-use Rattle.point.proofs.correct_row.Reads as reads
-use Rattle.point.proofs.correct_row.Lts as lts
-use Rattle.point.proofs.moved.Reads as moved-reads
-use Rattle.point.proofs.point_sums.Reads as point-sums-reads
-use Rattle.point.proofs.with_bit.Reads as with-bit-reads
 
 abbrev Inv-loop : tie.InvT-loop
 Inv-loop z₀ support₀ base nx lx ly ld n r2 bit i₀ z support i =
@@ -32,8 +27,8 @@ abbrev μ-loop : tie.MeasureT-loop
 μ-loop z₀ support₀ base nx lx ly ld n r2 bit i₀ z support i = nx - i
 
 -- a turn of the loop: Pass's laws at its values
-module _ (k : lts.In-loop (point-sums-reads.Asked, point-sums-reads.Learnt, moved-reads.Asked, moved-reads.Learnt, with-bit-reads.Asked, with-bit-reads.Learnt) reads.Pre reads.Post Inv-loop μ-loop) where
-  abbrev s : lts.Start (point-sums-reads.Asked, point-sums-reads.Learnt, moved-reads.Asked, moved-reads.Learnt, with-bit-reads.Asked, with-bit-reads.Learnt) reads.Pre reads.Post Inv-loop μ-loop
+module _ (k : tie.In-loop Inv-loop μ-loop) where
+  abbrev s : tie.Start Inv-loop μ-loop
   s = k .before .before .before
 
   abbrev z : List ℤ
@@ -46,17 +41,17 @@ module _ (k : lts.In-loop (point-sums-reads.Asked, point-sums-reads.Learnt, move
   i = k .before .loop .i
 
   here : (s .args .base + i < length z) × (s .args .base + i < length support) × (s .args .base + i < 4096)
-  here = place-in (s .args .z .now) (s .args .support .now) (s .args .base) (s .args .nx) (s .args .lx .now) (s .args .ly .now) (s .args .ld .now) (s .args .n) (s .args .r2) (s .args .bit) (s .pre) z support i (k .loop-test .taken) (k .before .loop .inv .1) (k .before .loop .inv .2)
+  here = place-in (s .pre) (k .loop-test .taken) (k .before .loop .inv .1) (k .before .loop .inv .2)
 
   low : natAbs (getD z (s .args .base + i) (pos 0)) ≤ 13000000
-  low = value-low (s .args .z .now) (s .args .support .now) (s .args .base) (s .args .nx) (s .args .lx .now) (s .args .ly .now) (s .args .ld .now) (s .args .n) (s .args .r2) (s .args .bit) (s .pre) z support i (k .loop-test .taken) (k .before .loop .inv .1) (k .before .loop .inv .2)
+  low = value-low (s .pre) (k .loop-test .taken) (k .before .loop .inv .1) (k .before .loop .inv .2)
 
   free : getD support (s .args .base + i) 0 + s .args .bit < 256
-  free = bit-free (s .args .z .now) (s .args .support .now) (s .args .base) (s .args .nx) (s .args .lx .now) (s .args .ly .now) (s .args .ld .now) (s .args .n) (s .args .r2) (s .args .bit) (s .pre) z support i (k .loop-test .taken) (k .before .loop .inv .1) (k .before .loop .inv .2)
+  free = bit-free (s .pre) (k .loop-test .taken) (k .before .loop .inv .1) (k .before .loop .inv .2)
 
 -- and with the sums at its point
-module _ (c : lts.After-point-sums (point-sums-reads.Asked, point-sums-reads.Learnt, moved-reads.Asked, moved-reads.Learnt, with-bit-reads.Asked, with-bit-reads.Learnt) reads.Pre reads.Post Inv-loop μ-loop) where
-  abbrev k : lts.In-loop (point-sums-reads.Asked, point-sums-reads.Learnt, moved-reads.Asked, moved-reads.Learnt, with-bit-reads.Asked, with-bit-reads.Learnt) reads.Pre reads.Post Inv-loop μ-loop
+module _ (c : tie.After-point-sums Inv-loop μ-loop) where
+  abbrev k : tie.In-loop Inv-loop μ-loop
   k = c .before
 
   abbrev w : ℕ
@@ -66,21 +61,21 @@ module _ (c : lts.After-point-sums (point-sums-reads.Asked, point-sums-reads.Lea
   wd = c .point-sums .result .wd
 
   small : (w ≤ 51200) × (natAbs wd ≤ 2000000 * w)
-  small = sums-small (s k .args .z .now) (s k .args .support .now) (s k .args .base) (s k .args .nx) (s k .args .lx .now) (s k .args .ly .now) (s k .args .ld .now) (s k .args .n) (s k .args .r2) (s k .args .bit) (s k .pre) (z k) (support k) (i k) (k .loop-test .taken) (k .before .loop .inv .1) (k .before .loop .inv .2) w wd (c .point-sums .ensures .0) (c .point-sums .ensures .1)
+  small = sums-small (s k .pre) (k .loop-test .taken) (k .before .loop .inv .1) (k .before .loop .inv .2) (c .point-sums .ensures .0) (c .point-sums .ensures .1)
 
   wd-is : toZ w64 (ofZ w64 wd) ≡ wd
   wd-is = bits-back w64 wd (omega (arith, small))
 
   new-value : (v : ℤ) → v ≡ getD (z k) (s k .args .base + i k) (pos 0) +ℤ correction (record { weights = w; pulls = wd })
       → Filled (pos 0) (rowZ (s k .args .z .now) (s k .args .lx .now) (s k .args .ly .now) (s k .args .ld .now) (s k .args .n) (s k .args .r2) (s k .args .base)) (s k .args .base) (s k .args .base + (i k + 1)) (s k .args .z .now) (set (z k) (s k .args .base + i k) v)
-  new-value = next-value (s k .args .z .now) (s k .args .support .now) (s k .args .base) (s k .args .nx) (s k .args .lx .now) (s k .args .ly .now) (s k .args .ld .now) (s k .args .n) (s k .args .r2) (s k .args .bit) (s k .pre) (z k) (support k) (i k) (k .loop-test .taken) (k .before .loop .inv .1) (k .before .loop .inv .2) w wd (c .point-sums .ensures .0) (c .point-sums .ensures .1)
+  new-value = next-value (s k .pre) (k .loop-test .taken) (k .before .loop .inv .1) (k .before .loop .inv .2) (c .point-sums .ensures .0) (c .point-sums .ensures .1)
 
   new-support : (b : ℕ) → b ≡ getD (support k) (s k .args .base + i k) 0 + cond (ltb 0 w) (s k .args .bit) 0
       → Filled 0 (rowS (s k .args .support .now) (s k .args .lx .now) (s k .args .ly .now) (s k .args .ld .now) (s k .args .n) (s k .args .r2) (s k .args .bit) (s k .args .base)) (s k .args .base) (s k .args .base + (i k + 1)) (s k .args .support .now) (set (support k) (s k .args .base + i k) b)
-  new-support = next-support (s k .args .z .now) (s k .args .support .now) (s k .args .base) (s k .args .nx) (s k .args .lx .now) (s k .args .ly .now) (s k .args .ld .now) (s k .args .n) (s k .args .r2) (s k .args .bit) (s k .pre) (z k) (support k) (i k) (k .loop-test .taken) (k .before .loop .inv .1) (k .before .loop .inv .2) w wd (c .point-sums .ensures .0) (c .point-sums .ensures .1)
+  new-support = next-support (s k .pre) (k .loop-test .taken) (k .before .loop .inv .1) (k .before .loop .inv .2) (c .point-sums .ensures .0) (c .point-sums .ensures .1)
 
 -- the new value is an i32
-back : (c : lts.After-point-sums (point-sums-reads.Asked, point-sums-reads.Learnt, moved-reads.Asked, moved-reads.Learnt, with-bit-reads.Asked, with-bit-reads.Learnt) reads.Pre reads.Post Inv-loop μ-loop) (v : ℤ) → v ≡ getD (z (k c)) (s (k c) .args .base + i (k c)) (pos 0) +ℤ correction (record { weights = w c; pulls = wd c }) → toZ w32 (ofZ w32 v) ≡ v
+back : (c : tie.After-point-sums Inv-loop μ-loop) (v : ℤ) → v ≡ getD (z (k c)) (s (k c) .args .base + i (k c)) (pos 0) +ℤ correction (record { weights = w c; pulls = wd c }) → toZ w32 (ofZ w32 v) ≡ v
 back c v e = bits-back w32 v (rw e (omega (arith, low (k c), size-add (getD (z (k c)) (s (k c) .args .base + i (k c)) (pos 0)) (correction (record { weights = w c; pulls = wd c })), correction-size 2000000 (record { weights = w c; pulls = wd c }) (small c .1))))
 
 loop-holds : tie.Need-loop-holds Inv-loop μ-loop
