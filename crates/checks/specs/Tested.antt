@@ -2,18 +2,18 @@
 use Prim.Native.Nat.{ℕ, zero, suc, _+_, _-_, _*_, _≤_, _<_}
 use native.Mathlib.Omega.{arith}
 use native.Mathlib.Nat.{mul-le-mul, mul-le-mul-right}
-use mathlib.Core.Path.{_≡_, refl, sym}
+use mathlib.Core.Path.{_≡_, refl, sym, _∙_}
 use mathlib.Core.Logic.{_⊎_, inl, inr}
 use mathlib.Core.Bool.{Bool, true, false, not, _&&_}
-use borrow.Author.Tests.{lt-ltb, le-ltb, lt-leb, le-leb, eq-eqb, ne-eqb}
+use borrow.Author.Tests.{lt-ltb, le-ltb, lt-leb, le-leb, eq-eqb, ne-eqb, eqb-true, eqb-false}
 use mathlib.Core.List.{List}
-use lib.Dec.{leb, ltb}
+use lib.Dec.{leb, ltb, eqb}
 use lib.ListN.{getD}
 use lib.IntN.{ℤ, pos, negsuc}
 use lib.Signed.{ltZ, leZ}
 use mir.Syntax.{w32}
 use mir.Val.{SFits, ofZ}
-use Rattle.lists.specs.Tests.{lt-or-le}
+use Rattle.lists.specs.Tests.{lt-or-le, true-or-false}
 use Rattle.lists.specs.First.{first, ended}
 use Rattle.scheme.specs.Units.{Request, Columns, stationAt, amongℤ, valueInRange, isMissing}
 use Rattle.scheme.specs.Refusals.{rising, badGuess, badStation}
@@ -59,15 +59,14 @@ value-range (negsuc n) = go (lt-or-le 999999 n)
 
 -- ---- the mark, as the machine's bits say it
 
-pub mark-bits : (v : ℤ) → SFits w32 v → ofZ w32 v ≡ 2147483648 → isMissing v ≡ true
+pub mark-bits : (v : ℤ) → SFits w32 v → eqb (ofZ w32 v) 2147483648 ≡ isMissing v
 unfolding isMissing
-mark-bits (pos n) f e = absurd (omega (arith, f .sfits))
-mark-bits (negsuc n) f e = eq-eqb n 2147483647 (omega (arith, f .sfits))
-
-pub other-bits : (v : ℤ) → SFits w32 v → (ofZ w32 v ≡ 2147483648 → ⊥) → isMissing v ≡ false
-unfolding isMissing
-other-bits (pos n) f e = refl
-other-bits (negsuc n) f e = ne-eqb n 2147483647 (λ (h : n ≡ 2147483647). e (omega arith))
+mark-bits (pos n) f = ne-eqb n 2147483648 (λ (e : n ≡ 2147483648). absurd (omega (arith, f .sfits)))
+mark-bits (negsuc n) f = go (true-or-false (eqb n 2147483647))
+  where
+    go : (eqb n 2147483647 ≡ true) ⊎ (eqb n 2147483647 ≡ false) → eqb (ofZ w32 (negsuc n)) 2147483648 ≡ eqb n 2147483647
+    go (inl e) = eq-eqb (ofZ w32 (negsuc n)) 2147483648 (let h = eqb-true n 2147483647 e in omega (arith, f .sfits)) ∙ sym e
+    go (inr e) = ne-eqb (ofZ w32 (negsuc n)) 2147483648 (λ (h : ofZ w32 (negsuc n) ≡ 2147483648). eqb-false n 2147483647 e (omega (arith, f .sfits))) ∙ sym e
 
 -- ---- what is searched
 

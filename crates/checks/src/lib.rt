@@ -12,6 +12,13 @@ ghost use Rattle.checks.specs.Tested.{badRow};
 // The lowest i32 marks a missing observation.
 const MISSING: i32 = -2147483648;
 
+// A missing observation.
+pub fn is_missing(v: i32) -> bool
+    ensures { λ r. ⌜ r ≡ isMissing v ⌝ }
+{
+    v == MISSING
+}
+
 // Out of low..high, both included.
 fn outside(low: i32, high: i32, v: i32) -> bool
     ensures { λ r. ⌜ r ≡ not (amongℤ low high v) ⌝ }
@@ -58,7 +65,7 @@ fn scan_bad(radius: &[i32], limit: &[i32], m: usize) -> bool
 fn reading_bad(v: i32) -> bool
     ensures { λ r. ⌜ r ≡ not (isMissing v) && not (valueInRange v) ⌝ }
 {
-    if v == MISSING {
+    if is_missing(v) {
         return false;
     }
     value_bad(v)

@@ -3,12 +3,9 @@ use Prim.Native.Nat.{ℕ, _-_, _*_}
 use native.Mathlib.Omega.{arith}
 use mathlib.Core.Path.{_≡_, refl}
 use mathlib.Core.Bool.{Bool, true, false, _&&_, _||_}
-use borrow.Author.Tests.{eq-eqb, ne-eqb}
 use lib.Dec.{T, leb, ltb, eqb}
 use lib.IntN.{ℤ, pos, negsuc, natAbs}
 use lib.Signed.{ltZ, nonNeg}
-use mir.Syntax.{w32}
-use mir.Val.{SFits, ofZ}
 use Rattle.integers.specs.Order.{less-parts, not-less-parts}
 use Rattle.scheme.specs.Units.{Request, Station, noEnd, isMissing}
 use Rattle.scheme.specs.Verdicts.{serves, missing, outOfService, observedAfter, tooOld, onAxis, offGrid, firstThatFits, beforeScans}
@@ -27,17 +24,6 @@ pub record Suits (q : Request) (nx ny time age : ℕ) : Type 0 where
   pub rows : q .ny ≡ ny
   pub minute : q .T ≡ time
   pub oldest : q .A ≡ age
-
--- the mark, as the machine's bits say it
-pub mark-bits : (v : ℤ) → SFits w32 v → ofZ w32 v ≡ 2147483648 → isMissing v ≡ true
-unfolding isMissing
-mark-bits (pos n) f e = absurd (omega (arith, f .sfits))
-mark-bits (negsuc n) f e = eq-eqb n 2147483647 (omega (arith, f .sfits))
-
-pub other-bits : (v : ℤ) → SFits w32 v → (ofZ w32 v ≡ 2147483648 → ⊥) → isMissing v ≡ false
-unfolding isMissing
-other-bits (pos n) f e = refl
-other-bits (negsuc n) f e = ne-eqb n 2147483647 (λ (h : n ≡ 2147483647). e (omega arith))
 
 -- a position below zero is on no axis, and any other is where it says
 pub below-axis : (n : ℕ) (x : ℤ) → ltZ x (pos 0) ≡ true → onAxis n x ≡ false

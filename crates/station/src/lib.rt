@@ -20,9 +20,6 @@ use weighted::Total;
 // Neighbouring points are 64 position units apart.
 const STEP: u32 = 64;
 
-// The lowest i32 marks a missing observation.
-const MISSING: i32 = -2147483648;
-
 // Until this minute means no end.
 const NO_END: u32 = 4294967295;
 
@@ -89,7 +86,7 @@ pub fn first_verdict(
     requires { ⌜ (1 ≤ nx) × (nx ≤ 64) × (1 ≤ ny) × (ny ≤ 64) ⌝ }
     ensures { λ r. ⌜ ((q : Request) → Suits q nx ny time age → r ≡ beforeScans q (stationOf x y value observed from until)) ⌝ }
 {
-    if value == MISSING {
+    if checks::is_missing(value) {
         return 1;
     }
     if !serves_both(from, until, observed, time) {

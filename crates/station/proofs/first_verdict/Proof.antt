@@ -6,28 +6,34 @@ use mathlib.Core.Bool.{true, false, _&&_}
 use borrow.Author.Tests.{lt-ltb, le-ltb, not-true, not-false}
 use mir.Facts.{toZ-ofZ}
 use Rattle.scheme.specs.Units.{isMissing}
-use Rattle.station.specs.Verdict.{mark-bits, other-bits, servesAt, is-missing, not-serving, is-after, is-old, is-off, is-accepted}
+use Rattle.station.specs.Verdict.{servesAt, is-missing, not-serving, is-after, is-old, is-off, is-accepted}
 use Rattle.station.proofs.first_verdict.Statement.{statement}
 use Rattle.station.proofs.first_verdict.Tie as tie
 use Rattle.station.proofs.first_verdict.Reads as reads
 use Rattle.station.proofs.first_verdict.Lts as lts
+use Rattle.checks.proofs.is_missing.Reads as is-missing-reads
 use Rattle.station.proofs.on_grid.Reads as on-grid-reads
 use Rattle.station.proofs.serves_both.Reads as serves-both-reads
 
 -- not missing
-there : (c : lts.Else1 (serves-both-reads.Asked, serves-both-reads.Learnt, on-grid-reads.Asked, on-grid-reads.Learnt) reads.Pre reads.Post)
-    → isMissing (c .before .args .value) ≡ false
-there c = other-bits (c .before .args .value) (c .before .fits .value) (c .if1 .left)
+there : (c : lts.Else1 (is-missing-reads.Asked, is-missing-reads.Learnt, serves-both-reads.Asked, serves-both-reads.Learnt, on-grid-reads.Asked, on-grid-reads.Learnt) reads.Pre reads.Post)
+    → isMissing (c .before .before .args .value) ≡ false
+there c = sym (rw (toZ-ofZ (c .before .before .fits .value)) at (c .before .is-missing .ensures)) ∙ c .if1 .left
 
 -- and in service
-serving : (c : lts.Else2 (serves-both-reads.Asked, serves-both-reads.Learnt, on-grid-reads.Asked, on-grid-reads.Learnt) reads.Pre reads.Post)
-    → servesAt (c .before .before .before .args .from) (c .before .before .before .args .until) (c .before .before .before .args .observed)
-    && servesAt (c .before .before .before .args .from) (c .before .before .before .args .until) (c .before .before .before .args .time)
+serving : (c : lts.Else2 (is-missing-reads.Asked, is-missing-reads.Learnt, serves-both-reads.Asked, serves-both-reads.Learnt, on-grid-reads.Asked, on-grid-reads.Learnt) reads.Pre reads.Post)
+    → servesAt (c .before .before .before .before .args .from) (c .before .before .before .before .args .until) (c .before .before .before .before .args .observed)
+    && servesAt (c .before .before .before .before .args .from) (c .before .before .before .before .args .until) (c .before .before .before .before .args .time)
     ≡ true
 serving c = sym (c .before .serves-both .ensures) ∙ not-false _ (c .if2 .left)
 
+is-missing-requires : tie.Need-is-missing-requires
+is-missing-requires c κs = search needs
+
 returns : tie.Need-returns
-returns c = λ q suits. is-missing q _ _ _ _ _ _ _ _ _ _ suits (mark-bits _ (c .before .fits .value) (c .if1 .taken))
+returns c =
+    let m = c .before in
+    λ q suits. is-missing q _ _ _ _ _ _ _ _ _ _ suits (sym (rw (toZ-ofZ (m .before .fits .value)) at (m .is-missing .ensures)) ∙ c .if1 .taken)
 
 serves-both-requires : tie.Need-serves-both-requires
 serves-both-requires c κs = search needs
@@ -54,7 +60,7 @@ returns-5 : tie.Need-returns-5
 returns-5 c =
     let o = c .before in
     let e = o .before .before .before in
-    let f = e .before .before .before .fits in
+    let f = e .before .before .before .before .fits in
     let on = rw (toZ-ofZ (f .x), toZ-ofZ (f .y)) at (o .on-grid .ensures) in
     λ q suits. is-off q _ _ _ _ _ _ _ _ _ _ suits (there (e .before .before)) (serving e) (le-ltb _ _ (o .before .before .if3 .left))
     (le-ltb _ _ (o .before .if4 .left)) (sym on ∙ not-true _ (c .if5 .taken))
@@ -63,7 +69,7 @@ returns-6 : tie.Need-returns-6
 returns-6 c =
     let o = c .before in
     let e = o .before .before .before in
-    let f = e .before .before .before .fits in
+    let f = e .before .before .before .before .fits in
     let on = rw (toZ-ofZ (f .x), toZ-ofZ (f .y)) at (o .on-grid .ensures) in
     λ q suits. is-accepted q _ _ _ _ _ _ _ _ _ _ suits (there (e .before .before)) (serving e) (le-ltb _ _ (o .before .before .if3 .left))
     (le-ltb _ _ (o .before .if4 .left)) (sym on ∙ not-false _ (c .if5 .left))
@@ -72,6 +78,7 @@ pub first-verdict-spec : {M : Type 1} → statement M
 first-verdict-spec =
     tie.close
     (tie.spec
+    is-missing-requires
     returns
     serves-both-requires
     returns-2
