@@ -2,15 +2,13 @@
 use Prim.Native.Nat.{ℕ, _+_, _*_, _≤_, _<_}
 use native.Mathlib.Omega.{arith}
 use mathlib.Core.Path.{_≡_, refl, sym, _∙_}
-use mathlib.Core.Bool.{Bool, true, false, not, _||_}
+use mathlib.Core.Bool.{Bool, true, false}
 use mathlib.Core.List.{List, [], _∷_}
-use borrow.Author.Tests.{lt-ltb, le-ltb, leb-true, ltb-false, not-false}
-use lib.Dec.{leb, ltb}
+use borrow.Author.Tests.{lt-ltb, le-ltb}
 use lib.ListN.{length}
 use lib.IntN.{ℤ}
-use Rattle.lists.specs.Tests.{and-true, or-false}
 use Rattle.lists.specs.First.{Found, nowhere, at, first, ended}
-use Rattle.scheme.specs.Units.{Request, stationAt, among, mostScans}
+use Rattle.scheme.specs.Units.{Request, stationAt}
 use Rattle.scheme.specs.Refusals.{Refusal, accepted, asOne, inOrder, refusedIf, refusedAt, badScan, badGuess, badStation}
 use Rattle.scheme.specs.Accepted.{Shaped}
 
@@ -39,13 +37,6 @@ pub record SixReady (nx ny : ℕ) (fg xs ys vs : List ℤ) (fs us : List ℕ) (s
   pub value : length vs ≡ length xs
   pub from : length fs ≡ length xs
   pub until : length us ≡ length xs
-
-pub scans-fit : (s r l : ℕ) → not (among 1 mostScans s) || ltb r s || ltb l s ≡ false → (s ≤ 6) × (s ≤ r) × (s ≤ l)
-scans-fit s r l e =
-    let (f, limits) = or-false _ _ e in
-    let (count, radii) = or-false _ _ f in
-    let (some, few) = and-true (leb 1 s) (leb s mostScans) (not-false _ count) in
-    (leb-true s mostScans few, ltb-false r s radii, ltb-false l s limits)
 
 -- ---- lists of tests: the first is settled, or the rest decide
 

@@ -2,17 +2,17 @@
 use Prim.Native.Nat.{ℕ, suc, _*_, _≤_, _<_}
 use native.Mathlib.Omega.{arith}
 use mathlib.Core.Path.{_≡_, refl}
-use mathlib.Core.Bool.{Bool, true, false, not, _&&_}
+use mathlib.Core.Bool.{Bool, true, false, not, _&&_, _||_}
 use mathlib.Core.List.{List, [], _∷_}
 use borrow.Author.Tests.{ltb-false, leb-true, leb-false, eqb-true, not-false}
-use lib.Dec.{eqb}
+use lib.Dec.{leb, ltb, eqb}
 use lib.ListN.{length, getD}
 use lib.IntN.{ℤ, pos, negsuc, natAbs}
 use lib.Signed.{leZ, ltZ}
 use Rattle.lists.specs.Tests.{and-true, or-false, not-both}
 use Rattle.lists.specs.First.{Found, nowhere, at, first-good}
 use Rattle.lists.specs.Members.{All, none, more}
-use Rattle.scheme.specs.Units.{Request, Columns, Station, stationAt, sideInRange, mostValue, mostPosition, isMissing, mostStations, mostScans, mostRadius, mostLimit, R, E}
+use Rattle.scheme.specs.Units.{Request, Columns, Station, stationAt, among, sideInRange, mostValue, mostPosition, isMissing, mostStations, mostScans, mostRadius, mostLimit, R, E}
 use Rattle.scheme.specs.Refusals.{Refusal, accepted, refused, inOrder, refusedIf, refusedAt, Lengths, Window, badShape, badWindow, badLengths, badWindowLengths, badColumns, badScans, rising, badScan, badGuess, badStation, fromFour, analysisRefusal, windowRefusal}
 
 -- ---- lists of tests
@@ -85,6 +85,13 @@ equal c e =
     }
 
 -- ---- 5 and 6: the plan
+
+pub scans-fit : (s r l : ℕ) → not (among 1 mostScans s) || ltb r s || ltb l s ≡ false → (1 ≤ s) × (s ≤ mostScans) × (s ≤ r) × (s ≤ l)
+scans-fit s r l e =
+    let (f, limits) = or-false _ _ e in
+    let (count, radii) = or-false _ _ f in
+    let (some, few) = and-true (leb 1 s) (leb s mostScans) (not-false _ count) in
+    (leb-true 1 s some, leb-true s mostScans few, ltb-false r s radii, ltb-false l s limits)
 
 -- a number in low..high, as the natural that it is
 natural : (low high : ℕ) (z : ℤ) → not (leZ (pos low) z && leZ z (pos high)) ≡ false → (z ≡ pos (natAbs z)) × (low ≤ natAbs z) × (natAbs z ≤ high)
@@ -160,19 +167,17 @@ pub record Sound (q : Request) : Type 0 where
 sound : (q : Request) → badShape (q .nx) (q .ny) (length (q .firstGuess)) ≡ false → All (λ r. r ≡ accepted) (fromFour q) → Sound q
 unfolding fromFour badScans badGuess
 sound q one (more four (more five (more six (more seven (more eight none))))) =
-    let (f1, limits) = or-false _ _ (not-refused 5 _ five) in
-    let (count, radii) = or-false _ _ f1 in
-    let (some, few) = and-true _ _ (not-false _ count) in
+    let (some, few, radii, limits) = scans-fit (q .scans) (length (q .radius)) (length (q .limit)) (not-refused 5 _ five) in
     let plan = first-good (q .scans) (badScan q) (nowhere-refused 6 _ six) in
     let values = first-good (length (q .firstGuess)) (badGuess q) (nowhere-refused 7 _ seven) in
     let rows = first-good (length (q .columns .x)) (λ k. badStation (stationAt (q .columns) k)) (nowhere-refused 8 _ eight) in
     record {
       shape = shaped _ _ _ one;
       columns = equal _ (not-refused 4 _ four);
-      scans-some = leb-true 1 (q .scans) some;
-      scans-few = leb-true (q .scans) mostScans few;
-      radii = ltb-false _ _ radii;
-      limits = ltb-false _ _ limits;
+      scans-some = some;
+      scans-few = few;
+      radii = radii;
+      limits = limits;
       plan = λ m h. scanned q m (plan m h);
       falls = λ m h. fallen q m (plan m (omega arith)) (plan (suc m) h);
       first-guess = λ k h. leb-true _ _ (not-false _ (values k h));

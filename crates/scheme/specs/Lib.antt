@@ -17,6 +17,7 @@ pub mod Text
 pub mod Promises
 -- PROVED: theorems about the definitions above.
 pub mod Accepted
+pub mod Places
 pub mod Nearest
 pub mod Weights
 pub mod Cells

@@ -4,8 +4,8 @@ use borrow.Author.Needs.{needs}
 use mathlib.Core.Path.{sym, _∙_}
 use Rattle.scheme.specs.Units.{Columns}
 use Rattle.scheme.specs.Refusals.{fromFour, badColumns, badScans}
-use Rattle.scheme.specs.Accepted.{equal}
-use Rattle.refusal.specs.Coded.{refused-here, not-here, scans-fit}
+use Rattle.scheme.specs.Accepted.{equal, scans-fit}
+use Rattle.refusal.specs.Coded.{refused-here, not-here}
 use Rattle.refusal.proofs.from_four.Statement.{statement}
 use Rattle.refusal.proofs.from_four.Tie as tie
 
@@ -49,7 +49,7 @@ from-six-requires c κs =
       until = s .args .until .now;
     } in
     let e = equal columns (sym (b .before .before .columns-bad .ensures) ∙ b .before .if1 .left) in
-    let (few, radii, limits) = scans-fit _ _ _ (sym (b .scans-bad .ensures) ∙ c .if2 .left) in
+    let (some, few, radii, limits) = scans-fit _ _ _ (sym (b .scans-bad .ensures) ∙ c .if2 .left) in
     record {
       shape = s .pre;
       scans-few = few;
