@@ -1,7 +1,7 @@
 -- What a scan needs of the slices, and what each of its parts then finds.
 use Prim.Native.Nat.{ℕ, _+_, _-_, _*_, _≤_, _<_}
 use native.Mathlib.Omega.{arith}
-use mathlib.Core.Path.{_≡_, refl, sym, ap, _∙_}
+use mathlib.Core.Path.{_≡_, sym, ap, _∙_}
 use mathlib.Core.Bool.{Bool, true, false, cond}
 use mathlib.Core.List.{List}
 use borrow.Author.Tests.{eqb-true, eq-eqb}
@@ -15,7 +15,7 @@ use Rattle.scheme.specs.Verdicts.{isAccepted}
 use Rattle.scheme.specs.Difference.{afterTest}
 use Rattle.scheme.specs.Correction.{correction}
 use Rattle.scheme.specs.Smoothing.{smoothed}
-use Rattle.scheme.specs.Accepted.{Shaped}
+use Rattle.scheme.specs.Accepted.{Shaped, same-shape}
 use Rattle.scheme.specs.Bounds.{passed, was-accepted, correction-size}
 use Rattle.scheme.specs.Stored.{Same, length-stored, field-stored, stored-same, smoothed-same, stored-all}
 use Rattle.station.specs.Judge.{OnGrid, JudgeReady, diffAt, verdictAt}
@@ -114,15 +114,7 @@ module _ {nx ny : ℕ} {xs ys vs : List ℤ} {radius limit number bit : ℕ} {z 
 
     module _ {z1 : List ℤ} (z1-is : z1 ≡ stored nx ny (corrected z nx xs ys st' ds (radius * radius))) where
       pub smooth-shaped : Shaped nx ny (length z1)
-      smooth-shaped =
-          rw (z1-is, length-stored nx ny (corrected z nx xs ys st' ds (radius * radius)))
-          (record {
-            two-columns = ok .shape .two-columns;
-            few-columns = ok .shape .few-columns;
-            two-rows = ok .shape .two-rows;
-            few-rows = ok .shape .few-rows;
-            whole = refl;
-          })
+      smooth-shaped = same-shape (ok .shape) (length z1) (ap length z1-is ∙ length-stored nx ny (corrected z nx xs ys st' ds (radius * radius)))
 
       pub smooth-small : Small z1
       smooth-small =

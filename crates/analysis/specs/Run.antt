@@ -10,7 +10,7 @@ use lib.ListN.{length, getD}
 use lib.IntN.{ℤ, pos, natAbs}
 use Rattle.scheme.specs.Units.{Request, R, E}
 use Rattle.scheme.specs.Scan.{after, scan}
-use Rattle.scheme.specs.Accepted.{Sound}
+use Rattle.scheme.specs.Accepted.{Sound, same-shape}
 use Rattle.scheme.specs.Bounds.{after-within}
 use Rattle.scheme.specs.Support.{support-small}
 use Rattle.scheme.specs.Stored.{length-stored, stored-all}
@@ -68,14 +68,7 @@ module _ {q : Request} {m : ℕ} {z : List ℤ} {sup st : List ℕ} (now : Reach
         → ScanReady (q .nx) (q .ny) (q .columns .x) (q .columns .y) (q .columns .value) (R q m) (E q m) (m + 1) (2 ^ m) z sup st ds
     scan-ready ds long =
         record {
-          shape =
-              record {
-                two-columns = now .sound .shape .two-columns;
-                few-columns = now .sound .shape .few-columns;
-                two-rows = now .sound .shape .two-rows;
-                few-rows = now .sound .shape .few-rows;
-                whole = z-long;
-              };
+          shape = same-shape (now .sound .shape) (length z) z-long;
           both = sup-long ∙ sym z-long;
           low = low;
           free = free;

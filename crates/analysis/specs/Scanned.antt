@@ -1,13 +1,12 @@
 -- One scan in code, on stored grids and columns, is one scan of document 01.
 use Prim.Native.Nat.{ℕ, _+_, _-_, _*_, _<_, _^_}
-use native.Mathlib.Nat.{zero-add, add-zero, add-assoc}
 use mathlib.Core.Path.{_≡_, sym, ap, _∙_}
 use mathlib.Core.Logic.{_⊎_, inl, inr, ⊎-elim}
 use mathlib.Core.Bool.{Bool, true, false, cond}
 use mathlib.Core.List.{List, map}
 use borrow.Author.Tests.{eqb-true, eq-eqb}
 use lib.ListN.{length, getD}
-use lib.IntN.{ℤ, pos, natAbs, _+ℤ_, _-ℤ_, _*ℤ_, +ℤ-idl, +ℤ-idr, +ℤ-assoc, zero-*ℤ}
+use lib.IntN.{ℤ, pos, natAbs, _-ℤ_, _*ℤ_, zero-*ℤ}
 use Rattle.lists.specs.Tests.{true-or-false, not-both}
 use Rattle.lists.specs.Tab.{tab, length-tab, getD-tab, map-tab, tab-same}
 use Rattle.lists.specs.Sums.{upTo-same, total, total-tab}
@@ -17,7 +16,8 @@ use Rattle.scheme.specs.Rounding.{rounded}
 use Rattle.scheme.specs.Value.{place, valueAt}
 use Rattle.scheme.specs.Difference.{Row, difference, afterTest, judged}
 use Rattle.scheme.specs.Weight.{squaredDistance}
-use Rattle.scheme.specs.Correction.{Sums, nothing, plus, weightOf, share, sums, backedBy}
+use Rattle.scheme.specs.Adding.{nothing-plus, plus-nothing, plus-assoc}
+use Rattle.scheme.specs.Correction.{nothing, plus, weightOf, share, sums, backedBy}
 use Rattle.scheme.specs.Smoothing.{smoothed}
 use Rattle.scheme.specs.Scan.{State, rowsJudged, sumsAt, scan}
 use Rattle.scheme.specs.Scan as paper
@@ -47,17 +47,6 @@ pub record Scanned (nx ny : ℕ) (xs ys vs : List ℤ) (smooth : Bool) (radius l
   pub supports : sup' ≡ stored nx ny (backed sup nx xs ys st' ds (radius * radius) bit)
   pub values : (f : Field ℤ) → Same nx ny (corrected z nx xs ys st' ds (radius * radius)) f
       → z' ≡ stored nx ny (cond smooth (smoothed nx ny f) f)
-
--- ---- sums over records are sums over the index
-
-nothing-plus : (s : Sums) → plus nothing s ≡ s
-nothing-plus s = simp (zero-add, +ℤ-idl)
-
-plus-nothing : (s : Sums) → plus s nothing ≡ s
-plus-nothing s = simp (add-zero, +ℤ-idr)
-
-plus-assoc : (a b c : Sums) → plus (plus a b) c ≡ plus a (plus b c)
-plus-assoc a b c = simp (add-assoc, +ℤ-assoc)
 
 -- ---- the tie
 

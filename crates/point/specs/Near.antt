@@ -18,6 +18,7 @@ use Rattle.lists.specs.Sums.{upTo, upTo-next, upTo-same}
 use Rattle.scheme.specs.Verdicts.{isAccepted}
 use Rattle.scheme.specs.Weight.{square, weight}
 use Rattle.scheme.specs.Weights.{weight-beyond, weight-within, weight-most}
+use Rattle.scheme.specs.Adding.{plus-nothing}
 use Rattle.scheme.specs.Correction.{Sums, nothing, plus}
 
 -- a station with that weight and difference
@@ -164,9 +165,6 @@ pub record Near (lx : List ℤ) (ly : List ℕ) (ld : List ℤ) (n : ℕ) (xs ys
 pub near-none : (lx : List ℤ) (ly : List ℕ) (ld : List ℤ) (xs ys : List ℤ) (st : List ℕ) (ds : List ℤ) (r2 j : ℕ) → Near lx ly ld 0 xs ys st ds r2 j 0
 unfolding upTo
 near-none lx ly ld xs ys st ds r2 j = record { no-more = omega arith; sized = λ t h. absurd (omega arith); same = λ i. refl }
-
-plus-nothing : (s : Sums) → plus s nothing ≡ s
-plus-nothing s = simp (add-zero, +ℤ-idr)
 
 giving-none : (w : ℕ) (d : ℤ) → w ≡ 0 → giving w d ≡ nothing
 giving-none w d e = rw e (cc (zero-*ℤ d))

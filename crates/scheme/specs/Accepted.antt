@@ -42,6 +42,11 @@ pub record Shaped (nx ny len : ℕ) : Type 0 where
   pub few-rows : ny ≤ 64
   pub whole : len ≡ nx * ny
 
+-- another slice of that grid
+pub same-shape : {nx ny n : ℕ} → Shaped nx ny n → (m : ℕ) → m ≡ nx * ny → Shaped nx ny m
+same-shape h m e =
+    record { two-columns = h .two-columns; few-columns = h .few-columns; two-rows = h .two-rows; few-rows = h .few-rows; whole = e }
+
 side : (n : ℕ) → not (sideInRange n) ≡ false → (2 ≤ n) × (n ≤ 64)
 side n e = let (p, r) = and-true _ _ (not-false _ e) in (leb-true 2 n p, leb-true n 64 r)
 

@@ -6,7 +6,7 @@ use mathlib.Core.Path.{_≡_, refl, sym, ap, fun-ext, _∙_}
 use mathlib.Core.Bool.{Bool, false, cond, _&&_}
 use mathlib.Core.List.{List, [], _∷_, map}
 use lib.ListN.{getD, List·getD-map}
-use lib.IntN.{ℤ, pos, _+ℤ_, zero-*ℤ, +ℤ-idl}
+use lib.IntN.{ℤ, pos, _+ℤ_, zero-*ℤ}
 use Rattle.lists.specs.Tab.{tab}
 use Rattle.lists.specs.Members.{All, all-map, all-also, all-of}
 use Rattle.lists.specs.Keep.{keep, total-keep, keep-map}
@@ -16,6 +16,7 @@ use Rattle.scheme.specs.Value.{valueAt}
 use Rattle.scheme.specs.Difference.{Row, difference, afterTest, judged}
 use Rattle.scheme.specs.Correction.{Sums, nothing, plus, weightOf, share, sums, correction, backedBy}
 use Rattle.scheme.specs.Smoothing.{smoothed}
+use Rattle.scheme.specs.Adding.{nothing-plus}
 use Rattle.scheme.specs.Scan.{start, rowsJudged, sumsAt, corrected, scan, after, analysis}
 
 -- ---- a row that is not accepted
@@ -169,9 +170,6 @@ module _ (q : Request) where
       where
         stays : (r : Row) → Dead r → Dead (judged q m (after q m .field) r)
         stays r d = unfold judged in (λ e. ap (λ (s : Row). isAccepted (s .verdict)) (rejected-stays q m (after q m .field) r (d e)) ∙ d e)
-
-    nothing-plus : (s : Sums) → plus nothing s ≡ s
-    nothing-plus s = simp (zero-add, +ℤ-idl)
 
     -- the differences of the scan
     abbrev D : Station → ℤ

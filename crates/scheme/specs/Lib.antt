@@ -20,6 +20,7 @@ pub mod Accepted
 pub mod Places
 pub mod Nearest
 pub mod Weights
+pub mod Adding
 pub mod Cells
 pub mod Stored
 pub mod Bounds
