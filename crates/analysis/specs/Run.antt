@@ -10,6 +10,7 @@ use lib.ListN.{length, getD}
 use lib.IntN.{ℤ, pos, natAbs}
 use Rattle.scheme.specs.Units.{Request, R, E}
 use Rattle.scheme.specs.Scan.{after, scan}
+use Rattle.scheme.specs.Promises.{requestOf}
 use Rattle.scheme.specs.Accepted.{Sound, same-shape}
 use Rattle.scheme.specs.Bounds.{after-within}
 use Rattle.scheme.specs.Support.{support-small}
@@ -29,18 +30,7 @@ pub record Rest : Type 0 where
 
 abbrev pub requestWith : Rest → (nx ny : ℕ) (xs ys vs : List ℤ) (radius limit : List ℤ) (count : ℕ) → Bool → Request
 requestWith r nx ny xs ys vs radius limit count smooth =
-    record {
-      nx = nx;
-      ny = ny;
-      firstGuess = r .firstGuess;
-      columns = record { x = xs; y = ys; value = vs; observed = r .observed; from = r .from; until = r .until };
-      scans = count;
-      radius = radius;
-      limit = limit;
-      smooth = smooth;
-      T = r .T;
-      A = r .A;
-    }
+    requestOf nx ny (r .firstGuess) xs ys vs (r .observed) (r .from) (r .until) count radius limit smooth (r .T) (r .A)
 
 -- the slices hold the state after m scans, in which an accepted row is on the grid
 pub record Reached (q : Request) (m : ℕ) (z : List ℤ) (sup st : List ℕ) : Type 0 where

@@ -18,9 +18,6 @@ use Rattle.station.specs.Judge.{OnGrid}
 use Rattle.analysis.specs.Scanned.{rowOf}
 use Rattle.analysis.specs.Run.{Reached}
 
-abbrev pub columnsOf6 : (xs ys vs : List ℤ) (os fs us : List ℕ) → Columns
-columnsOf6 xs ys vs os fs us = record { x = xs; y = ys; value = vs; observed = os; from = fs; until = us }
-
 -- what the first verdicts need
 pub record VerdictsReady (nx ny : ℕ) (c : Columns) (room : ℕ) : Type 0 where
   pub two-columns : 2 ≤ nx

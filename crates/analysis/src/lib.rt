@@ -7,13 +7,13 @@ ghost use Rattle.scheme.specs.Units.{Request, stationAt};
 ghost use Rattle.scheme.specs.Verdicts.{beforeScans};
 ghost use Rattle.scheme.specs.Scan.{analysis};
 ghost use Rattle.scheme.specs.Accepted.{Shaped};
-ghost use Rattle.scheme.specs.Promises.{requestOf, slices, lengthsOf, Analyses};
+ghost use Rattle.scheme.specs.Promises.{sixColumns, requestOf, slices, lengthsOf, Analyses};
 ghost use Rattle.smoothing.specs.Pattern.{Small};
 ghost use Rattle.station.specs.Verdict.{Suits};
 ghost use Rattle.analysis.specs.Scanned.{Scanned};
 ghost use Rattle.analysis.specs.Ready.{ScanReady, smoothedIf};
 ghost use Rattle.analysis.specs.Run.{Rest, requestWith, Reached};
-ghost use Rattle.analysis.specs.Start.{columnsOf6, VerdictsReady};
+ghost use Rattle.analysis.specs.Start.{VerdictsReady};
 ghost use Rattle.analysis.specs.Whole.{WorkReady};
 
 // Smoothing, if it is on.
@@ -135,9 +135,9 @@ fn first_verdicts(
     time: u32,
     age: u32,
 )
-    requires { ⌜ VerdictsReady nx ny (columnsOf6 (now x) (now y) (now value) (now observed) (now from) (now until)) (length (now verdict)) ⌝ }
+    requires { ⌜ VerdictsReady nx ny (sixColumns (now x) (now y) (now value) (now observed) (now from) (now until)) (length (now verdict)) ⌝ }
     ensures { λ u. ⌜ ((q : Request) → Suits q nx ny time age
-        → now (verdict .exit) ≡ tab (length (now (x .entry))) (λ k. beforeScans q (stationAt (columnsOf6 (now (x .entry)) (now (y .entry)) (now (value .entry)) (now (observed .entry)) (now (from .entry)) (now (until .entry))) k))) ⌝ }
+        → now (verdict .exit) ≡ tab (length (now (x .entry))) (λ k. beforeScans q (stationAt (sixColumns (now (x .entry)) (now (y .entry)) (now (value .entry)) (now (observed .entry)) (now (from .entry)) (now (until .entry))) k))) ⌝ }
 {
     let mut k: usize = 0;
     while k < x.len() {

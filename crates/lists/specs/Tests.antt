@@ -24,9 +24,6 @@ pub and-true : (a b : Bool) → a && b ≡ true → (a ≡ true) × (b ≡ true)
 and-true true b e = (refl, e)
 and-true false b e = absurd (not-both (cc))
 
-pub true-and : (a b : Bool) → a ≡ true → b ≡ true → a && b ≡ true
-true-and a b p q = rw (p, q)
-
 pub or-false : (a b : Bool) → a || b ≡ false → (a ≡ false) × (b ≡ false)
 or-false true b e = absurd (not-both e)
 or-false false b e = (refl, e)

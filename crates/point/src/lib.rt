@@ -26,12 +26,12 @@ pub fn square_apart(a: i32, b: i32) -> u32
     (d * d) as u32
 }
 
-// The squared distance from a point at (px, py) to a station at (x, y).
-pub fn squared_distance(x: i32, y: i32, px: i32, py: i32) -> u32
-    requires { ⌜ (natAbs x ≤ 16384) × (natAbs y ≤ 16384) × (natAbs px ≤ 16384) × (natAbs py ≤ 16384) ⌝ }
-    ensures { λ r. ⌜ r ≡ square (x -ℤ px) + square (y -ℤ py) ⌝ }
+// The squared distance from a point at px to a station at x, where gap is the square of how far they lie apart along the other axis.
+pub fn squared_distance(x: i32, px: i32, gap: u32) -> u32
+    requires { ⌜ (natAbs x ≤ 16384) × (natAbs px ≤ 16384) × (gap ≤ 1073741824) ⌝ }
+    ensures { λ r. ⌜ r ≡ square (x -ℤ px) + gap ⌝ }
 {
-    square_apart(x, px) + square_apart(y, py)
+    square_apart(x, px) + gap
 }
 
 // The weight at squared distance d2 for squared radius r2. A station beyond the radius costs a compare and no division. The quotient's
@@ -82,7 +82,7 @@ fn with_near(
     ensures { λ s. ⌜ WithNear (now (lx .entry)) (now (ly .entry)) (now (ld .entry)) r2 i t w wd (s .w) (s .wd) ⌝ }
 {
     let px = (64 * i) as i32;
-    more(w, wd, r2, square_apart(lx[t], px) + ly[t], ld[t])
+    more(w, wd, r2, squared_distance(lx[t], px, ly[t]), ld[t])
 }
 
 // The sums at column i of a grid row, over the n stations near that row: from the last to the first, two in a turn.

@@ -5,18 +5,22 @@ use mathlib.Core.Bool.{Bool}
 use mathlib.Core.List.{List}
 use lib.ListN.{length}
 use lib.IntN.{ℤ}
-use Rattle.scheme.specs.Units.{Request}
+use Rattle.scheme.specs.Units.{Request, Columns}
 use Rattle.scheme.specs.Refusals.{Refusal, accepted, refused, asOne, Lengths, analysisRefusal}
 use Rattle.scheme.specs.Scan.{Analysis, analysis}
 
--- a request, from the arguments of a call
+-- the six columns and the request, from the arguments of a call
+abbrev pub sixColumns : (x y value : List ℤ) (observed from until : List ℕ) → Columns
+sixColumns x y value observed from until =
+    record { x = x; y = y; value = value; observed = observed; from = from; until = until }
+
 abbrev pub requestOf : (nx ny : ℕ) (firstGuess x y value : List ℤ) (observed from until : List ℕ) (scans : ℕ) (radius limit : List ℤ) → Bool → (T A : ℕ) → Request
 requestOf nx ny firstGuess x y value observed from until scans radius limit smooth T A =
     record {
       nx = nx;
       ny = ny;
       firstGuess = firstGuess;
-      columns = record { x = x; y = y; value = value; observed = observed; from = from; until = until };
+      columns = sixColumns x y value observed from until;
       scans = scans;
       radius = radius;
       limit = limit;

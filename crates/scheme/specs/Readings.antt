@@ -116,8 +116,3 @@ summary nx ny field =
       place = placeOf refusal;
       units = unlessRefused refusal (unitsOf field) zeros;
     }
-
--- ---- Analysis and window query return refusal·65,536 + place as one u32
-
-unfoldable pub packed : Refusal → ℕ
-packed r = numberOf r * 65536 + placeOf r

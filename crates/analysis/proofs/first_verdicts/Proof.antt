@@ -11,15 +11,15 @@ use mir.Facts.{toZ-ofZ}
 use Rattle.lists.specs.Filled.{Filled, filled-none, filled-set, filled-all}
 use Rattle.scheme.specs.Units.{Request, Columns, stationAt}
 use Rattle.scheme.specs.Verdicts.{beforeScans}
+use Rattle.scheme.specs.Promises.{sixColumns}
 use Rattle.station.specs.Verdict.{Suits}
-use Rattle.analysis.specs.Start.{columnsOf6}
 use Rattle.analysis.proofs.first_verdicts.Statement.{statement}
 use Rattle.analysis.proofs.first_verdicts.Tie as tie
 
 abbrev Inv-loop : tie.InvT-loop
 Inv-loop verdict₀ x y value observed from until nx ny time age k₀ verdict k =
     (k ≤ length x) × (length verdict ≡ length verdict₀)
-    × ((q : Request) → Suits q nx ny time age → Filled 0 (λ k. beforeScans q (stationAt (columnsOf6 x y value observed from until) k)) 0 k verdict₀ verdict)
+    × ((q : Request) → Suits q nx ny time age → Filled 0 (λ k. beforeScans q (stationAt (sixColumns x y value observed from until) k)) 0 k verdict₀ verdict)
 
 abbrev μ-loop : tie.MeasureT-loop
 μ-loop verdict₀ x y value observed from until nx ny time age k₀ verdict k = length x - k
@@ -33,7 +33,7 @@ module _ (c : tie.In-loop Inv-loop μ-loop) where
   k = c .before .loop .k
 
   abbrev columns : Columns
-  columns = columnsOf6 (start .args .x .now) (start .args .y .now) (start .args .value .now) (start .args .observed .now) (start .args .from .now) (start .args .until .now)
+  columns = sixColumns (start .args .x .now) (start .args .y .now) (start .args .value .now) (start .args .observed .now) (start .args .from .now) (start .args .until .now)
 
   few : k < 512
   few = omega (arith, start .pre .few, c .loop-test .taken)

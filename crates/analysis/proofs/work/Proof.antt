@@ -2,9 +2,16 @@
 use borrow.Author.Needs.{needs}
 use native.Mathlib.Omega.{arith}
 use mathlib.Core.Path.{refl, sym, _∙_}
+use Rattle.analysis.specs.Run.{Rest, requestWith, Reached}
 use Rattle.analysis.specs.Whole.{few-points, begins, whole}
 use Rattle.analysis.proofs.work.Statement.{statement}
 use Rattle.analysis.proofs.work.Tie as tie
+use Rattle.analysis.proofs.work.Reads as reads
+use Rattle.analysis.proofs.work.Lts as lts
+use Rattle.analysis.proofs.clear.Reads as clear-reads
+use Rattle.analysis.proofs.copy.Reads as copy-reads
+use Rattle.analysis.proofs.first_verdicts.Reads as first-verdicts-reads
+use Rattle.analysis.proofs.scans.Reads as scans-reads
 
 copy-requires : tie.Need-copy-requires
 copy-requires c κs =
@@ -17,10 +24,13 @@ clear-requires c κs = let w = c .before .before .before .before .before .before
 first-verdicts-requires : tie.Need-first-verdicts-requires
 first-verdicts-requires c κs = search needs
 
-scans-requires : tie.Need-scans-requires
-scans-requires c κs =
-    let v = c .before .before .before .before in
-    let s = v .before .before .before .before .before .before .before .before .before .before .before .before .before .before .before in (
+-- what the scans find
+module _ (c : lts.After-scans-arg3 (copy-reads.Asked, copy-reads.Learnt, clear-reads.Asked, clear-reads.Learnt, first-verdicts-reads.Asked, first-verdicts-reads.Learnt, scans-reads.Asked, scans-reads.Learnt) reads.Pre reads.Post) where
+  abbrev s : lts.Start (copy-reads.Asked, copy-reads.Learnt, clear-reads.Asked, clear-reads.Learnt, first-verdicts-reads.Asked, first-verdicts-reads.Learnt, scans-reads.Asked, scans-reads.Learnt) reads.Pre reads.Post
+  s = c .before .before .before .before .before .before .before .before .before .before .before .before .before .before .before .before .before .before .before
+
+  abbrev rest : Rest
+  rest =
       record {
         firstGuess = s .args .guess .now;
         observed = s .args .observed .now;
@@ -28,9 +38,16 @@ scans-requires c κs =
         until = s .args .until .now;
         T = s .args .time;
         A = s .args .age;
-      },
-      begins _ _ (s .pre) _ _ _ (c .before .before .before .before .before .before .before .before .before .before .before .before .copy .ensures) (c .before .before .before .before .before .before .before .before .before .clear .ensures) (v .before .first-verdicts .ensures _ (record { columns = refl; rows = refl; minute = refl; oldest = refl })),
-    )
+      }
+
+  begun : Reached (requestWith rest (s .args .nx) (s .args .ny) (s .args .x .now) (s .args .y .now) (s .args .value .now) (s .args .radius .now) (s .args .limit .now) (s .args .count) (s .args .smooth)) 0
+      (c .before .before .before .before .before .before .before .before .before .before .before .before .copy .last .0) (c .before .before .before .before .before .before .before .before .before .clear .last .0) (c .before .before .before .before .before .first-verdicts .last .0)
+  begun =
+      begins _ _ (s .pre) _ _ _ (c .before .before .before .before .before .before .before .before .before .before .before .before .copy .ensures) (c .before .before .before .before .before .before .before .before .before .clear .ensures)
+      (c .before .before .before .before .before .first-verdicts .ensures _ (record { columns = refl; rows = refl; minute = refl; oldest = refl }))
+
+scans-requires : tie.Need-scans-requires
+scans-requires c κs = (rest c, begun c)
 
 same-length : tie.Need-same-length
 same-length c = search needs
@@ -42,22 +59,7 @@ same-length-3 : tie.Need-same-length-3
 same-length-3 c = search needs
 
 returns : tie.Need-returns
-returns c =
-    let d = c .before .before .before .before .before in
-    let a = d .before in
-    let v = a .before .before .before .before in
-    let s = v .before .before .before .before .before .before .before .before .before .before .before .before .before .before .before in
-    whole _ _ _ _
-    (d .scans .ensures
-    (record {
-      firstGuess = s .args .guess .now;
-      observed = s .args .observed .now;
-      from = s .args .from .now;
-      until = s .args .until .now;
-      T = s .args .time;
-      A = s .args .age;
-    })
-    (begins _ _ (s .pre) _ _ _ (a .before .before .before .before .before .before .before .before .before .before .before .before .copy .ensures) (a .before .before .before .before .before .before .before .before .before .clear .ensures) (v .before .first-verdicts .ensures _ (record { columns = refl; rows = refl; minute = refl; oldest = refl }))))
+returns c = let d = c .before .before .before .before .before in whole _ _ _ _ (d .scans .ensures (rest (d .before)) (begun (d .before)))
 
 pub work-spec : {M : Type 1} → statement M
 work-spec =

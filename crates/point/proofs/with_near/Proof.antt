@@ -15,9 +15,9 @@ use Rattle.point.proofs.with_near.Tie as tie
 use Rattle.point.proofs.with_near.Reads as reads
 use Rattle.point.proofs.with_near.Lts as lts
 use Rattle.point.proofs.more.Reads as more-reads
-use Rattle.point.proofs.square_apart.Reads as square-apart-reads
+use Rattle.point.proofs.squared_distance.Reads as squared-distance-reads
 
-module _ (s : lts.Start (square-apart-reads.Asked, square-apart-reads.Learnt, more-reads.Asked, more-reads.Learnt) reads.Pre reads.Post) where
+module _ (s : lts.Start (squared-distance-reads.Asked, squared-distance-reads.Learnt, more-reads.Asked, more-reads.Learnt) reads.Pre reads.Post) where
   here : Sized (s .args .lx .now) (s .args .ly .now) (s .args .ld .now) (s .args .t)
   here = s .pre .5
 
@@ -45,31 +45,28 @@ mul-px c = search needs
 cast-px : tie.Need-cast-px
 cast-px c = search needs
 
-mul-square-apart : tie.Need-mul-square-apart
-mul-square-apart c = search needs
+mul-squared-distance : tie.Need-mul-squared-distance
+mul-squared-distance c = search needs
 
-element-copy-out-square-apart : tie.Need-element-copy-out-square-apart
-element-copy-out-square-apart c = search needs
+element-copy-out-squared-distance : tie.Need-element-copy-out-squared-distance
+element-copy-out-squared-distance c = search needs
 
-square-apart-requires : tie.Need-square-apart-requires
-square-apart-requires c κs =
-    let s = c .before in
-    (rw (x-back s) (omega (arith, here s .x-small)), rw (px-is s) (omega (arith, s .pre .3)))
+mul-squared-distance-2 : tie.Need-mul-squared-distance-2
+mul-squared-distance-2 c = search needs
+
+element-copy-out-squared-distance-2 : tie.Need-element-copy-out-squared-distance-2
+element-copy-out-squared-distance-2 c = search needs
+
+squared-distance-requires : tie.Need-squared-distance-requires
+squared-distance-requires c κs =
+    let s = c .before .before in
+    (rw (x-back s) (omega (arith, here s .x-small)), rw (px-is s) (omega (arith, s .pre .3)), omega (arith, here s .y-small))
 
 mul-more : tie.Need-mul-more
 mul-more c = search needs
 
 element-copy-out-more : tie.Need-element-copy-out-more
 element-copy-out-more c = search needs
-
-add-more : tie.Need-add-more
-add-more c = search needs
-
-mul-more-2 : tie.Need-mul-more-2
-mul-more-2 c = search needs
-
-element-copy-out-more-2 : tie.Need-element-copy-out-more-2
-element-copy-out-more-2 c = search needs
 
 more-requires : tie.Need-more-requires
 more-requires c κs =
@@ -78,9 +75,9 @@ more-requires c κs =
 
 returns : tie.Need-returns
 returns c =
+    let g = c .before .before .squared-distance in
     let s = c .before .before .before .before .before in
-    let g = c .before .before .before .square-apart in
-    let g-is = rw (x-back s, px-is s) at (g .ensures .0) in
+    let g-is = rw (x-back s, px-is s) at (g .ensures) in
     record {
       weights = rw g-is at (c .more .ensures .0);
       pulls = rw (g-is, d-back s, wd-back s) at (c .more .ensures .1);
@@ -92,13 +89,12 @@ with-near-spec =
     (tie.spec
     mul-px
     cast-px
-    mul-square-apart
-    element-copy-out-square-apart
-    square-apart-requires
+    mul-squared-distance
+    element-copy-out-squared-distance
+    mul-squared-distance-2
+    element-copy-out-squared-distance-2
+    squared-distance-requires
     mul-more
     element-copy-out-more
-    add-more
-    mul-more-2
-    element-copy-out-more-2
     more-requires
     returns)

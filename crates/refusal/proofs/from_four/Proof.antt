@@ -2,8 +2,8 @@
 use native.Mathlib.Omega.{arith}
 use borrow.Author.Needs.{needs}
 use mathlib.Core.Path.{sym, _∙_}
-use Rattle.scheme.specs.Units.{Columns}
 use Rattle.scheme.specs.Refusals.{fromFour, badColumns, badScans}
+use Rattle.scheme.specs.Promises.{sixColumns}
 use Rattle.scheme.specs.Accepted.{equal, scans-fit}
 use Rattle.refusal.specs.Coded.{refused-here, not-here}
 use Rattle.refusal.proofs.from_four.Statement.{statement}
@@ -39,15 +39,7 @@ unfolding badColumns
 from-six-requires c κs =
     let b = c .before in
     let s = b .before .before .before .before .before .before in
-    let columns : Columns =
-    record {
-      x = s .args .x .now;
-      y = s .args .y .now;
-      value = s .args .value .now;
-      observed = s .args .observed .now;
-      from = s .args .from .now;
-      until = s .args .until .now;
-    } in
+    let columns = sixColumns (s .args .x .now) (s .args .y .now) (s .args .value .now) (s .args .observed .now) (s .args .from .now) (s .args .until .now) in
     let e = equal columns (sym (b .before .before .columns-bad .ensures) ∙ b .before .if1 .left) in
     let (some, few, radii, limits) = scans-fit _ _ _ (sym (b .scans-bad .ensures) ∙ c .if2 .left) in
     record {
