@@ -10,13 +10,12 @@ use Rattle.lists.specs.Tests.{or-false}
 use Rattle.lists.specs.Members.{All, more}
 use Rattle.lists.specs.Tab.{tab, map-tab, tab-getD}
 use Rattle.scheme.specs.Units.{Request, stationAt}
-use Rattle.scheme.specs.Refusals.{Refusal, accepted, refused, asOne, Lengths, refusedIf, badShape, badLengths, fromFour, analysisRefusal}
+use Rattle.scheme.specs.Refusals.{accepted, Lengths, refusedIf, badShape, badLengths, fromFour, analysisRefusal}
 use Rattle.scheme.specs.Verdicts.{beforeScans}
 use Rattle.scheme.specs.Difference.{Row}
-use Rattle.scheme.specs.Scan.{Analysis, after, analysis}
+use Rattle.scheme.specs.Scan.{after, analysis}
 use Rattle.scheme.specs.Accepted.{Sound, all-accepted, not-refused, analysis-sound}
-use Rattle.scheme.specs.Promises.{slices, lengthsOf, leftBy, Analyses}
-use Rattle.refusal.specs.Coded.{Coded}
+use Rattle.scheme.specs.Promises.{slices}
 use Rattle.analysis.specs.Scanned.{rowOf}
 use Rattle.analysis.specs.Run.{Reached}
 use Rattle.analysis.specs.Start.{starts}
@@ -64,19 +63,3 @@ whole q z sup st r = cc (r .holds .field, r .holds .support, verdicts)
         ∙ map-tab (λ (o : Row). o .verdict) (length (q .columns .x)) (rowOf (q .columns) st)
         ∙ ap (λ (n : ℕ). tab n (λ k. getD st k 0)) (sym (r .holds .long))
         ∙ tab-getD st 0)
-
--- ---- the two outcomes
-
-pub refuses : (q : Request) (found : Analysis) (r : ℕ) → Coded r (analysisRefusal q (lengthsOf found)) → (r ≡ 0 → ⊥) → Analyses q found r found
-unfolding leftBy
-refuses q found r c some = record { answers = c .same; leaves = go (analysisRefusal q (lengthsOf found)) (c .same) }
-  where
-    go : (f : Refusal) → r ≡ asOne f → found ≡ leftBy f q found
-    go accepted e = absurd (some e)
-    go (refused number place) e = refl
-
-pub works : (q : Request) (found left : Analysis) (r : ℕ) → Coded r (analysisRefusal q (lengthsOf found)) → r ≡ 0 → left ≡ analysis q → Analyses q found 0 left
-unfolding leftBy
-works q found left r c none e =
-    let a = c .only none in
-    record { answers = sym none ∙ c .same; leaves = e ∙ rw a }

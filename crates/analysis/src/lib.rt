@@ -159,8 +159,8 @@ fn first_verdicts(
 
 // ---- the whole analysis
 
-// The work on an accepted request, in the caller's own slices.
-fn work(
+// The work on an accepted request, in slices of the right length.
+pub fn work(
     nx: usize,
     ny: usize,
     guess: &[i32],

@@ -9,13 +9,27 @@ use lib.ListN.{length}
 use lib.IntN.{ℤ}
 use Rattle.lists.specs.First.{Found, nowhere, at, first, ended}
 use Rattle.scheme.specs.Units.{Request, stationAt}
-use Rattle.scheme.specs.Refusals.{Refusal, accepted, asOne, inOrder, refusedIf, refusedAt, badScan, badGuess, badStation}
+use Rattle.scheme.specs.Refusals.{Refusal, accepted, refused, asOne, unlessRefused, inOrder, refusedIf, refusedAt, badScan, badGuess, badStation}
 use Rattle.scheme.specs.Accepted.{Shaped}
+use Rattle.scheme.specs.Promises.{Promised}
 
 -- the number says the refusal, and 0 says that there is none
 pub record Coded (r : ℕ) (f : Refusal) : Type 0 where
   pub same : r ≡ asOne f
   pub only : r ≡ 0 → f ≡ accepted
+
+-- ---- the two outcomes of a call
+
+module _ {A : Type 0} {result found : A} {r : ℕ} {f : Refusal} (c : Coded r f) where
+  pub refuses : (r ≡ 0 → ⊥) → Promised f result found r found
+  refuses some = record { answers = c .same; leaves = go f (c .same) }
+    where
+      go : (f : Refusal) → r ≡ asOne f → found ≡ unlessRefused f result found
+      go accepted e = absurd (some e)
+      go (refused number place) e = refl
+
+  pub works : {left : A} → r ≡ 0 → left ≡ result → Promised f result found 0 left
+  works none e = record { answers = sym none ∙ c .same; leaves = e ∙ rw (c .only none) }
 
 -- ---- rows 6 to 8
 

@@ -13,7 +13,7 @@ use Rattle.lists.specs.Tests.{and-true, or-false, not-both}
 use Rattle.lists.specs.First.{Found, nowhere, at, first-good}
 use Rattle.lists.specs.Members.{All, none, more}
 use Rattle.scheme.specs.Units.{Request, Columns, Station, stationAt, among, sideInRange, mostValue, mostPosition, isMissing, mostStations, mostScans, mostRadius, mostLimit, R, E}
-use Rattle.scheme.specs.Refusals.{Refusal, accepted, refused, inOrder, refusedIf, refusedAt, Lengths, Window, badShape, badWindow, badLengths, badWindowLengths, badColumns, badScans, rising, badScan, badGuess, badStation, fromFour, analysisRefusal, windowRefusal}
+use Rattle.scheme.specs.Refusals.{Refusal, accepted, refused, inOrder, refusedIf, refusedAt, Lengths, Window, badShape, pointsOf, badWindow, badLengths, badWindowLengths, badColumns, badScans, rising, badScan, badGuess, badStation, fromFour, analysisRefusal, windowRefusal}
 
 -- ---- lists of tests
 
@@ -202,3 +202,35 @@ window-sound q w grid support e = go (all-accepted _ e)
   where
     go : All (λ r. r ≡ accepted) (refusedIf 1 (badShape (q .nx) (q .ny) (length (q .firstGuess))) ∷ refusedIf 2 (badWindow q w) ∷ refusedIf 3 (badWindowLengths w grid support) ∷ fromFour q) → Sound q
     go (more one (more two (more three rest))) = sound q (not-refused 1 _ one) rest
+
+-- ---- 2 and 3: the window is on the grid, and its results are as long as it is
+
+pub record OnGrid (q : Request) (w : Window) : Type 0 where
+  pub across : w .left ≤ w .right
+  pub down : w .top ≤ w .bottom
+  pub right : w .right < q .nx
+  pub bottom : w .bottom < q .ny
+
+pub on-grid : (q : Request) (w : Window) → badWindow q w ≡ false → OnGrid q w
+unfolding badWindow
+on-grid q w e =
+    let (e1, d) = or-false _ _ e in
+    let (e2, c) = or-false _ _ e1 in
+    let (a, b) = or-false _ _ e2 in
+    record {
+      across = ltb-false (w .right) (w .left) a;
+      down = ltb-false (w .bottom) (w .top) b;
+      right = leb-false (q .nx) (w .right) c;
+      bottom = leb-false (q .ny) (w .bottom) d;
+    }
+
+pub window-on-grid : (q : Request) (w : Window) (grid support : ℕ) → windowRefusal q w grid support ≡ accepted
+    → OnGrid q w × (grid ≡ pointsOf w) × (support ≡ pointsOf w)
+unfolding windowRefusal badWindowLengths
+window-on-grid q w grid support e = go (all-accepted _ e)
+  where
+    go : All (λ r. r ≡ accepted) (refusedIf 1 (badShape (q .nx) (q .ny) (length (q .firstGuess))) ∷ refusedIf 2 (badWindow q w) ∷ refusedIf 3 (badWindowLengths w grid support) ∷ fromFour q)
+        → OnGrid q w × (grid ≡ pointsOf w) × (support ≡ pointsOf w)
+    go (more one (more two (more three rest))) =
+        let (g, s) = or-false _ _ (not-refused 3 _ three) in
+        (on-grid q w (not-refused 2 _ two), eqb-true _ _ (not-false _ g), eqb-true _ _ (not-false _ s))

@@ -6,8 +6,9 @@ use mathlib.Core.List.{List}
 use lib.ListN.{length}
 use lib.IntN.{ℤ}
 use Rattle.scheme.specs.Units.{Request, Columns}
-use Rattle.scheme.specs.Refusals.{Refusal, accepted, refused, asOne, Lengths, analysisRefusal}
+use Rattle.scheme.specs.Refusals.{Refusal, asOne, unlessRefused, Lengths, Window, analysisRefusal, windowRefusal}
 use Rattle.scheme.specs.Scan.{Analysis, analysis}
+use Rattle.scheme.specs.Reach.{Tile, wholeAt}
 
 -- the six columns and the request, from the arguments of a call
 abbrev pub sixColumns : (x y value : List ℤ) (observed from until : List ℕ) → Columns
@@ -29,6 +30,20 @@ requestOf nx ny firstGuess x y value observed from until scans radius limit smoo
       A = A;
     }
 
+-- ---- a call that answers refusal·65,536 + place and leaves its results in memory that it is lent
+
+-- A refused call writes to none of the caller's memory
+pub record Promised {A : Type 0} (refusal : Refusal) (result found : A) (answer : ℕ) (left : A) : Type 0 where
+  pub answers : answer ≡ asOne refusal
+  pub leaves : left ≡ unlessRefused refusal result found
+
+-- it admits one outcome
+pub one-outcome : {A : Type 0} {refusal : Refusal} {result found : A} {answer answer' : ℕ} {left left' : A}
+    → Promised refusal result found answer left → Promised refusal result found answer' left' → (answer ≡ answer') × (left ≡ left')
+one-outcome p p' = (p .answers ∙ sym (p' .answers), p .leaves ∙ sym (p' .leaves))
+
+-- ---- the whole analysis
+
 -- what stands in the three slices that the results go to
 abbrev pub slices : List ℤ → (support verdict : List ℕ) → Analysis
 slices grid support verdict = record { grid = grid; support = support; verdict = verdict }
@@ -36,18 +51,19 @@ slices grid support verdict = record { grid = grid; support = support; verdict =
 abbrev pub lengthsOf : Analysis → Lengths
 lengthsOf a = record { grid = length (a .grid); support = length (a .support); verdict = length (a .verdict) }
 
--- ---- the whole analysis
+abbrev pub Analyses : Request → Analysis → ℕ → Analysis → Type 0
+Analyses q found answer left = Promised (analysisRefusal q (lengthsOf found)) (analysis q) found answer left
 
--- A refused call writes to none of the caller's memory
-unfoldable pub leftBy : Refusal → Request → Analysis → Analysis
-leftBy accepted q found = analysis q
-leftBy (refused number place) q found = found
+-- ---- the window query
 
-pub record Analyses (q : Request) (found : Analysis) (answer : ℕ) (left : Analysis) : Type 0 where
-  pub answers : answer ≡ asOne (analysisRefusal q (lengthsOf found))
-  pub leaves : left ≡ leftBy (analysisRefusal q (lengthsOf found)) q found
+-- the window, and what stands in the two slices that the results go to
+abbrev pub windowAt : (left right top bottom : ℕ) → Window
+windowAt left right top bottom = record { left = left; right = right; top = top; bottom = bottom }
 
--- it admits one outcome
-pub one-analysis : (q : Request) (found : Analysis) (answer answer' : ℕ) (left left' : Analysis)
-    → Analyses q found answer left → Analyses q found answer' left' → (answer ≡ answer') × (left ≡ left')
-one-analysis q found answer answer' left left' p p' = (p .answers ∙ sym (p' .answers), p .leaves ∙ sym (p' .leaves))
+abbrev pub tile : List ℤ → List ℕ → Tile
+tile grid support = record { grid = grid; support = support }
+
+-- the numbers of the whole grid
+abbrev pub Queries : Request → Window → Tile → ℕ → Tile → Type 0
+Queries q w found answer left =
+    Promised (windowRefusal q w (length (found .grid)) (length (found .support))) (wholeAt q w) found answer left

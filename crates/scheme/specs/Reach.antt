@@ -8,6 +8,7 @@ use Rattle.lists.specs.Sums.{upTo}
 use Rattle.lists.specs.Keep.{keep}
 use Rattle.scheme.specs.Units.{Request, Station, Field, step, stored, guess, stations, R, withStations}
 use Rattle.scheme.specs.Refusals.{Window}
+use Rattle.scheme.specs.Scan.{after}
 
 -- For each scan count R/64 rounded up, plus 1 if smoothing is on
 unfoldable pub steps : Request → ℕ → ℕ
@@ -81,3 +82,13 @@ cut q w =
 -- the window's points of a field, row by row, top row first
 unfoldable pub windowOf : {A : Type 0} → Window → Field A → List A
 windowOf w f = stored (w .right - w .left + 1) (w .bottom - w .top + 1) (λ i j. f (i + w .left) (j + w .top))
+
+-- The window query's two results: the whole grid's values and supports at the window's points
+pub record Tile : Type 0 where
+  pub grid : List ℤ
+  pub support : List ℕ
+
+unfoldable pub wholeAt : Request → Window → Tile
+wholeAt q w =
+    let end = after q (q .scans) in
+    record { grid = windowOf w (end .field); support = windowOf w (end .support) }

@@ -12,7 +12,7 @@ use Rattle.scheme.specs.declared.Reading.the-variants.{Backed, FirstGues
 use Rattle.scheme.specs.declared.Units.{Units}
 use Rattle.scheme.specs.declared.Summary.{Summary}
 use Rattle.scheme.specs.Units.{Field, partsOfUnit, fieldOf, step}
-use Rattle.scheme.specs.Refusals.{Refusal, accepted, refused, numberOf, placeOf, readingRefusal, summaryRefusal}
+use Rattle.scheme.specs.Refusals.{numberOf, placeOf, unlessRefused, readingRefusal, summaryRefusal}
 use Rattle.scheme.specs.Verdicts.{onAxis}
 use Rattle.scheme.specs.Value.{place, cell, sumAt}
 
@@ -52,10 +52,6 @@ readingIn nx ny z support x y =
     let py = place ny y in
     let value = readingValue nx ny z px py in
     cond (onAxis nx x && onAxis ny y) (cond (isBacked nx ny support px py) (Backed value) (FirstGuess value)) OffGrid
-
-abbrev pub unlessRefused : {A : Type 0} → Refusal → A → A → A
-unlessRefused accepted answer other = answer
-unlessRefused (refused number place) answer other = other
 
 -- of any field of i32 and its support, at any i32 (x, y)
 unfoldable pub reading : (nx ny : ℕ) → List ℤ → List ℕ → (x y : ℤ) → Reading

@@ -27,6 +27,11 @@ placeOf (refused number place) = place
 abbrev pub asOne : Refusal → ℕ
 asOne r = numberOf r * 65536 + placeOf r
 
+-- the result of a call that was not refused, and what stands in its place if it was
+abbrev pub unlessRefused : {A : Type 0} → Refusal → A → A → A
+unlessRefused accepted result other = result
+unlessRefused (refused number place) result other = other
+
 -- tested in this order: the first that refuses
 unfoldable pub inOrder : List Refusal → Refusal
 inOrder [] = accepted
