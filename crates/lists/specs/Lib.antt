@@ -7,3 +7,4 @@ pub mod Sums
 pub mod First
 pub mod Members
 pub mod Keep
+pub mod Parted

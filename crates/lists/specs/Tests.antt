@@ -1,9 +1,10 @@
 -- Tests: what a boolean says, and what follows for a choice by it.
 use Prim.Native.Nat.{ℕ, _≤_, _<_}
 use native.Mathlib.Omega.{arith}
-use mathlib.Core.Path.{_≡_, refl}
+use mathlib.Core.Path.{_≡_, refl, sym, _∙_}
 use mathlib.Core.Logic.{_⊎_, inl, inr}
 use mathlib.Core.Bool.{Bool, true, false, not, cond, _&&_, _||_}
+use borrow.Author.Tests.{lt-ltb, le-ltb}
 use lib.Dec.{T, ltb, ltb→lt, nltb→le}
 
 pub lt-or-le : (a b : ℕ) → (a < b) ⊎ (b ≤ a)
@@ -27,6 +28,15 @@ and-true false b e = absurd (not-both (cc))
 pub or-false : (a b : Bool) → a || b ≡ false → (a ≡ false) × (b ≡ false)
 or-false true b e = absurd (not-both e)
 or-false false b e = (refl, e)
+
+-- two comparisons of which each says the other are one
+pub ltb-same : (a b c d : ℕ) → (a < b → c < d) → (c < d → a < b) → ltb a b ≡ ltb c d
+ltb-same a b c d f g = go (lt-or-le a b) (lt-or-le c d)
+  where
+    go : (a < b) ⊎ (b ≤ a) → (c < d) ⊎ (d ≤ c) → ltb a b ≡ ltb c d
+    go (inl p) q = lt-ltb a b p ∙ sym (lt-ltb c d (f p))
+    go (inr p) (inl q) = lt-ltb a b (g q) ∙ sym (lt-ltb c d q)
+    go (inr p) (inr q) = le-ltb a b p ∙ sym (le-ltb c d q)
 
 -- a choice by a test is settled by what the test says
 module _ {A : Type 0} where

@@ -155,7 +155,7 @@ scan-within most q m found h =
 -- ---- the run
 
 module _ (q : Request) (sound : Sound q) where
-  guess-within : Within mostValue (guess q)
+  pub guess-within : Within mostValue (guess q)
   unfolding guess fieldOf
   guess-within i j = go (lt-or-le (j * q .nx + i) (length (q .firstGuess)))
     where

@@ -26,4 +26,13 @@ pub mod Stored
 pub mod Bounds
 pub mod Support
 pub mod DeadMasts
+pub mod Axes
+pub mod Laws
+pub mod Near
+pub mod Gathered
+pub mod Borders
+pub mod Locality
+pub mod Shares
+pub mod Cressman
+pub mod Windows
 pub mod Table

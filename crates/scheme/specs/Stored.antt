@@ -64,7 +64,7 @@ sum-same nx ny z z' hx hy h x y =
     cc
 
 -- and so does smoothing
-inner-in : (n i : ℕ) → inner n i ≡ true → (0 < i) × (i + 1 < n)
+pub inner-in : (n i : ℕ) → inner n i ≡ true → (0 < i) × (i + 1 < n)
 unfolding inner
 inner-in n i e = let (a, b) = and-true _ _ e in (ltb-true 0 i a, ltb-true (i + 1) n b)
 

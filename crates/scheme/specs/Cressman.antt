@@ -1,0 +1,262 @@
+-- Document 01 as a scheme: its pieces keep the laws, and its run goes by them.
+use Prim.Native.Nat.{ℕ, zero, suc, _+_, _-_, _*_, _≤_, _<_}
+use native.Mathlib.Omega.{arith}
+use native.Mathlib.Nat.{mul-le-mul}
+use mathlib.Core.Path.{_≡_, refl, sym, ap, fun-ext, _∙_}
+use mathlib.Core.Logic.{_⊎_, inl, inr}
+use mathlib.Core.Bool.{Bool, true, false, not, cond, _&&_}
+use mathlib.Core.List.{List, map}
+use borrow.Author.Tests.{leb-true, le-leb}
+use lib.Dec.{leb}
+use lib.IntN.{ℤ, pos, negsuc, natAbs, _+ℤ_, _-ℤ_, _*ℤ_, zero-*ℤ}
+use Rattle.integers.specs.Ring.{pos-minus}
+use Rattle.lists.specs.Tests.{and-true, not-both}
+use Rattle.lists.specs.Sums.{total, upTo-same}
+use Rattle.lists.specs.Parted.{each-map}
+use Rattle.scheme.specs.Units.{Request, Station, Field, step, guess, stations, R, E}
+use Rattle.scheme.specs.Verdicts.{isAccepted, serves, missing, outOfService, observedAfter, tooOld, onAxis, offGrid, firstThatFits, beforeScans}
+use Rattle.scheme.specs.Rounding.{rounded}
+use Rattle.scheme.specs.Value.{place, sumAt, valueAt}
+use Rattle.scheme.specs.Difference.{Row, difference, afterTest, judged}
+use Rattle.scheme.specs.Weight.{square, squaredDistance, weight}
+use Rattle.scheme.specs.Correction.{Sums, nothing, plus, weightOf, share, sums, correction, backedBy}
+use Rattle.scheme.specs.Smoothing.{patternAt, patternRow, patternSum, smoothed}
+use Rattle.scheme.specs.Scan.{start, rowsJudged, sumsAt, corrected, scan, after}
+use Rattle.scheme.specs.Reach.{Span, onSpan, counted}
+use Rattle.scheme.specs.Weights.{weight-beyond}
+use Rattle.scheme.specs.Adding.{nothing-plus}
+use Rattle.scheme.specs.Cells.{place-on}
+use Rattle.scheme.specs.Axes.{Axis, off, len, fromFirst, On, SameBeside, place-counted}
+use Rattle.scheme.specs.Laws.{Influence, Scheme, States, Run, given, gathered, smoothedIf, Placed, Ranged, Laws}
+use Rattle.scheme.specs.Shares.{sum-local}
+
+-- ---- the pieces
+
+-- no station is judged by another
+abbrev alone : Influence Station ℤ
+alone = record { Sum = Unit; nil = tt; plus = λ a b. b; range = λ m. 0; give = λ m s d dx dy. tt }
+
+abbrev weighed : ℕ → ℤ → Sums
+weighed w d = record { weights = w; pulls = pos w *ℤ d }
+
+module _ (q : Request) where
+  -- the request on a grid of another size
+  abbrev sized : (nx ny : ℕ) → Request
+  sized nx ny =
+      record {
+        nx = nx;
+        ny = ny;
+        firstGuess = q .firstGuess;
+        columns = q .columns;
+        scans = q .scans;
+        radius = q .radius;
+        limit = q .limit;
+        smooth = q .smooth;
+        T = q .T;
+        A = q .A;
+      }
+
+  abbrev pull : Influence Station ℤ
+  pull =
+      record {
+        Sum = Sums;
+        nil = nothing;
+        plus = plus;
+        range = R q;
+        give = λ m s d dx dy. weighed (weight (R q m * R q m) (square dx + square dy)) d;
+      }
+
+  abbrev pub cressman : Scheme
+  cressman =
+      record {
+        Station = Station;
+        x = λ s. s .x;
+        y = λ s. s .y;
+        Row = Row;
+        station = λ r. r .station;
+        verdict = λ r. r .verdict;
+        Value = ℤ;
+        Diff = ℤ;
+        Mark = ℕ;
+        keeps = λ a b s. onSpan (a .span) (s .x) && onSpan (b .span) (s .y);
+        counted = λ a b s. counted (a .span) (b .span) s;
+        begins = λ nx ny s. record { station = s; verdict = beforeScans (sized nx ny) s };
+        difference = λ nx ny guess z s. difference (sized nx ny) z s;
+        buddies = alone;
+        judge = λ m d h v. afterTest (m + 1) (E q m) d v;
+        judged = λ m D r others. record { station = r .station; verdict = afterTest (m + 1) (E q m) (D (r .station)) (r .verdict) };
+        pull = pull;
+        correct = λ m s z. z +ℤ correction s;
+        unmarked = 0;
+        mark = backedBy;
+        smooth = q .smooth;
+        around = λ z i j. rounded (patternSum z i j) 16;
+      }
+
+-- ---- the run
+
+module _ (q : Request) where
+  given-share : (m i j : ℕ) (D : Station → ℤ) (r : Row) → share (R q m) D i j r ≡ given (cressman q) (pull q) m D (pos (step * i)) (pos (step * j)) r
+  unfolding share weightOf squaredDistance given
+  given-share m i j D r = go (isAccepted (r .verdict)) (weight (R q m * R q m) (square (r .station .x -ℤ pos (step * i)) + square (r .station .y -ℤ pos (step * j)))) (D (r .station))
+    where
+      go : (b : Bool) (w : ℕ) (d : ℤ) → weighed (cond b w 0) d ≡ cond b (weighed w d) nothing
+      go true w d = refl
+      go false w d = cc (zero-*ℤ d)
+
+  choice : {A : Type 0} (b : Bool) (f g : Field A) (i j : ℕ) → cond b f g i j ≡ cond b (f i j) (g i j)
+  choice true f g i j = refl
+  choice false f g i j = refl
+
+  abbrev pub states : States (cressman q)
+  states =
+      record {
+        field = λ m. after q m .field;
+        support = λ m. after q m .support;
+        rows = λ m. after q m .rows;
+        sums = λ m. sumsAt q m (after q m);
+      }
+
+  pub run : (ss : List Station) → stations q ≡ ss → Run (cressman q) (q .nx) (q .ny) (guess q) ss states
+  unfolding after start
+  run ss e =
+      record {
+        field-first = λ i j. refl;
+        support-first = λ i j. refl;
+        rows-first = rw e;
+        rows-next = λ m. unfold after scan rowsJudged judged in sym (each-map (judged q m (after q m .field)) (after q m .rows));
+        sums-are =
+            λ m i j. unfold sumsAt sums gathered after scan in
+            ap (λ (f : Row → Sums). total nothing plus f (rowsJudged q m (after q m))) (fun-ext (given-share m i j (difference q (after q m .field))));
+        field-next =
+            λ m i j. unfold after scan corrected smoothed smoothedIf in
+            choice (q .smooth) (smoothed (q .nx) (q .ny) (corrected q m (after q m))) (corrected q m (after q m)) i j;
+        support-next = λ m i j. unfold after scan in refl;
+      }
+
+-- ---- the laws
+
+-- as far off as R along one axis: no weight
+far-weight : (radius : ℕ) (dx dy : ℤ) → (radius ≤ natAbs dx) ⊎ (radius ≤ natAbs dy) → weight (radius * radius) (square dx + square dy) ≡ 0
+far-weight radius dx dy (inl h) = weight-beyond _ _ (omega (arith, mul-le-mul h h))
+far-weight radius dx dy (inr h) = weight-beyond _ _ (omega (arith, mul-le-mul h h))
+
+-- a position on the stretch is its own place, there and on the grid
+pub on-span : (a : Axis) (x : ℤ) → onSpan (a .span) x ≡ true → On a (place (a .n) x)
+unfolding onSpan
+on-span a (pos x) e =
+    let (l, h) = and-true _ _ e in
+    go x (leb-true _ _ l) (leb-true _ _ h)
+  where
+    go : (x : ℕ) → step * a .span .first ≤ x → x ≤ step * a .span .last → On a (place (a .n) (pos x))
+    go x l h = rw (place-on (a .n) x (omega (arith, a .inside))) (record { low = l; high = h })
+on-span a (negsuc x) e = absurd (not-both (sym e))
+
+span-on-axis : (a : Axis) (x : ℤ) → onSpan (a .span) x ≡ true → (onAxis (a .n) x ≡ true) × (onAxis (len a) (fromFirst a x) ≡ true)
+unfolding onSpan onAxis
+span-on-axis a (pos x) e =
+    let (l, h) = and-true _ _ e in
+    go x (leb-true _ _ l) (leb-true _ _ h)
+  where
+    go : (x : ℕ) → step * a .span .first ≤ x → x ≤ step * a .span .last
+        → (onAxis (a .n) (pos x) ≡ true) × (onAxis (len a) (fromFirst a (pos x)) ≡ true)
+    go x l h =
+        unfold onAxis in
+        (le-leb x (step * (a .n - 1)) (omega (arith, a .inside)),
+        rw (pos-minus x (step * off a) l) (le-leb (x - step * off a) (step * (len a - 1)) (omega arith)))
+span-on-axis a (negsuc x) e = absurd (not-both (sym e))
+
+axis-on-span : (a : Axis) (x : ℤ) → onAxis (a .n) x ≡ true → On a (place (a .n) x) → onSpan (a .span) x ≡ true
+unfolding onSpan onAxis
+axis-on-span a (pos x) e h = go x (rw (place-on (a .n) x (leb-true _ _ e)) at h)
+  where
+    go : (x : ℕ) → On a x → leb (step * a .span .first) x && leb x (step * a .span .last) ≡ true
+    go x h = rw (le-leb _ x (h .low), le-leb x _ (h .high))
+axis-on-span a (negsuc x) e h = absurd (not-both (sym e))
+
+-- only a station on the grid is accepted
+accepted-on-grid : (q : Request) (s : Station) → isAccepted (beforeScans q s) ≡ true → (onAxis (q .nx) (s .x) ≡ true) × (onAxis (q .ny) (s .y) ≡ true)
+unfolding beforeScans firstThatFits offGrid
+accepted-on-grid q s e =
+    and-true _ _ (go (missing s) (outOfService q s) (observedAfter q s) (tooOld q s) (onAxis (q .nx) (s .x) && onAxis (q .ny) (s .y)) e)
+  where
+    go : (a b c d on : Bool) → isAccepted (cond a 1 (cond b 2 (cond c 3 (cond d 4 (cond (not on) 5 0))))) ≡ true → on ≡ true
+    go true b c d on e = absurd (not-both (sym e))
+    go false true c d on e = absurd (not-both (sym e))
+    go false false true d on e = absurd (not-both (sym e))
+    go false false false true on e = absurd (not-both (sym e))
+    go false false false false true e = refl
+    go false false false false false e = absurd (not-both (sym e))
+
+module _ (q : Request) where
+  pull-ranged : Ranged (cressman q) (pull q)
+  pull-ranged =
+      record {
+        nil-plus = nothing-plus;
+        far = λ m s d dx dy h. rw (far-weight (R q m) dx dy h) (cc (zero-*ℤ d));
+        give-counted = λ a b m s d dx dy. refl;
+      }
+
+  alone-ranged : Ranged (cressman q) alone
+  alone-ranged = record { nil-plus = λ t. refl; far = λ m s d dx dy h. refl; give-counted = λ a b m s d dx dy. refl }
+
+  begins-counted : (a b : Axis) (s : Station) → onSpan (a .span) (s .x) && onSpan (b .span) (s .y) ≡ true
+      → beforeScans (sized q (a .n) (b .n)) s ≡ beforeScans (sized q (len a) (len b)) (counted (a .span) (b .span) s)
+  unfolding beforeScans serves missing outOfService observedAfter tooOld offGrid counted
+  begins-counted a b s e =
+      let (ex, ey) = and-true _ _ e in
+      let (x, x') = span-on-axis a (s .x) ex in
+      let (y, y') = span-on-axis b (s .y) ey in
+      rw (x, x', y, y')
+
+  placed-kept : (a b : Axis) (s : Station) → isAccepted (beforeScans (sized q (a .n) (b .n)) s) ≡ true → Placed (cressman q) a b s
+      → onSpan (a .span) (s .x) && onSpan (b .span) (s .y) ≡ true
+  placed-kept a b s e p =
+      let (x, y) = accepted-on-grid (sized q (a .n) (b .n)) s e in
+      rw (axis-on-span a (s .x) x (p .along-x), axis-on-span b (s .y) y (p .along-y))
+
+  difference-local : (a b : Axis) (s : Station) → onSpan (a .span) (s .x) && onSpan (b .span) (s .y) ≡ true → (z z' : Field ℤ)
+      → SameBeside a b (place (a .n) (s .x)) (place (b .n) (s .y)) z z'
+      → difference (sized q (a .n) (b .n)) z s ≡ difference (sized q (len a) (len b)) z' (counted (a .span) (b .span) s)
+  unfolding difference valueAt counted
+  difference-local a b s e z z' ag =
+      let (ex, ey) = and-true _ _ e in
+      let on-x = on-span a (s .x) ex in
+      let on-y = on-span b (s .y) ey in
+      ap (λ (t : ℤ). s .value -ℤ rounded t 4096)
+      (sum-local a b z z' _ _ _ _ on-x on-y (place-counted a (s .x) on-x) (place-counted b (s .y) on-y) ag)
+
+  rejected-stays : (m : ℕ) (d : ℤ) (v : ℕ) → isAccepted v ≡ false → isAccepted (afterTest (m + 1) (E q m) d v) ≡ false
+  unfolding afterTest
+  rejected-stays m d v e = rw e e
+
+  around-local : (z z' : Field ℤ) (i j right down : ℕ) → 0 < i → 0 < j
+      → ((a b : ℕ) → a < 3 → b < 3 → z (i + a - 1 + right) (j + b - 1 + down) ≡ z' (i + a - 1) (j + b - 1))
+      → rounded (patternSum z (i + right) (j + down)) 16 ≡ rounded (patternSum z' i j) 16
+  unfolding patternSum patternRow
+  around-local z z' i j right down hi hj ag =
+      ap (λ (t : ℤ). rounded t 16)
+      (upTo-same (pos 0) _+ℤ_ 3 _ _ (λ b hb. upTo-same (pos 0) _+ℤ_ 3 _ _ (λ a ha. ap (λ (v : ℤ). pos (patternAt a b) *ℤ v) (here a b ha hb))))
+    where
+      moved : (i a o : ℕ) → 0 < i → i + o + a - 1 ≡ i + a - 1 + o
+      moved i a o h = omega arith
+
+      here : (a b : ℕ) → a < 3 → b < 3 → z (i + right + a - 1) (j + down + b - 1) ≡ z' (i + a - 1) (j + b - 1)
+      here a b ha hb = rw (moved i a right hi, moved j b down hj) (ag a b ha hb)
+
+  pub cressman-laws : Laws (cressman q)
+  cressman-laws =
+      record {
+        pull-ranged = pull-ranged;
+        buddies-ranged = alone-ranged;
+        counted-x = λ a b s. unfold counted in refl;
+        counted-y = λ a b s. unfold counted in refl;
+        begins-station = λ nx ny s. refl;
+        begins-counted = begins-counted;
+        placed-kept = placed-kept;
+        difference-local = λ a b s e guess guess' z z' g ag. difference-local a b s e z z' ag;
+        judged-station = λ m D r others. refl;
+        judged-verdict = λ m D r others. refl;
+        rejected-stays = λ m d h v e. rejected-stays m d v e;
+        around-local = around-local;
+      }
