@@ -1,7 +1,7 @@
 -- An accepted call: what its slices measure, and that after the last scan they hold the analysis.
 use Prim.Native.Nat.{ℕ, _*_, _≤_}
 use native.Mathlib.Nat.{mul-le-mul}
-use mathlib.Core.Path.{_≡_, refl, sym, ap, _∙_}
+use mathlib.Core.Path.{_≡_, sym, ap, _∙_}
 use mathlib.Core.List.{List, _∷_, map}
 use borrow.Author.Tests.{eqb-true, not-false}
 use lib.ListN.{length, getD}

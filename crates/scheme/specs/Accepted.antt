@@ -4,16 +4,16 @@ use native.Mathlib.Omega.{arith}
 use mathlib.Core.Path.{_≡_, refl}
 use mathlib.Core.Bool.{Bool, true, false, not, _&&_, _||_}
 use mathlib.Core.List.{List, [], _∷_}
-use borrow.Author.Tests.{ltb-false, leb-true, leb-false, eqb-true, not-false}
+use borrow.Author.Tests.{ltb-false, leb-true, leb-false, eqb-true, not-false, le-leb, lt-leb, le-ltb, eq-eqb}
 use lib.Dec.{leb, ltb, eqb}
 use lib.ListN.{length, getD}
 use lib.IntN.{ℤ, pos, negsuc, natAbs}
 use lib.Signed.{leZ, ltZ}
 use Rattle.lists.specs.Tests.{and-true, or-false, not-both}
-use Rattle.lists.specs.First.{Found, nowhere, at, first-good}
+use Rattle.lists.specs.First.{Found, nowhere, at, first-good, good-first}
 use Rattle.lists.specs.Members.{All, none, more}
 use Rattle.scheme.specs.Units.{Request, Columns, Station, stationAt, among, sideInRange, mostValue, mostPosition, isMissing, mostStations, mostScans, mostRadius, mostLimit, R, E}
-use Rattle.scheme.specs.Refusals.{Refusal, accepted, refused, inOrder, refusedIf, refusedAt, Lengths, Window, badShape, pointsOf, badWindow, badLengths, badWindowLengths, badColumns, badScans, rising, badScan, badGuess, badStation, fromFour, analysisRefusal, windowRefusal}
+use Rattle.scheme.specs.Refusals.{Refusal, accepted, refused, inOrder, refusedIf, refusedAt, Lengths, Window, badShape, pointsOf, badWindow, badLengths, badWindowLengths, badColumns, badScans, rising, badScan, badGuess, badStation, fromFour, analysisRefusal, windowRefusal, rightLengths}
 
 -- ---- lists of tests
 
@@ -234,3 +234,60 @@ window-on-grid q w grid support e = go (all-accepted _ e)
     go (more one (more two (more three rest))) =
         let (g, s) = or-false _ _ (not-refused 3 _ three) in
         (on-grid q w (not-refused 2 _ two), eqb-true _ _ (not-false _ g), eqb-true _ _ (not-false _ s))
+
+-- ---- and back: no test refuses a sound request
+
+side-good : (n : ℕ) → 2 ≤ n → n ≤ 64 → sideInRange n ≡ true
+side-good n h k = rw (le-leb 2 n h, le-leb n 64 k)
+
+shape-good : {nx ny len : ℕ} → Shaped nx ny len → badShape nx ny len ≡ false
+unfolding badShape
+shape-good {nx} {ny} {len} s =
+    rw (side-good nx (s .two-columns) (s .few-columns), side-good ny (s .two-rows) (s .few-rows), eq-eqb len (nx * ny) (s .whole))
+
+lengths-good : (q : Request) → badLengths q (rightLengths q) ≡ false
+unfolding badLengths
+lengths-good q = rw (eq-eqb (q .nx * q .ny) (q .nx * q .ny) refl, eq-eqb (length (q .columns .x)) (length (q .columns .x)) refl)
+
+columns-good : (c : Columns) → Equal c → badColumns c ≡ false
+unfolding badColumns
+columns-good c e =
+    rw (
+      eq-eqb _ _ (e .y),
+      eq-eqb _ _ (e .value),
+      eq-eqb _ _ (e .observed),
+      eq-eqb _ _ (e .from),
+      eq-eqb _ _ (e .until),
+      le-ltb mostStations (length (c .x)) (e .few),
+    )
+
+scan-good : (q : Request) (m : ℕ) → Scanned q m → badScan q m ≡ false
+unfolding badScan
+scan-good q m s =
+    rw (s .radius-is, s .limit-is, s .not-rising, le-leb 0 (E q m) (omega arith), le-leb 1 (R q m) (s .radius-some), le-leb (R q m) mostRadius (s .radius-most), le-leb (E q m) mostLimit (s .limit-most))
+
+station-good : (s : Station) → Stationed s → badStation s ≡ false
+unfolding badStation
+station-good s t =
+    rw (le-leb (natAbs (s .x)) mostPosition (t .x), le-leb (natAbs (s .y)) mostPosition (t .y), lt-leb (s .until) (s .from) (t .served))
+    (go (isMissing (s .value)) (t .value))
+  where
+    go : (m : Bool) → (m ≡ false → natAbs (s .value) ≤ mostValue) → (not m && not (leb (natAbs (s .value)) mostValue)) || false || false || false ≡ false
+    go true f = refl
+    go false f = rw (le-leb (natAbs (s .value)) mostValue (f refl))
+
+pub sound-accepted : (q : Request) → Sound q → analysisRefusal q (rightLengths q) ≡ accepted
+unfolding analysisRefusal fromFour inOrder refusedIf refusedAt badScans
+sound-accepted q s =
+    rw (
+      shape-good (s .shape),
+      lengths-good q,
+      columns-good (q .columns) (s .columns),
+      le-leb 1 (q .scans) (s .scans-some),
+      le-leb (q .scans) mostScans (s .scans-few),
+      le-ltb (length (q .radius)) (q .scans) (s .radii),
+      le-ltb (length (q .limit)) (q .scans) (s .limits),
+      good-first (q .scans) (badScan q) (λ m h. scan-good q m (s .plan m h)),
+      good-first (length (q .firstGuess)) (badGuess q) (λ k h. unfold badGuess in rw (le-leb _ mostValue (s .first-guess k h))),
+      good-first (length (q .columns .x)) (λ k. badStation (stationAt (q .columns) k)) (λ k h. station-good _ (s .stations k h)),
+    )

@@ -1,11 +1,11 @@
 -- Document 01 as a scheme: its pieces keep the laws, and its run goes by them.
-use Prim.Native.Nat.{ℕ, zero, suc, _+_, _-_, _*_, _≤_, _<_}
+use Prim.Native.Nat.{ℕ, _+_, _-_, _*_, _≤_, _<_}
 use native.Mathlib.Omega.{arith}
 use native.Mathlib.Nat.{mul-le-mul}
-use mathlib.Core.Path.{_≡_, refl, sym, ap, fun-ext, _∙_}
+use mathlib.Core.Path.{_≡_, refl, sym, ap, fun-ext}
 use mathlib.Core.Logic.{_⊎_, inl, inr}
 use mathlib.Core.Bool.{Bool, true, false, not, cond, _&&_}
-use mathlib.Core.List.{List, map}
+use mathlib.Core.List.{List}
 use borrow.Author.Tests.{leb-true, le-leb}
 use lib.Dec.{leb}
 use lib.IntN.{ℤ, pos, negsuc, natAbs, _+ℤ_, _-ℤ_, _*ℤ_, zero-*ℤ}
@@ -16,13 +16,13 @@ use Rattle.lists.specs.Parted.{each-map}
 use Rattle.scheme.specs.Units.{Request, Station, Field, step, guess, stations, R, E}
 use Rattle.scheme.specs.Verdicts.{isAccepted, serves, missing, outOfService, observedAfter, tooOld, onAxis, offGrid, firstThatFits, beforeScans}
 use Rattle.scheme.specs.Rounding.{rounded}
-use Rattle.scheme.specs.Value.{place, sumAt, valueAt}
+use Rattle.scheme.specs.Value.{place, valueAt}
 use Rattle.scheme.specs.Difference.{Row, difference, afterTest, judged}
 use Rattle.scheme.specs.Weight.{square, squaredDistance, weight}
 use Rattle.scheme.specs.Correction.{Sums, nothing, plus, weightOf, share, sums, correction, backedBy}
 use Rattle.scheme.specs.Smoothing.{patternAt, patternRow, patternSum, smoothed}
 use Rattle.scheme.specs.Scan.{start, rowsJudged, sumsAt, corrected, scan, after}
-use Rattle.scheme.specs.Reach.{Span, onSpan, counted}
+use Rattle.scheme.specs.Reach.{onSpan, counted}
 use Rattle.scheme.specs.Weights.{weight-beyond}
 use Rattle.scheme.specs.Adding.{nothing-plus}
 use Rattle.scheme.specs.Cells.{place-on}
@@ -161,9 +161,10 @@ span-on-axis a (pos x) e =
     go : (x : ℕ) → step * a .span .first ≤ x → x ≤ step * a .span .last
         → (onAxis (a .n) (pos x) ≡ true) × (onAxis (len a) (fromFirst a (pos x)) ≡ true)
     go x l h =
-        unfold onAxis in
-        (le-leb x (step * (a .n - 1)) (omega (arith, a .inside)),
-        rw (pos-minus x (step * off a) l) (le-leb (x - step * off a) (step * (len a - 1)) (omega arith)))
+        unfold onAxis in (
+          le-leb x (step * (a .n - 1)) (omega (arith, a .inside)),
+          rw (pos-minus x (step * off a) l) (le-leb (x - step * off a) (step * (len a - 1)) (omega arith)),
+        )
 span-on-axis a (negsuc x) e = absurd (not-both (sym e))
 
 axis-on-span : (a : Axis) (x : ℤ) → onAxis (a .n) x ≡ true → On a (place (a .n) x) → onSpan (a .span) x ≡ true

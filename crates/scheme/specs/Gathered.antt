@@ -12,7 +12,7 @@ use Rattle.lists.specs.Parted.{Parted, total-parted, parted-also}
 use Rattle.scheme.specs.Units.{step}
 use Rattle.scheme.specs.Verdicts.{isAccepted}
 use Rattle.scheme.specs.Value.{place}
-use Rattle.scheme.specs.Axes.{Axis, off, fromFirst}
+use Rattle.scheme.specs.Axes.{off, fromFirst}
 use Rattle.scheme.specs.Laws.{Influence, Scheme, given, gathered, Placed, Ranged, Laws}
 use Rattle.scheme.specs.Near.{Side, cutAlong, Spot, spot-more, near-spot, spot-on}
 

@@ -1,7 +1,7 @@
 -- What the window theorem asks. A scheme is its pieces, and keeps a few laws, none of which knows of windows or of more than one scan; a run
 -- of it on a grid goes from scan to scan by the pieces. Document 01 is one scheme (Windows); a request of document 02 that changes a piece
 -- brings another, and no new theorem.
-use Prim.Native.Nat.{ℕ, zero, suc, _+_, _-_, _*_, _≤_, _<_}
+use Prim.Native.Nat.{ℕ, suc, _+_, _-_, _*_, _≤_, _<_}
 use mathlib.Core.Path.{_≡_}
 use mathlib.Core.Logic.{_⊎_}
 use mathlib.Core.Bool.{Bool, true, false, cond, _&&_}
@@ -13,7 +13,7 @@ use Rattle.scheme.specs.Units.{Field, step}
 use Rattle.scheme.specs.Verdicts.{isAccepted}
 use Rattle.scheme.specs.Value.{place}
 use Rattle.scheme.specs.Smoothing.{inner}
-use Rattle.scheme.specs.Axes.{Axis, len, off, fromFirst, On, SameBeside}
+use Rattle.scheme.specs.Axes.{Axis, len, fromFirst, On, SameBeside}
 
 -- ---- what stations give to a place, as one sum, in scan number m + 1
 

@@ -34,5 +34,6 @@ pub mod Borders
 pub mod Locality
 pub mod Shares
 pub mod Cressman
+pub mod Cut
 pub mod Windows
 pub mod Table

@@ -6,7 +6,7 @@ use lib.IntN.{ℤ, pos, natAbs, _-ℤ_}
 use Rattle.scheme.specs.Units.{Field, step}
 use Rattle.scheme.specs.Value.{place}
 use Rattle.scheme.specs.Cells.{place-on}
-use Rattle.scheme.specs.Reach.{Span, widened}
+use Rattle.scheme.specs.Reach.{widened}
 use Rattle.scheme.specs.Axes.{Axis, off, len, gap, On, Beside, place-most, place-gap}
 
 -- along one axis of n points: the window from first to last, and the steps by which the cut is wider on both sides
@@ -66,12 +66,14 @@ spot-more w u v x h s = record { low = omega (arith, s .low); high = omega (arit
 -- a point of the window, as the cut counts it
 pub inside-point : (w : Side) (i : ℕ) → Inside w i → Point w 0 (i - off (cutAlong w)) × (i - off (cutAlong w) + off (cutAlong w) ≡ i)
 unfolding widened
-inside-point w i h =
-    (record {
-      inside = omega (arith, h .low, h .high, w .inside);
-      low = omega (arith, h .low);
-      high = omega (arith, h .low, h .high);
-    }, omega (arith, h .low))
+inside-point w i h = (
+  record {
+    inside = omega (arith, h .low, h .high, w .inside);
+    low = omega (arith, h .low);
+    high = omega (arith, h .low, h .high);
+  },
+  omega (arith, h .low),
+)
 
 -- a corner with a share, of a position at most ρ steps off, is at most ρ steps off
 pub beside-point : (w : Side) (ρ x i : ℕ) → Spot w (step * ρ) x → Beside (cutAlong w) x i → Point w ρ i

@@ -9,8 +9,7 @@ use Rattle.lists.specs.Tests.{lt-or-le}
 use Rattle.scheme.specs.Units.{Field, step}
 use Rattle.scheme.specs.Value.{cell, interpolationSum, sumAt}
 use Rattle.scheme.specs.Cells.{cell-inside, cell-low, cell-high}
-use Rattle.scheme.specs.Reach.{Span}
-use Rattle.scheme.specs.Axes.{Axis, off, len, gap, On, Beside, SameBeside}
+use Rattle.scheme.specs.Axes.{Axis, off, len, On, Beside, SameBeside}
 
 -- the sum at (x, y) from the cell with the lower corner (m, n)
 abbrev sumFrom : Field ℤ → (m n x y : ℕ) → ℤ
