@@ -37,3 +37,4 @@ pub mod Cressman
 pub mod Cut
 pub mod Windows
 pub mod Table
+pub mod Cheats
