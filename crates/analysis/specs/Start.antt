@@ -1,19 +1,20 @@
 -- The slices before the first scan hold the run's start.
-use Prim.Native.Nat.{ℕ, _-_, _*_, _≤_, _<_}
+use Prim.Native.Nat.{ℕ, _*_, _≤_, _<_}
 use native.Mathlib.Omega.{arith}
 use native.Mathlib.Nat.{div-add-mod'}
 use mathlib.Core.Path.{_≡_, refl, sym, ap, _∙_}
 use mathlib.Core.Bool.{Bool, true, false}
 use mathlib.Core.List.{List, [], _∷_}
-use borrow.Author.Tests.{leb-true, not-false}
+use borrow.Author.Tests.{not-false}
 use lib.ListN.{length, getD}
-use lib.IntN.{ℤ, pos, negsuc, natAbs}
-use Rattle.lists.specs.Tests.{and-true, not-both}
+use lib.IntN.{ℤ, pos}
+use Rattle.lists.specs.Tests.{and-true}
 use Rattle.lists.specs.Tab.{tab, length-tab, getD-tab, is-tab, map-tab, tab-same}
 use Rattle.scheme.specs.Units.{Request, Columns, Station, stationAt, stations, guess, stored, fieldOf, isMissing}
 use Rattle.scheme.specs.Verdicts.{missing, onAxis, offGrid, firstThatFits, beforeScans}
 use Rattle.scheme.specs.Scan.{start, after}
 use Rattle.scheme.specs.Accepted.{Sound}
+use Rattle.station.specs.Verdict.{on-axis}
 use Rattle.station.specs.Judge.{OnGrid}
 use Rattle.analysis.specs.Scanned.{rowOf}
 use Rattle.analysis.specs.Run.{Reached}
@@ -46,11 +47,6 @@ all-five false false true d e h = absurd (omega arith)
 all-five false false false true e h = absurd (omega arith)
 all-five false false false false true h = absurd (omega arith)
 all-five false false false false false h = (refl, refl)
-
-on-axis : (n : ℕ) (x : ℤ) → onAxis n x ≡ true → (x ≡ pos (natAbs x)) × (natAbs x ≤ 64 * (n - 1))
-unfolding onAxis
-on-axis n (pos x) e = (refl, leb-true x (64 * (n - 1)) e)
-on-axis n (negsuc x) e = absurd (not-both (sym e))
 
 accepted-on-grid : (q : Request) (s : Station) → beforeScans q s ≡ 0 → (isMissing (s .value) ≡ false) × (onAxis (q .nx) (s .x) ≡ true) × (onAxis (q .ny) (s .y) ≡ true)
 unfolding beforeScans missing offGrid

@@ -1,5 +1,6 @@
 // The exports of the archive: each hands its arguments on, and promises what the call behind it promises. See include/sosnyavik.h.
-ghost use Rattle.scheme.specs.Promises.{requestOf, slices, Analyses};
+ghost use Rattle.scheme.specs.Promises.{requestOf, slices, Analyses, ReadsKind, ReadsValue, Summarises};
+use scheme::Summary;
 
 #[no_mangle]
 pub extern "C" fn sosnyavik_analyse(
@@ -44,4 +45,39 @@ pub extern "C" fn sosnyavik_analyse(
         support,
         verdict,
     )
+}
+
+#[no_mangle]
+pub extern "C" fn sosnyavik_reading_kind(
+    nx: u32,
+    ny: u32,
+    field: &[i32],
+    support: &[u8],
+    x: i32,
+    y: i32,
+) -> u32
+    ensures { λ r. ⌜ ReadsKind nx ny (now (field .entry)) (now (support .entry)) x y r ⌝ }
+{
+    reading::reading_kind(nx, ny, field, support, x, y)
+}
+
+#[no_mangle]
+pub extern "C" fn sosnyavik_reading_value(
+    nx: u32,
+    ny: u32,
+    field: &[i32],
+    support: &[u8],
+    x: i32,
+    y: i32,
+) -> f64
+    ensures { λ r. ⌜ ReadsValue nx ny (now (field .entry)) (now (support .entry)) x y r ⌝ }
+{
+    reading::reading_value(nx, ny, field, support, x, y)
+}
+
+#[no_mangle]
+pub extern "C" fn sosnyavik_summarise(nx: u32, ny: u32, field: &[i32]) -> Summary
+    ensures { λ r. ⌜ Summarises nx ny (now (field .entry)) r ⌝ }
+{
+    reading::summary(nx, ny, field)
 }

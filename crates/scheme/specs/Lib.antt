@@ -24,6 +24,7 @@ pub mod Adding
 pub mod Cells
 pub mod Stored
 pub mod Bounds
+pub mod Exact
 pub mod Support
 pub mod DeadMasts
 pub mod Axes

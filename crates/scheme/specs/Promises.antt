@@ -5,10 +5,14 @@ use mathlib.Core.Bool.{Bool}
 use mathlib.Core.List.{List}
 use lib.ListN.{length}
 use lib.IntN.{ℤ}
+use lib.Ieee.{Float}
+use Rattle.scheme.specs.declared.Reading.{Reading}
+use Rattle.scheme.specs.declared.Summary.{Summary}
 use Rattle.scheme.specs.Units.{Request, Columns}
 use Rattle.scheme.specs.Refusals.{Refusal, asOne, unlessRefused, Lengths, Window, analysisRefusal, windowRefusal}
 use Rattle.scheme.specs.Scan.{Analysis, analysis}
 use Rattle.scheme.specs.Reach.{Tile, wholeAt}
+use Rattle.scheme.specs.Readings.{reading, kindOf, valueOf, summary}
 
 -- the six columns and the request, from the arguments of a call
 abbrev pub sixColumns : (x y value : List ℤ) (observed from until : List ℕ) → Columns
@@ -67,3 +71,28 @@ tile grid support = record { grid = grid; support = support }
 abbrev pub Queries : Request → Window → Tile → ℕ → Tile → Type 0
 Queries q w found answer left =
     Promised (windowRefusal q w (length (found .grid)) (length (found .support))) (wholeAt q w) found answer left
+
+-- ---- a call that is lent no memory to write to, and only answers
+
+abbrev pub Answers : {A : Type 0} → A → A → Type 0
+Answers right answer = answer ≡ right
+
+-- it admits one answer
+pub one-answer : {A : Type 0} {right answer answer' : A} → Answers right answer → Answers right answer' → answer ≡ answer'
+one-answer e e' = e ∙ sym e'
+
+-- ---- the point reading, and the two calls by which it crosses to C
+
+abbrev pub Reads : (nx ny : ℕ) → List ℤ → List ℕ → (x y : ℤ) → Reading → Type 0
+Reads nx ny field support x y answer = Answers (reading nx ny field support x y) answer
+
+abbrev pub ReadsKind : (nx ny : ℕ) → List ℤ → List ℕ → (x y : ℤ) → ℕ → Type 0
+ReadsKind nx ny field support x y answer = Answers (kindOf (reading nx ny field support x y)) answer
+
+abbrev pub ReadsValue : (nx ny : ℕ) → List ℤ → List ℕ → (x y : ℤ) → Float → Type 0
+ReadsValue nx ny field support x y answer = Answers (valueOf (reading nx ny field support x y)) answer
+
+-- ---- the summary
+
+abbrev pub Summarises : (nx ny : ℕ) → List ℤ → Summary → Type 0
+Summarises nx ny field answer = Answers (summary nx ny field) answer

@@ -9,6 +9,7 @@ pub enum Reading {
 }
 
 // Lowest, highest and their span, each exact in units.
+#[repr(C)]
 pub struct Units {
     pub lowest: f64,
     pub highest: f64,
@@ -16,6 +17,7 @@ pub struct Units {
 }
 
 // The summary of a field. A refused one holds three zeros.
+#[repr(C)]
 pub struct Summary {
     pub refusal: u32,
     pub place: u32,

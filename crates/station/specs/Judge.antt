@@ -17,7 +17,7 @@ use Rattle.scheme.specs.Difference.{afterTest}
 use Rattle.scheme.specs.Accepted.{Shaped}
 use Rattle.scheme.specs.Nearest.{rounded-size}
 use Rattle.scheme.specs.Bounds.{mostField}
-use Rattle.station.specs.Corners.{sum-size}
+use Rattle.scheme.specs.Exact.{sum-size}
 
 -- a station that is on the grid, with a value in range
 pub record OnGrid (nx ny : ℕ) (x y v : ℤ) : Type 0 where
@@ -67,7 +67,7 @@ module _ (z : List ℤ) (nx ny : ℕ) (shape : Shaped nx ny (length z)) (small :
   unfolding fieldOf
   read-size x y hx hy =
       rounded-size (sumAt nx ny (fieldOf (pos 0) nx z) x y) 4096 mostField
-      (sum-size nx ny x y (length z) shape hx hy (fieldOf (pos 0) nx z) (λ i j. small (j * nx + i)))
+      (sum-size mostField nx ny x y (fieldOf (pos 0) nx z) (λ i j. small (j * nx + i)) (shape .two-columns) (shape .two-rows) hx hy)
 
   pub diff-size : (verdict : ℕ) (x y v : ℤ) → (verdict ≡ 0 → OnGrid nx ny x y v) → natAbs (diffOf z nx ny verdict x y v) ≤ 14000000
   unfolding diffOf

@@ -1,12 +1,16 @@
 -- The verdict before the first scan, on the plain numbers of a row, case by case.
-use Prim.Native.Nat.{ℕ, _-_, _*_}
+use Prim.Native.Nat.{ℕ, _-_, _*_, _≤_}
 use native.Mathlib.Omega.{arith}
-use mathlib.Core.Path.{_≡_, refl}
+use mathlib.Core.Path.{_≡_, refl, sym}
 use mathlib.Core.Bool.{Bool, true, false, _&&_, _||_}
+use borrow.Author.Tests.{leb-true}
 use lib.Dec.{T, leb, ltb, eqb}
 use lib.IntN.{ℤ, pos, negsuc, natAbs}
 use lib.Signed.{ltZ, nonNeg}
+use mir.Syntax.{w32}
+use mir.Val.{Fits}
 use Rattle.integers.specs.Order.{less-parts, not-less-parts}
+use Rattle.lists.specs.Tests.{not-both}
 use Rattle.scheme.specs.Units.{Request, Station, noEnd, isMissing}
 use Rattle.scheme.specs.Verdicts.{serves, missing, outOfService, observedAfter, tooOld, onAxis, offGrid, firstThatFits, beforeScans}
 
@@ -35,6 +39,15 @@ pub along-axis : (n : ℕ) (x : ℤ) → ltZ x (pos 0) ≡ false → (T (nonNeg 
 unfolding onAxis
 along-axis n (pos x) e = (tt, refl)
 along-axis n (negsuc x) e = absurd (omega (arith, not-less-parts (negsuc x) (pos 0) e))
+
+-- on the axis it is a natural number, which fits
+pub on-axis : (n : ℕ) (x : ℤ) → onAxis n x ≡ true → (x ≡ pos (natAbs x)) × (natAbs x ≤ 64 * (n - 1))
+unfolding onAxis
+on-axis n (pos x) e = (refl, leb-true x (64 * (n - 1)) e)
+on-axis n (negsuc x) e = absurd (not-both (sym e))
+
+pub place-fits : (n : ℕ) (x : ℤ) → n ≤ 64 → x ≡ pos (natAbs x) → natAbs x ≤ 64 * (n - 1) → T (nonNeg x) × Fits w32 (natAbs x)
+place-fits n x few e h = (rw e tt, record { fits = omega arith })
 
 module _ (q : Request) (x y value : ℤ) (observed from until nx ny time age : ℕ) (suits : Suits q nx ny time age) where
   abbrev s : Station

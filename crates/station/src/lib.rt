@@ -12,7 +12,7 @@ ghost use Rattle.scheme.specs.Value.{cell, sumAt};
 ghost use Rattle.scheme.specs.Difference.{afterTest};
 ghost use Rattle.scheme.specs.Accepted.{Shaped};
 ghost use Rattle.scheme.specs.Bounds.{mostField};
-ghost use Rattle.station.specs.Corners.{blend};
+ghost use Rattle.station.specs.Corners.{blend, Spotted};
 ghost use Rattle.station.specs.Verdict.{servesAt, Suits, stationOf};
 ghost use Rattle.station.specs.Judge.{OnGrid, JudgeReady, diffOf, diffAt, verdictAt};
 use weighted::Total;
@@ -133,17 +133,35 @@ fn blended(a: u32, b: u32, p: i32, q: i32, r: i32, s: i32) -> i64
     t.t
 }
 
+// Where a position lies in a stored field: the place of the lower corner of its cell, and how far past that corner it is.
+pub struct Spot {
+    pub corner: usize,
+    pub a: u32,
+    pub b: u32,
+}
+
+// The spot of a position on the grid.
+pub fn spot_of(nx: usize, ny: usize, x: u32, y: u32) -> Spot
+    requires { ⌜ Shaped nx ny (nx * ny) × (x ≤ 64 * (nx - 1)) × (y ≤ 64 * (ny - 1)) ⌝ }
+    ensures { λ r. ⌜ Spotted nx ny x y (r .corner) (r .a) (r .b) ⌝ }
+{
+    let m = cell(nx, x);
+    let n = cell(ny, y);
+    Spot {
+        corner: n * nx + m,
+        a: x - STEP * (m as u32),
+        b: y - STEP * (n as u32),
+    }
+}
+
 // The interpolation sum of a field at a position on the grid.
 pub fn sum_at(z: &[i32], nx: usize, ny: usize, x: u32, y: u32) -> i64
     requires { ⌜ Shaped nx ny (length (now z)) × (x ≤ 64 * (nx - 1)) × (y ≤ 64 * (ny - 1)) ⌝ }
     ensures { λ r. ⌜ (r ≡ sumAt nx ny (fieldOf (pos 0) nx (now (z .entry))) x y) × (natAbs r ≤ 35184372088832) ⌝ }
 {
-    let m = cell(nx, x);
-    let n = cell(ny, y);
-    let a = x - STEP * (m as u32);
-    let b = y - STEP * (n as u32);
-    let p = n * nx + m;
-    blended(a, b, z[p], z[p + 1], z[p + nx], z[p + nx + 1])
+    let s = spot_of(nx, ny, x, y);
+    let p = s.corner;
+    blended(s.a, s.b, z[p], z[p + 1], z[p + nx], z[p + nx + 1])
 }
 
 // The value of a field at a position on the grid: that sum divided by 4096 and rounded, once.

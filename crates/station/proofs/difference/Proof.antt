@@ -1,21 +1,17 @@
 -- `station::difference` meets its contract: an accepted row is on the grid, so its position is a place of the field. Assumes nothing.
-use Prim.Native.Nat.{ℕ, _-_, _*_, _≤_}
+use Prim.Native.Nat.{_≤_}
 use native.Mathlib.Omega.{arith}
 use borrow.Author.Tests.{eq-eqb, ne-eqb}
 use mathlib.Core.Path.{_≡_, refl}
-use lib.Dec.{T}
-use lib.IntN.{ℤ, pos, natAbs, _-ℤ_}
-use lib.Signed.{nonNeg}
+use lib.IntN.{ℤ, natAbs, _-ℤ_}
 use mir.Syntax.{w32, w64}
-use mir.Val.{Fits, toZ, ofZ}
+use mir.Val.{toZ, ofZ}
 use mir.Facts.{toZ-ofZ, sfits-widen}
 use Rattle.integers.specs.Words.{fits-size, bits-back}
+use Rattle.station.specs.Verdict.{place-fits}
 use Rattle.station.specs.Judge.{OnGrid, diffOf, read-size, diff-size}
 use Rattle.station.proofs.difference.Statement.{statement}
 use Rattle.station.proofs.difference.Tie as tie
-
-place-fits : (n : ℕ) (x : ℤ) → n ≤ 64 → x ≡ pos (natAbs x) → natAbs x ≤ 64 * (n - 1) → T (nonNeg x) × Fits w32 (natAbs x)
-place-fits n x few e h = (rw e tt, record { fits = omega arith })
 
 module _ (s : tie.Start) where
   abbrev D : ℤ

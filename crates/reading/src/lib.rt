@@ -1,0 +1,243 @@
+// What a field is asked (document 01, "Readings as doubles"): the reading at a point, and the summary of the whole.
+ghost use mathlib.Core.Path.{_≡_};
+ghost use mathlib.Core.Bool.{_&&_};
+ghost use Prim.Native.Nat.{_-_, _*_, _≤_, _<_};
+ghost use lib.ListN.{length};
+ghost use lib.IntN.{pos, natAbs};
+ghost use Rattle.scheme.specs.Units.{fieldOf};
+ghost use Rattle.scheme.specs.Accepted.{Shaped};
+ghost use Rattle.scheme.specs.Readings.{double, cornerBacked, isBacked, readingIn, kindOf, valueOf, lesser, greater, unitsOf};
+ghost use Rattle.scheme.specs.Promises.{Reads, ReadsKind, ReadsValue, Summarises};
+ghost use Rattle.reading.specs.Backing.{allBacked};
+ghost use Rattle.reading.specs.Ends.{EndsTo, unitsBetween};
+use scheme::Reading;
+use scheme::Summary;
+use scheme::Units;
+
+// Neighbouring points are 64 position units apart.
+const STEP: u32 = 64;
+
+// The parts of a unit that a value is counted in, and an interpolation sum, whose shares are 4096 parts in all.
+const PARTS_OF_VALUE: u32 = 64;
+
+const PARTS_OF_SUM: u32 = 262144;
+
+// n / d as a double.
+fn double(n: i64, d: u32) -> f64
+    requires { ⌜ natAbs n ≤ 9007199254740992 ⌝ }
+    ensures { λ r. ⌜ r ≡ double n d ⌝ }
+{
+    (n as f64) / (d as f64)
+}
+
+// ---- the point reading
+
+// A corner with a share of a times b parts: a nonzero one needs a nonzero support byte.
+fn corner_backed(a: u32, b: u32, support: u8) -> bool
+    requires { ⌜ (a ≤ 64) × (b ≤ 64) ⌝ }
+    ensures { λ r. ⌜ r ≡ cornerBacked (a * b) support ⌝ }
+{
+    if a * b == 0 {
+        return true;
+    }
+    support != 0
+}
+
+fn both(p: bool, q: bool) -> bool
+    ensures { λ r. ⌜ r ≡ p && q ⌝ }
+{
+    if p { q } else { false }
+}
+
+// Every one of four corners p, q over r, s, at a and b units past the first.
+fn all_backed(a: u32, b: u32, p: u8, q: u8, r: u8, s: u8) -> bool
+    requires { ⌜ (a ≤ 64) × (b ≤ 64) ⌝ }
+    ensures { λ t. ⌜ t ≡ allBacked a b p q r s ⌝ }
+{
+    let mut t = corner_backed(STEP - a, STEP - b, p);
+    t = both(t, corner_backed(a, STEP - b, q));
+    t = both(t, corner_backed(STEP - a, b, r));
+    both(t, corner_backed(a, b, s))
+}
+
+// Every corner with a nonzero share has a nonzero support byte, at a position on the grid.
+fn is_backed(support: &[u8], nx: usize, ny: usize, x: u32, y: u32) -> bool
+    requires { ⌜ Shaped nx ny (length (now support)) × (x ≤ 64 * (nx - 1)) × (y ≤ 64 * (ny - 1)) ⌝ }
+    ensures { λ r. ⌜ r ≡ isBacked nx ny (fieldOf 0 nx (now (support .entry))) x y ⌝ }
+{
+    let s = station::spot_of(nx, ny, x, y);
+    let p = s.corner;
+    all_backed(
+        s.a,
+        s.b,
+        support[p],
+        support[p + 1],
+        support[p + nx],
+        support[p + nx + 1],
+    )
+}
+
+// The reading of a field of the right shape.
+fn reading_in(nx: usize, ny: usize, field: &[i32], support: &[u8], x: i32, y: i32) -> Reading
+    requires { ⌜ Shaped nx ny (length (now field)) × (length (now support) ≡ length (now field)) ⌝ }
+    ensures { λ r. ⌜ r ≡ readingIn nx ny (fieldOf (pos 0) nx (now (field .entry))) (fieldOf 0 nx (now (support .entry))) x y ⌝ }
+{
+    if !station::on_grid(nx, ny, x, y) {
+        return Reading::OffGrid;
+    }
+    let px = x as u32;
+    let py = y as u32;
+    let value = double(station::sum_at(field, nx, ny, px, py), PARTS_OF_SUM);
+    if is_backed(support, nx, ny, px, py) {
+        Reading::Backed(value)
+    } else {
+        Reading::FirstGuess(value)
+    }
+}
+
+// The reading at any position, of any field of i32 and its support.
+pub fn reading(nx: u32, ny: u32, field: &[i32], support: &[u8], x: i32, y: i32) -> Reading
+    ensures { λ r. ⌜ Reads nx ny (now (field .entry)) (now (support .entry)) x y r ⌝ }
+{
+    let columns = nx as usize;
+    let rows = ny as usize;
+    if refusal::shape_bad(columns, rows, field.len()) {
+        return Reading::Refused;
+    }
+    if support.len() != field.len() {
+        return Reading::Refused;
+    }
+    reading_in(columns, rows, field, support, x, y)
+}
+
+// Its kind: 0 off grid, 1 first guess, 2 backed, 3 refused.
+fn kind_of(r: Reading) -> u32
+    ensures { λ k. ⌜ k ≡ kindOf r ⌝ }
+{
+    match r {
+        Reading::OffGrid => 0,
+        Reading::FirstGuess(_) => 1,
+        Reading::Backed(_) => 2,
+        Reading::Refused => 3,
+    }
+}
+
+// And its double, positive zero for kinds 0 and 3.
+fn value_of(r: Reading) -> f64
+    ensures { λ v. ⌜ v ≡ valueOf r ⌝ }
+{
+    match r {
+        Reading::OffGrid => 0.0,
+        Reading::FirstGuess(value) => value,
+        Reading::Backed(value) => value,
+        Reading::Refused => 0.0,
+    }
+}
+
+// The reading as two calls, since an enum does not cross to C.
+pub fn reading_kind(nx: u32, ny: u32, field: &[i32], support: &[u8], x: i32, y: i32) -> u32
+    ensures { λ r. ⌜ ReadsKind nx ny (now (field .entry)) (now (support .entry)) x y r ⌝ }
+{
+    kind_of(reading(nx, ny, field, support, x, y))
+}
+
+pub fn reading_value(nx: u32, ny: u32, field: &[i32], support: &[u8], x: i32, y: i32) -> f64
+    ensures { λ r. ⌜ ReadsValue nx ny (now (field .entry)) (now (support .entry)) x y r ⌝ }
+{
+    value_of(reading(nx, ny, field, support, x, y))
+}
+
+// ---- the summary
+
+// The lowest and the highest value so far. They go from call to call in a struct, so that a loop's invariant speaks of numbers and not of
+// bits.
+struct Ends {
+    low: i32,
+    high: i32,
+}
+
+fn lesser(a: i32, b: i32) -> i32
+    ensures { λ r. ⌜ r ≡ lesser a b ⌝ }
+{
+    if a <= b { a } else { b }
+}
+
+fn greater(a: i32, b: i32) -> i32
+    ensures { λ r. ⌜ r ≡ greater a b ⌝ }
+{
+    if a <= b { b } else { a }
+}
+
+// The ends with one more value.
+fn widened(low: i32, high: i32, v: i32) -> Ends
+    ensures { λ r. ⌜ (r .low ≡ lesser low v) × (r .high ≡ greater high v) ⌝ }
+{
+    Ends {
+        low: lesser(low, v),
+        high: greater(high, v),
+    }
+}
+
+// The lowest and the highest value of a field.
+fn ends_of(field: &[i32]) -> Ends
+    requires { ⌜ 0 < length (now field) ⌝ }
+    ensures { λ r. ⌜ EndsTo (now (field .entry)) (length (now (field .entry))) (r .low) (r .high) ⌝ }
+{
+    let first = field[0];
+    let mut e = Ends {
+        low: first,
+        high: first,
+    };
+    let mut k: usize = 1;
+    while k < field.len() {
+        e = widened(e.low, e.high, field[k]);
+        k += 1;
+    }
+    e
+}
+
+// Lowest, highest and their span. The span is taken before anything becomes a double.
+fn units_between(low: i32, high: i32) -> Units
+    ensures { λ r. ⌜ r ≡ unitsBetween low high ⌝ }
+{
+    let l = low as i64;
+    let h = high as i64;
+    Units {
+        lowest: double(l, PARTS_OF_VALUE),
+        highest: double(h, PARTS_OF_VALUE),
+        span: double(h - l, PARTS_OF_VALUE),
+    }
+}
+
+// The three numbers of a whole field.
+fn units_of(field: &[i32]) -> Units
+    requires { ⌜ 0 < length (now field) ⌝ }
+    ensures { λ r. ⌜ r ≡ unitsOf (now (field .entry)) ⌝ }
+{
+    let e = ends_of(field);
+    units_between(e.low, e.high)
+}
+
+// The summary of any field of i32. A refused one holds three zeros.
+pub fn summary(nx: u32, ny: u32, field: &[i32]) -> Summary
+    ensures { λ r. ⌜ Summarises nx ny (now (field .entry)) r ⌝ }
+{
+    if refusal::shape_bad(nx as usize, ny as usize, field.len()) {
+        let units = Units {
+            lowest: 0.0,
+            highest: 0.0,
+            span: 0.0,
+        };
+        return Summary {
+            refusal: 1,
+            place: 0,
+            units,
+        };
+    }
+    let units = units_of(field);
+    Summary {
+        refusal: 0,
+        place: 0,
+        units,
+    }
+}
