@@ -1,5 +1,5 @@
 // The exports of the archive: each hands its arguments on, and promises what the call behind it promises. See include/sosnyavik.h.
-ghost use Rattle.scheme.specs.Promises.{requestOf, slices, Analyses, ReadsKind, ReadsValue, Summarises};
+ghost use Rattle.scheme.specs.Promises.{requestOf, slices, Analyses, windowAt, tile, Queries, ReadsKind, ReadsValue, Summarises};
 use scheme::Summary;
 
 #[no_mangle]
@@ -44,6 +44,57 @@ pub extern "C" fn sosnyavik_analyse(
         grid,
         support,
         verdict,
+    )
+}
+
+#[no_mangle]
+pub extern "C" fn sosnyavik_window(
+    nx: u32,
+    ny: u32,
+    guess: &[i32],
+    left: u32,
+    right: u32,
+    top: u32,
+    bottom: u32,
+    x: &[i32],
+    y: &[i32],
+    value: &[i32],
+    observed: &[u32],
+    from: &[u32],
+    until: &[u32],
+    count: u32,
+    radius: &[i32],
+    limit: &[i32],
+    smooth: bool,
+    time: u32,
+    age: u32,
+    grid: &mut [i32],
+    support: &mut [u8],
+) -> u32
+    ensures { λ r. ⌜ Queries (requestOf nx ny (now (guess .entry)) (now (x .entry)) (now (y .entry)) (now (value .entry)) (now (observed .entry)) (now (from .entry)) (now (until .entry)) count (now (radius .entry)) (now (limit .entry)) smooth time age) (windowAt left right top bottom) (tile (now (grid .entry)) (now (support .entry))) r (tile (now (grid .exit)) (now (support .exit))) ⌝ }
+{
+    window::query(
+        nx,
+        ny,
+        guess,
+        left,
+        right,
+        top,
+        bottom,
+        x,
+        y,
+        value,
+        observed,
+        from,
+        until,
+        count,
+        radius,
+        limit,
+        smooth,
+        time,
+        age,
+        grid,
+        support,
     )
 }
 

@@ -9,7 +9,7 @@ use lib.ListN.{length}
 use lib.IntN.{ℤ}
 use Rattle.lists.specs.First.{Found, nowhere, at, first, ended}
 use Rattle.scheme.specs.Units.{Request, stationAt}
-use Rattle.scheme.specs.Refusals.{Refusal, accepted, refused, asOne, unlessRefused, inOrder, refusedIf, refusedAt, badScan, badGuess, badStation}
+use Rattle.scheme.specs.Refusals.{Refusal, accepted, refused, asOne, unlessRefused, inOrder, refusedIf, refusedAt, Window, badWindow, badWindowLengths, badScan, badGuess, badStation, fromFour}
 use Rattle.scheme.specs.Accepted.{Shaped}
 use Rattle.scheme.specs.Promises.{Promised}
 
@@ -30,6 +30,14 @@ module _ {A : Type 0} {result found : A} {r : ℕ} {f : Refusal} (c : Coded r f)
 
   pub works : {left : A} → r ≡ 0 → left ≡ result → Promised f result found 0 left
   works none e = record { answers = sym none ∙ c .same; leaves = e ∙ rw (c .only none) }
+
+-- ---- rows 2 to 8 of the window query
+
+abbrev pub fromTwo : Request → Window → (grid support : ℕ) → List Refusal
+fromTwo q w grid support =
+    refusedIf 2 (badWindow q w)
+    ∷ refusedIf 3 (badWindowLengths w grid support)
+    ∷ fromFour q
 
 -- ---- rows 6 to 8
 

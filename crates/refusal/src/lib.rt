@@ -2,14 +2,14 @@
 ghost use mathlib.Core.Path.{_≡_};
 ghost use mathlib.Core.Bool.{Bool, not, _||_};
 ghost use Prim.Native.Nat.{ℕ, _+_, _*_, _≤_, _<_};
-ghost use lib.Dec.{eqb, ltb};
+ghost use lib.Dec.{eqb, leb, ltb};
 ghost use lib.ListN.{length};
 ghost use mathlib.Core.List.{List};
 ghost use Rattle.scheme.specs.Units.{among, mostScans, mostStations};
-ghost use Rattle.scheme.specs.Refusals.{inOrder, fromFour, badShape, analysisRefusal};
+ghost use Rattle.scheme.specs.Refusals.{inOrder, fromFour, badShape, analysisRefusal, windowRefusal};
 ghost use Rattle.scheme.specs.Accepted.{Shaped};
-ghost use Rattle.scheme.specs.Promises.{requestOf};
-ghost use Rattle.refusal.specs.Coded.{Coded, SixReady, fromSix};
+ghost use Rattle.scheme.specs.Promises.{requestOf, windowAt};
+ghost use Rattle.refusal.specs.Coded.{Coded, SixReady, fromSix, fromTwo};
 
 // An answer as one number.
 fn coded(number: u32, place: usize) -> u32
@@ -38,6 +38,22 @@ pub fn shape_bad(nx: usize, ny: usize, len: usize) -> bool
     len != nx * ny
 }
 
+// 2: a window with left > right, top > bottom, or past the grid. Its ends are any numbers, so none is moved before it is compared.
+fn window_bad(nx: usize, ny: usize, left: usize, right: usize, top: usize, bottom: usize) -> bool
+    ensures { λ r. ⌜ r ≡ ltb right left || ltb bottom top || leb nx right || leb ny bottom ⌝ }
+{
+    if right < left {
+        return true;
+    }
+    if bottom < top {
+        return true;
+    }
+    if nx <= right {
+        return true;
+    }
+    ny <= bottom
+}
+
 // 3: a result slice of the wrong length
 fn lengths_bad(points: usize, rows: usize, grid: usize, support: usize, verdict: usize) -> bool
     ensures { λ r. ⌜ r ≡ not (eqb grid points) || not (eqb support points) || not (eqb verdict rows) ⌝ }
@@ -49,6 +65,16 @@ fn lengths_bad(points: usize, rows: usize, grid: usize, support: usize, verdict:
         return true;
     }
     verdict != rows
+}
+
+// The same for the window query, whose two results are as long as the window.
+fn window_lengths_bad(points: usize, grid: usize, support: usize) -> bool
+    ensures { λ r. ⌜ r ≡ not (eqb grid points) || not (eqb support points) ⌝ }
+{
+    if grid != points {
+        return true;
+    }
+    support != points
 }
 
 // 4: station columns unequal, or more than 512
@@ -209,5 +235,102 @@ pub fn of_analysis(
         scans,
         radius,
         limit,
+    )
+}
+
+// Rows 2 and 3 of the window query, then from 4 on, over the whole request.
+fn from_two(
+    nx: usize,
+    ny: usize,
+    guess: &[i32],
+    left: usize,
+    right: usize,
+    top: usize,
+    bottom: usize,
+    x: &[i32],
+    y: &[i32],
+    value: &[i32],
+    observed: &[u32],
+    from: &[u32],
+    until: &[u32],
+    scans: usize,
+    radius: &[i32],
+    limit: &[i32],
+    grid: usize,
+    support: usize,
+) -> u32
+    requires { ⌜ Shaped nx ny (length (now guess)) ⌝ }
+    ensures { λ r. ⌜ ((smooth : Bool) (time age : ℕ)
+        → Coded r (inOrder (fromTwo (requestOf nx ny (now (guess .entry)) (now (x .entry)) (now (y .entry)) (now (value .entry)) (now (observed .entry)) (now (from .entry)) (now (until .entry)) scans (now (radius .entry)) (now (limit .entry)) smooth time age) (windowAt left right top bottom) grid support))) ⌝ }
+{
+    if window_bad(nx, ny, left, right, top, bottom) {
+        return coded(2, 0);
+    }
+    let points = (right - left + 1) * (bottom - top + 1);
+    if window_lengths_bad(points, grid, support) {
+        return coded(3, 0);
+    }
+    from_four(
+        nx,
+        ny,
+        guess,
+        x,
+        y,
+        value,
+        observed,
+        from,
+        until,
+        scans,
+        radius,
+        limit,
+    )
+}
+
+// The window query: 1, then from 2 on. 0 if no test refuses.
+pub fn of_window(
+    nx: usize,
+    ny: usize,
+    guess: &[i32],
+    left: usize,
+    right: usize,
+    top: usize,
+    bottom: usize,
+    x: &[i32],
+    y: &[i32],
+    value: &[i32],
+    observed: &[u32],
+    from: &[u32],
+    until: &[u32],
+    scans: usize,
+    radius: &[i32],
+    limit: &[i32],
+    grid: usize,
+    support: usize,
+) -> u32
+    ensures { λ r. ⌜ ((smooth : Bool) (time age : ℕ)
+        → Coded r (windowRefusal (requestOf nx ny (now (guess .entry)) (now (x .entry)) (now (y .entry)) (now (value .entry)) (now (observed .entry)) (now (from .entry)) (now (until .entry)) scans (now (radius .entry)) (now (limit .entry)) smooth time age) (windowAt left right top bottom) grid support)) ⌝ }
+{
+    if shape_bad(nx, ny, guess.len()) {
+        return coded(1, 0);
+    }
+    from_two(
+        nx,
+        ny,
+        guess,
+        left,
+        right,
+        top,
+        bottom,
+        x,
+        y,
+        value,
+        observed,
+        from,
+        until,
+        scans,
+        radius,
+        limit,
+        grid,
+        support,
     )
 }
