@@ -1,9 +1,13 @@
 /*
- * bench.c: the proved analysis beside the plain one, on three made-up evenings that are the same in every run.
+ * bench.c: the proved analysis beside the plain one, and its window query beside itself, on made-up evenings that are
+ * the same in every run.
  *
  *   bench CASE ours|plain REPEAT   call one of them, for a counter of instructions
  *   bench CASE both REPEAT         compare the answers, then print the least wall time of each
- *   bench stack                    print the bytes of stack that the proved one touches on case a
+ *   bench CASE window SIDE         call the window query once, for SIDE by SIDE points in the middle of the grid, and
+ *                                  compare its answer with the whole analysis
+ *   bench CASE stack               print the bytes of stack that the analysis touches, and those that it may
+ *   bench CASE stack SIDE          the same of a window query
  *
  * Exit status: 0 done; 1 the answers differ, or the system failed; 2 bad arguments.
  */
@@ -39,6 +43,7 @@ static const struct evening EVENINGS[] = {
     {"a", 64, 64, 512, 6, {1024, 1024, 1024, 1024, 1024, 1024}, {ANY, ANY, ANY, ANY, ANY, ANY}, true},
     {"b", 48, 48, 60, 4, {512, 320, 192, 128}, {640, 512, 384, 320}, true},
     {"c", 16, 16, 12, 2, {320, 192}, {640, 384}, false},
+    {"w", 64, 64, 512, 2, {128, 64}, {640, 512}, true},
 };
 
 struct input {
@@ -56,10 +61,14 @@ struct output {
 
 /* Too large for the stack that is to be measured, and shared by no two calls. */
 static struct input input;
-static struct output ours, plain;
+static struct output ours, plain, part;
+
+/* The window that is asked for: all ends count from 0 and are inside. */
+static uint32_t left, right, top, bottom;
 
 static void complain(const char *what, const char *word) {
-    fprintf(stderr, "bench: %s '%s': use bench a|b|c ours|plain|both REPEAT, or bench stack\n", what, word);
+    fprintf(stderr, "bench: %s '%s': use bench a|b|c|w ours|plain|both REPEAT, window SIDE, or stack [SIDE]\n", what,
+            word);
     exit(2);
 }
 
@@ -124,6 +133,26 @@ static void run(Analysis *analysis, struct output *output) {
                  output->grid, points, output->support, points, output->verdict, stations);
 }
 
+static size_t window_columns(void) { return right - left + 1; }
+
+static void run_window(void) {
+    const struct evening *evening = input.evening;
+    size_t points = (size_t)evening->nx * evening->ny, stations = evening->stations;
+    size_t asked = window_columns() * (bottom - top + 1);
+    part.returned = sosnyavik_window(evening->nx, evening->ny, input.first_guess, points, left, right, top, bottom,
+                                     input.x, stations, input.y, stations, input.value, stations, input.observed,
+                                     stations, input.from, stations, input.until, stations, evening->scans,
+                                     evening->radius, evening->scans, evening->limit, evening->scans, evening->smooth,
+                                     MINUTE, AGE, part.grid, asked, part.support, asked);
+}
+
+static void make_window(uint32_t side) {
+    left = (input.evening->nx - side) / 2;
+    right = left + side - 1;
+    top = (input.evening->ny - side) / 2;
+    bottom = top + side - 1;
+}
+
 /* The results are filled unlike before the calls, so that an entry which one of them leaves out differs too. */
 static void compare(void) {
     size_t points = (size_t)input.evening->nx * input.evening->ny;
@@ -139,6 +168,23 @@ static void compare(void) {
         fail("the supports differ");
     if (memcmp(ours.verdict, plain.verdict, input.evening->stations) != 0)
         fail("the verdicts differ");
+}
+
+/* One call of the window query, which is what a counter is to count. */
+static void compare_window(void) {
+    memset(&ours, 0x55, sizeof ours);
+    memset(&part, 0xAA, sizeof part);
+    run(sosnyavik_analyse, &ours);
+    run_window();
+    if (ours.returned != 0 || part.returned != 0)
+        fail("the window query or the whole analysis is refused");
+    for (uint32_t j = top; j <= bottom; j++) {
+        size_t from = j * input.evening->nx + left, to = (j - top) * window_columns();
+        if (memcmp(ours.grid + from, part.grid + to, window_columns() * sizeof *part.grid) != 0)
+            fail("the window's grid is not the whole analysis's");
+        if (memcmp(ours.support + from, part.support + to, window_columns()) != 0)
+            fail("the window's support is not the whole analysis's");
+    }
 }
 
 static int64_t nanoseconds(Analysis *analysis, struct output *output) {
@@ -163,13 +209,8 @@ static void time_both(long repeat) {
 
 enum { STACK = 8 * 1024 * 1024, PAGE = 4096, PAINT = 0xC3 };
 
-/* What the measured stack is to run. A context takes no pointers, so it stands here; NULL is the empty run. */
-static Analysis *measured;
-
-static void run_measured(void) {
-    if (measured != NULL)
-        run(measured, &ours);
-}
+static void run_nothing(void) {}
+static void run_analysis(void) { run(sosnyavik_analyse, &ours); }
 
 /* A stack that is painted, so that what was touched shows. Its lowest page stops a call that would need more. */
 static unsigned char *painted_stack(void) {
@@ -181,7 +222,7 @@ static unsigned char *painted_stack(void) {
 }
 
 /* The bytes from the lowest one that a run on a stack of its own touched, up to the top. */
-static size_t touched(Analysis *analysis) {
+static size_t touched(void (*measured)(void)) {
     unsigned char *stack = painted_stack();
     ucontext_t here, there;
     if (getcontext(&there) != 0)
@@ -189,8 +230,7 @@ static size_t touched(Analysis *analysis) {
     there.uc_stack.ss_sp = stack;
     there.uc_stack.ss_size = STACK;
     there.uc_link = &here;
-    makecontext(&there, run_measured, 0);
-    measured = analysis;
+    makecontext(&there, measured, 0);
     if (swapcontext(&here, &there) != 0)
         fail("swapcontext failed: run it on Linux with glibc");
     size_t low = PAGE;
@@ -201,24 +241,31 @@ static size_t touched(Analysis *analysis) {
 }
 
 /* The arguments of the call count as its own; what the switch of stacks touches does not. */
-static void measure_stack(void) {
-    make_input("a");
-    printf("%zu\n", touched(sosnyavik_analyse) - touched(NULL));
+static void measure_stack(void (*measured)(void), size_t promised) {
+    printf("%zu %zu\n", touched(measured) - touched(run_nothing), promised);
 }
 
-static long repeat_of(const char *word) {
+static long number_of(const char *word, long most, const char *otherwise) {
     char *end;
-    long repeat = strtol(word, &end, 10);
-    if (end == word || *end != '\0' || repeat < 1 || repeat > MOST_REPEATS)
-        complain("REPEAT is to be a number in 1..1000000 and not", word);
-    return repeat;
+    long number = strtol(word, &end, 10);
+    if (end == word || *end != '\0' || number < 1 || number > most)
+        complain(otherwise, word);
+    return number;
 }
 
-static void run_case(const char *name, const char *which, long repeat) {
+static void run_window_case(const char *what, const char *side) {
+    long most = input.evening->nx < input.evening->ny ? input.evening->nx : input.evening->ny;
+    make_window((uint32_t)number_of(side, most, "SIDE is to be a number within the grid and not"));
+    if (strcmp(what, "stack") == 0)
+        measure_stack(run_window, SOSNYAVIK_STACK_WINDOW);
+    else
+        compare_window();
+}
+
+static void run_case(const char *which, long repeat) {
     bool is_ours = strcmp(which, "ours") == 0, is_plain = strcmp(which, "plain") == 0;
     if (!is_ours && !is_plain && strcmp(which, "both") != 0)
         complain("nothing is called", which);
-    make_input(name);
     if (!is_ours && !is_plain) {
         compare();
         time_both(repeat);
@@ -229,11 +276,17 @@ static void run_case(const char *name, const char *which, long repeat) {
 }
 
 int main(int argc, char **argv) {
-    if (argc == 2 && strcmp(argv[1], "stack") == 0)
-        measure_stack();
-    else if (argc == 4)
-        run_case(argv[1], argv[2], repeat_of(argv[3]));
+    if (argc != 3 && argc != 4)
+        complain("two or three words are needed after", argc > 0 ? argv[0] : "bench");
+    const char *what = argv[2];
+    make_input(argv[1]);
+    if (argc == 3 && strcmp(what, "stack") == 0)
+        measure_stack(run_analysis, SOSNYAVIK_STACK_ANALYSE);
+    else if (argc == 3)
+        complain("a number is needed after", what);
+    else if (strcmp(what, "window") == 0 || strcmp(what, "stack") == 0)
+        run_window_case(what, argv[3]);
     else
-        complain("one or three words are needed after", argc > 0 ? argv[0] : "bench");
+        run_case(what, number_of(argv[3], MOST_REPEATS, "REPEAT is to be a number in 1..1000000 and not"));
     return 0;
 }

@@ -6,8 +6,11 @@
 ** is the analysed grid, the support of each point and a verdict for each
 ** station. It follows from the arguments alone, to the last digit.
 **
-** In this file: marks, units and sizes, results, verdicts, support, refusals,
-** what the caller owes, what the call keeps, and the call itself.
+** Two calls: the whole analysis, and the window query, which answers for a
+** part of the grid alone and with the same numbers.
+**
+** In this file: marks, units and sizes, windows, results, verdicts, support,
+** refusals, what the caller owes, what the calls keep, and the calls.
 */
 #ifndef SOSNYAVIK_H
 #define SOSNYAVIK_H
@@ -70,7 +73,23 @@ extern "C" {
 */
 
 /*
+** WINDOWS
+**
+** A window is the points of columns left .. right and rows top .. bottom. Its
+** four ends count from 0 and are inside it: left = right is one column.
+**
+**   left, right   first and last column              left <= right < nx
+**   top, bottom   first and last row                 top <= bottom < ny
+**
+** Only the window query has one. Its grid and support are, point for point,
+** those of the whole analysis of the same request. The request is the whole
+** one too, with the grid's first guess and stations: all of it is tested.
+*/
+
+/*
 ** RESULTS
+**
+** Of the whole analysis:
 **
 **   grid          nx*ny values, in first_guess's     -13000000 .. 13000000
 **                 order and unit
@@ -78,7 +97,16 @@ extern "C" {
 **   verdict       a byte for each station row, so    see VERDICTS
 **                 x_len of them
 **
-** What the three hold before the call does not matter.
+** Of the window query, which gives no verdicts:
+**
+**   grid          (right-left+1)*(bottom-top+1)      -13000000 .. 13000000
+**                 values, row by row from the
+**                 window's top row: point (i, j)
+**                 of the whole grid is entry
+**                 (j-top)*(right-left+1) + i-left
+**   support       as many bytes, in the same order   see SUPPORT
+**
+** What the results hold before the call does not matter.
 */
 
 /*
@@ -117,15 +145,19 @@ extern "C" {
 /*
 ** REFUSALS
 **
-** The call returns 0 if the request was accepted, and otherwise
+** Both calls return 0 if the request was accepted, and otherwise
 ** refusal*65536 + place. Tested in this order; the first that fits is given,
 ** at the first place that it fits.
 **
 **   refusal   when                                         place
 **   1         nx or ny is out of 2 .. 64, or first_guess   0
 **             is not nx*ny long
+**   2         left is above right, top is above bottom,    0
+**             or right or bottom is past the grid
 **   3         grid or support is not nx*ny long, or        0
-**             verdict is not as long as x
+**             verdict is not as long as x; in a window
+**             query: grid or support is not as long as
+**             the window
 **   4         the six station columns are not equally      0
 **             long, or longer than 512
 **   5         scans is out of 1 .. 6, or radius or limit   0
@@ -137,12 +169,14 @@ extern "C" {
 **             the mark, its position is out of range, or
 **             from is not below until
 **
-** Refusal 2 belongs to another call and is never returned by this one. A row
-** with a verdict of 1 .. 5 to come is tested for refusal 8 like any other.
+** Only the window query gives 2. A row with a verdict of 1 .. 5 to come is
+** tested for refusal 8 like any other, and so is one far from the window.
 **
 ** A mistake for each, and what comes back:
 **
 **   nx = 65, one column too many                           0x00010000 =  65536
+**   right = nx, which is past the last column              0x00020000 = 131072
+**   grid and support of nx*ny entries, for a window        0x00030000 = 196608
 **   a station added to the columns, and not to verdict     0x00030000 = 196608
 **   a station added to all columns but y, and to verdict   0x00040000 = 262144
 **   scans = 3, with two radii                              0x00050000 = 327680
@@ -166,18 +200,23 @@ extern "C" {
 **     Inputs may overlap inputs.
 **   - Nobody writes to the inputs, or uses the results, during the call.
 **   - A bool is 0 or 1.
+**   - The stack has room for the call: see WHAT THE CALLS KEEP.
 **
-** WHAT THE CALL KEEPS
+** WHAT THE CALLS KEEP
 **
 **   - A refused call writes nothing. An accepted call writes every entry of
-**     the three results, and nothing else.
+**     its results, and nothing else.
 **   - It allocates nothing, keeps no state between calls and has no global
-**     state. Any number of threads may call it at once, each with results of
+**     state. Any number of threads may call at once, each with results of
 **     its own; they may share inputs.
+**   - A call touches at most so many bytes of stack, its arguments included.
+**     This is measured, by make bench, and not proved.
 */
+#define SOSNYAVIK_STACK_ANALYSE 65536
+#define SOSNYAVIK_STACK_WINDOW 131072
 
 /*
-** THE CALL
+** THE WHOLE ANALYSIS
 **
 ** The example of the paper: three by three points at 10 degrees, and three
 ** stations, the last of them taken down at minute 995.
@@ -212,6 +251,45 @@ uint32_t sosnyavik_analyse(
     int32_t *grid, size_t grid_len,
     uint8_t *support, size_t support_len,
     uint8_t *verdict, size_t verdict_len);
+/* clang-format on */
+
+/*
+** THE WINDOW QUERY
+**
+** The example again, asked for the first two points of row 1 alone:
+**
+**   int32_t part[2];
+**   uint8_t part_support[2];
+**   uint32_t r = sosnyavik_window(3, 3, first_guess, 9, 0, 1, 1, 1,
+**                                 x, 3, y, 3, value, 3,
+**                                 observed, 3, from, 3, until, 3,
+**                                 1, radius, 1, limit, 1, false, 1000, 60,
+**                                 part, 2, part_support, 2);
+**
+** Now r is 0, part is 672, 759, and both bytes of part_support are 1.
+**
+** The work goes by the window's reach and not by the grid. For each scan count
+** radius/64 rounded up, plus 1 if smooth; the reach is the total, in grid
+** steps. Only the window widened by its reach on each side, as far as the grid
+** goes, is analysed. A small window with a short reach is cheap; one whose
+** reach covers the grid costs as much as the whole analysis.
+*/
+/* clang-format off */
+uint32_t sosnyavik_window(
+    uint32_t nx, uint32_t ny, const int32_t *first_guess, size_t first_guess_len,
+    uint32_t left, uint32_t right, uint32_t top, uint32_t bottom,
+    const int32_t *x, size_t x_len,
+    const int32_t *y, size_t y_len,
+    const int32_t *value, size_t value_len,
+    const uint32_t *observed, size_t observed_len,
+    const uint32_t *from, size_t from_len,
+    const uint32_t *until, size_t until_len,
+    uint32_t scans,
+    const int32_t *radius, size_t radius_len,
+    const int32_t *limit, size_t limit_len,
+    bool smooth, uint32_t time, uint32_t age,
+    int32_t *grid, size_t grid_len,
+    uint8_t *support, size_t support_len);
 /* clang-format on */
 
 #ifdef __cplusplus

@@ -1,4 +1,5 @@
-// What include/sosnyavik.h tells a C programmer, called: the paper's example, and a mistake for each refusal.
+// What include/sosnyavik.h tells a C programmer, called: the paper's example, whole and as a window, and a mistake for
+// each refusal of each call.
 #include <stdio.h>
 #include <stdlib.h>
 #include <string.h>
@@ -9,9 +10,10 @@ enum { POINTS = 9, ROWS = 3, UNTOUCHED = 0x5a };
 
 typedef struct {
     uint32_t nx, scans;
+    uint32_t left, right, top, bottom;
     int32_t first_guess[POINTS], x[ROWS], y[ROWS], value[ROWS];
     uint32_t observed[ROWS], from[ROWS], until[ROWS];
-    size_t y_len, verdict_len, plan_len;
+    size_t y_len, verdict_len, part_len, plan_len;
     int32_t radius[2], limit[2];
 } Request;
 
@@ -20,9 +22,15 @@ typedef struct {
     uint8_t support[POINTS], verdict[ROWS];
 } Results;
 
+typedef uint32_t Call(const Request *q, Results *r);
+
 static const Request paper = {
     .nx = 3,
     .scans = 1,
+    .left = 0,
+    .right = 1,
+    .top = 1,
+    .bottom = 1,
     .first_guess = {640, 640, 640, 640, 640, 640, 640, 640, 640},
     .x = {64, 0, 128},
     .y = {64, 0, 128},
@@ -32,17 +40,24 @@ static const Request paper = {
     .until = {SOSNYAVIK_NO_END, SOSNYAVIK_NO_END, 995},
     .y_len = ROWS,
     .verdict_len = ROWS,
+    .part_len = 2,
     .plan_len = 1,
     .radius = {96, 192},
     .limit = {200, 200},
 };
 
 static uint32_t analyse(const Request *q, Results *r) {
-    memset(r, UNTOUCHED, sizeof *r);
     return sosnyavik_analyse(q->nx, 3, q->first_guess, POINTS, q->x, ROWS, q->y, q->y_len, q->value, ROWS, q->observed,
                              ROWS, q->from, ROWS, q->until, ROWS, q->scans, q->radius, q->plan_len, q->limit,
                              q->plan_len, false, 1000, 60, r->grid, POINTS, r->support, POINTS, r->verdict,
                              q->verdict_len);
+}
+
+static uint32_t window(const Request *q, Results *r) {
+    return sosnyavik_window(q->nx, 3, q->first_guess, POINTS, q->left, q->right, q->top, q->bottom, q->x, ROWS, q->y,
+                            q->y_len, q->value, ROWS, q->observed, ROWS, q->from, ROWS, q->until, ROWS, q->scans,
+                            q->radius, q->plan_len, q->limit, q->plan_len, false, 1000, 60, r->grid, q->part_len,
+                            r->support, q->part_len);
 }
 
 static void must(bool holds, const char *what) {
@@ -52,35 +67,60 @@ static void must(bool holds, const char *what) {
     exit(1);
 }
 
-static void refused(Request q, uint32_t number, uint32_t place, const char *what) {
+static void answered(Call *call, const Results *expected, const char *what) {
+    Results r;
+    memset(&r, UNTOUCHED, sizeof r);
+    must(call(&paper, &r) == 0, what);
+    must(memcmp(r.grid, expected->grid, sizeof r.grid) == 0, what);
+    must(memcmp(r.support, expected->support, sizeof r.support) == 0, what);
+    must(memcmp(r.verdict, expected->verdict, sizeof r.verdict) == 0, what);
+}
+
+static void refused(Call *call, Request q, uint32_t number, uint32_t place, const char *what) {
     Results r, before;
+    memset(&r, UNTOUCHED, sizeof r);
     memset(&before, UNTOUCHED, sizeof before);
-    uint32_t answer = analyse(&q, &r);
+    uint32_t answer = call(&q, &r);
     must(SOSNYAVIK_REFUSAL(answer) == number && SOSNYAVIK_PLACE(answer) == place, what);
     must(memcmp(&r, &before, sizeof r) == 0, "a refused call");
 }
 
-static void answered(void) {
-    static const Results expected = {.grid = {585, 672, 768, 672, 759, 768, 768, 768, 768},
-                                     .support = {1, 1, 1, 1, 1, 1, 1, 1, 1},
-                                     .verdict = {0, 0, 2}};
-    Results r;
-    must(analyse(&paper, &r) == 0, "the answer to the example");
-    must(memcmp(r.grid, expected.grid, sizeof r.grid) == 0, "the example's grid");
-    must(memcmp(r.support, expected.support, sizeof r.support) == 0, "the example's support");
-    must(memcmp(r.verdict, expected.verdict, sizeof r.verdict) == 0, "the example's verdicts");
+// What lies past the window's two entries, and all verdicts, the window query leaves alone.
+static void examples(void) {
+    Results whole = {.grid = {585, 672, 768, 672, 759, 768, 768, 768, 768},
+                     .support = {1, 1, 1, 1, 1, 1, 1, 1, 1},
+                     .verdict = {0, 0, 2}};
+    Results part;
+    memset(&part, UNTOUCHED, sizeof part);
+    part.grid[0] = 672, part.grid[1] = 759;
+    part.support[0] = 1, part.support[1] = 1;
+    answered(analyse, &whole, "the example");
+    answered(window, &part, "the window of the example");
+}
+
+// The mistakes that both calls refuse alike.
+static void mistakes(Call *call) {
+    Request q = paper;
+    q.nx = 65, refused(call, q, 1, 0, "refusal 1"), q = paper;
+    q.y_len = 2, refused(call, q, 4, 0, "refusal 4"), q = paper;
+    q.scans = 2, refused(call, q, 5, 0, "refusal 5"), q = paper;
+    q.scans = 2, q.plan_len = 2, refused(call, q, 6, 1, "refusal 6"), q = paper;
+    q.first_guess[4] = SOSNYAVIK_MISSING, refused(call, q, 7, 4, "refusal 7"), q = paper;
+    q.from[2] = 995, q.until[2] = 0, refused(call, q, 8, 2, "refusal 8");
+}
+
+static void mistakes_of_one_call(void) {
+    Request q = paper;
+    q.verdict_len = 2, refused(analyse, q, 3, 0, "refusal 3"), q = paper;
+    q.right = 3, refused(window, q, 2, 0, "refusal 2"), q = paper;
+    q.part_len = POINTS, refused(window, q, 3, 0, "refusal 3 of a window");
 }
 
 int main(void) {
-    answered();
-    Request q = paper;
-    q.nx = 65, refused(q, 1, 0, "refusal 1"), q = paper;
-    q.verdict_len = 2, refused(q, 3, 0, "refusal 3"), q = paper;
-    q.y_len = 2, refused(q, 4, 0, "refusal 4"), q = paper;
-    q.scans = 2, refused(q, 5, 0, "refusal 5"), q = paper;
-    q.scans = 2, q.plan_len = 2, refused(q, 6, 1, "refusal 6"), q = paper;
-    q.first_guess[4] = SOSNYAVIK_MISSING, refused(q, 7, 4, "refusal 7"), q = paper;
-    q.from[2] = 995, q.until[2] = 0, refused(q, 8, 2, "refusal 8");
-    puts("header: the example and a mistake for each of the 7 refusals answer as include/sosnyavik.h says");
+    examples();
+    mistakes(analyse);
+    mistakes(window);
+    mistakes_of_one_call();
+    puts("header: the examples, and the mistakes for refusals 1 to 8, answer as include/sosnyavik.h says");
     return 0;
 }

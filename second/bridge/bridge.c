@@ -9,6 +9,7 @@
  *   1, analyse   whether empty slices get null; the byte that fills results and guards; nx, ny, scans, smooth, time,
  *                age; the nine columns in the order of enum column_name; the lengths of grid, support and verdict. The
  *                answer is what the archive returned, the flags, and grid, support and verdict as they are then.
+ *   2, window    the same, with left, right, top and bottom after age, and without verdict.
  *
  * Bit r of the flags is set where the archive wrote outside result r, and bit RESULTS + c where it changed column c.
  */
@@ -19,7 +20,7 @@
 #include <string.h>
 #include <sys/resource.h>
 
-enum function { GREET = 0, ANALYSE = 1 };
+enum function { GREET = 0, ANALYSE = 1, WINDOW = 2 };
 enum column_name { FIRST_GUESS, X, Y, VALUE, OBSERVED, FROM, UNTIL, RADIUS, LIMIT, COLUMNS };
 enum result_name { GRID, SUPPORT, VERDICT, RESULTS };
 
@@ -44,9 +45,12 @@ struct result {
     void *address;
 };
 
-struct analysis {
+/* A window query has no verdict: the last of its results is not there. */
+struct request {
     uint32_t nx, ny, scans, smooth, time, age;
+    uint32_t left, right, top, bottom;
     struct column columns[COLUMNS];
+    size_t results_lent;
     struct result results[RESULTS];
 };
 
@@ -113,71 +117,99 @@ static bool is_written_outside(const struct result *result) {
     return !is_whole(before, result->guard, result->pattern) || !is_whole(after, result->guard, result->pattern);
 }
 
-static struct analysis take_analysis(void) {
-    struct analysis a;
+static void take_window(struct request *q) {
+    q->left = take_number();
+    q->right = take_number();
+    q->top = take_number();
+    q->bottom = take_number();
+}
+
+static struct request take_request(enum function function) {
+    struct request q = {.results_lent = function == WINDOW ? VERDICT : RESULTS};
     bool null = take_number() != 0;
     unsigned char pattern = (unsigned char)take_number();
-    a.nx = take_number();
-    a.ny = take_number();
-    a.scans = take_number();
-    a.smooth = take_number();
-    a.time = take_number();
-    a.age = take_number();
+    q.nx = take_number();
+    q.ny = take_number();
+    q.scans = take_number();
+    q.smooth = take_number();
+    q.time = take_number();
+    q.age = take_number();
+    if (function == WINDOW)
+        take_window(&q);
     for (size_t c = 0; c < COLUMNS; c++)
-        a.columns[c] = take_column(null);
-    for (size_t r = 0; r < RESULTS; r++)
-        a.results[r] = take_result(r == GRID ? sizeof(int32_t) : sizeof(uint8_t), pattern, null);
-    return a;
+        q.columns[c] = take_column(null);
+    for (size_t r = 0; r < q.results_lent; r++)
+        q.results[r] = take_result(r == GRID ? sizeof(int32_t) : sizeof(uint8_t), pattern, null);
+    return q;
 }
 
 /* clang-format off */
-static uint32_t call_analyse(const struct analysis *a) {
-    const struct column *in = a->columns;
-    const struct result *out = a->results;
+static uint32_t call_analyse(const struct request *q) {
+    const struct column *in = q->columns;
+    const struct result *out = q->results;
     return sosnyavik_analyse(
-        a->nx, a->ny, in[FIRST_GUESS].address, in[FIRST_GUESS].length,
+        q->nx, q->ny, in[FIRST_GUESS].address, in[FIRST_GUESS].length,
         in[X].address, in[X].length,
         in[Y].address, in[Y].length,
         in[VALUE].address, in[VALUE].length,
         in[OBSERVED].address, in[OBSERVED].length,
         in[FROM].address, in[FROM].length,
         in[UNTIL].address, in[UNTIL].length,
-        a->scans,
+        q->scans,
         in[RADIUS].address, in[RADIUS].length,
         in[LIMIT].address, in[LIMIT].length,
-        a->smooth != 0, a->time, a->age,
+        q->smooth != 0, q->time, q->age,
         out[GRID].address, out[GRID].length,
         out[SUPPORT].address, out[SUPPORT].length,
         out[VERDICT].address, out[VERDICT].length);
 }
+
+static uint32_t call_window(const struct request *q) {
+    const struct column *in = q->columns;
+    const struct result *out = q->results;
+    return sosnyavik_window(
+        q->nx, q->ny, in[FIRST_GUESS].address, in[FIRST_GUESS].length,
+        q->left, q->right, q->top, q->bottom,
+        in[X].address, in[X].length,
+        in[Y].address, in[Y].length,
+        in[VALUE].address, in[VALUE].length,
+        in[OBSERVED].address, in[OBSERVED].length,
+        in[FROM].address, in[FROM].length,
+        in[UNTIL].address, in[UNTIL].length,
+        q->scans,
+        in[RADIUS].address, in[RADIUS].length,
+        in[LIMIT].address, in[LIMIT].length,
+        q->smooth != 0, q->time, q->age,
+        out[GRID].address, out[GRID].length,
+        out[SUPPORT].address, out[SUPPORT].length);
+}
 /* clang-format on */
 
-static uint32_t flags_of(const struct analysis *a) {
+static uint32_t flags_of(const struct request *q) {
     uint32_t flags = 0;
-    for (size_t r = 0; r < RESULTS; r++)
-        flags |= (uint32_t)is_written_outside(&a->results[r]) << r;
+    for (size_t r = 0; r < q->results_lent; r++)
+        flags |= (uint32_t)is_written_outside(&q->results[r]) << r;
     for (size_t c = 0; c < COLUMNS; c++)
-        flags |= (uint32_t)is_changed(&a->columns[c]) << (RESULTS + c);
+        flags |= (uint32_t)is_changed(&q->columns[c]) << (RESULTS + c);
     return flags;
 }
 
-static void release(struct analysis *a) {
+static void release(struct request *q) {
     for (size_t c = 0; c < COLUMNS; c++) {
-        free(a->columns[c].sent);
-        free(a->columns[c].lent);
+        free(q->columns[c].sent);
+        free(q->columns[c].lent);
     }
-    for (size_t r = 0; r < RESULTS; r++)
-        free(a->results[r].block);
+    for (size_t r = 0; r < q->results_lent; r++)
+        free(q->results[r].block);
 }
 
-static void analyse(void) {
-    struct analysis a = take_analysis();
-    uint32_t code = call_analyse(&a);
-    give_number(code);
-    give_number(flags_of(&a));
-    for (size_t r = 0; r < RESULTS; r++)
-        give(a.results[r].block + a.results[r].guard, a.results[r].size);
-    release(&a);
+static void answer_request(enum function function) {
+    struct request q = take_request(function);
+    give_number(function == WINDOW ? call_window(&q) : call_analyse(&q));
+    give_number(flags_of(&q));
+    for (size_t r = 0; r < q.results_lent; r++)
+        give(q.results[r].block + q.results[r].guard, q.results[r].size);
+    release(&q);
 }
 
 /* The number of the next call's function, unless the input ends before it. */
@@ -194,7 +226,8 @@ static void answer(uint32_t function) {
         give_number(GREETING);
         break;
     case ANALYSE:
-        analyse();
+    case WINDOW:
+        answer_request(function);
         break;
     default:
         fail("a call names no function of the bridge");

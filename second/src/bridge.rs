@@ -2,7 +2,7 @@
 //! runs on any processor, so its calls are made by a program of their own,
 //! the bridge, over pipes. `bridge/bridge.c` has the protocol.
 
-use crate::call::Call;
+use crate::call::{Call, Window};
 use crate::compare::{Answer, Results, Subject};
 use crate::patterned::BYTE_PATTERN;
 use std::cell::RefCell;
@@ -12,6 +12,7 @@ use std::thread::{spawn, JoinHandle};
 
 const GREET: u32 = 0;
 const ANALYSE: u32 = 1;
+const WINDOW: u32 = 2;
 const GREETING: u32 = 0x536F_736E;
 
 /// What the lowest bits of the flags stand for; one for each result, then one
@@ -46,22 +47,44 @@ impl Bridge {
     }
 }
 
-impl Subject for Bridge {
-    fn analyse(&self, call: &Call, results: Results) -> Answer<u32> {
-        let request = analyse_request(call, &results, self.empty);
+impl Bridge {
+    /// Asks for a call and reads its answer; a bridge that dies in it is a
+    /// finding, and the next call starts another.
+    fn ask<T>(
+        &self,
+        request: &[u8],
+        read: impl FnOnce(&mut BufReader<ChildStdout>) -> io::Result<T>,
+    ) -> Answer<T> {
         let mut place = self.running.borrow_mut();
         let mut running = match place.take() {
             Some(running) => running,
             None => Running::start(&self.command)
                 .map_err(|why| format!("the bridge does not start again: {why}"))?,
         };
-        match running.ask(&request).and_then(|output| read_answer(output, results)) {
-            Ok((code, flags)) => {
+        match running.ask(request).and_then(read) {
+            Ok(answer) => {
                 *place = Some(running);
-                seen_by_bridge(flags).map_or(Ok(code), Err)
+                Ok(answer)
             }
             Err(_) => Err(format!("the archive died in this call: {}", running.end())),
         }
+    }
+
+    fn ask_request(&self, request: &[u8], results: Results) -> Answer<u32> {
+        let (code, flags) = self.ask(request, |output| read_answer(output, results))?;
+        seen_by_bridge(flags).map_or(Ok(code), Err)
+    }
+}
+
+impl Subject for Bridge {
+    fn analyse(&self, call: &Call, results: Results) -> Answer<u32> {
+        let request = analyse_request(call, &results, self.empty);
+        self.ask_request(&request, results)
+    }
+
+    fn window(&self, call: &Call, window: &Window, results: Results) -> Answer<u32> {
+        let request = window_request(call, window, &results, self.empty);
+        self.ask_request(&request, results)
     }
 }
 
@@ -131,23 +154,46 @@ fn last_line(errors: impl Read) -> String {
 }
 
 fn analyse_request(call: &Call, results: &Results, empty: Empty) -> Vec<u8> {
-    let null = u32::from(empty == Empty::Null);
     let mut bytes = Vec::new();
-    put_numbers(&mut bytes, &[ANALYSE, null, BYTE_PATTERN.into()]);
-    put_numbers(&mut bytes, &[call.nx, call.ny, call.scans]);
-    put_numbers(&mut bytes, &[call.smooth.into(), call.time, call.age]);
-    put_column(&mut bytes, &call.first_guess, i32::to_le_bytes);
-    put_column(&mut bytes, &call.x, i32::to_le_bytes);
-    put_column(&mut bytes, &call.y, i32::to_le_bytes);
-    put_column(&mut bytes, &call.value, i32::to_le_bytes);
-    put_column(&mut bytes, &call.observed, u32::to_le_bytes);
-    put_column(&mut bytes, &call.from, u32::to_le_bytes);
-    put_column(&mut bytes, &call.until, u32::to_le_bytes);
-    put_column(&mut bytes, &call.radius, i32::to_le_bytes);
-    put_column(&mut bytes, &call.limit, i32::to_le_bytes);
+    put_opening(&mut bytes, ANALYSE, empty);
+    put_plain(&mut bytes, call);
+    put_columns(&mut bytes, call);
     let Results { grid, support, verdict } = results;
     put_numbers(&mut bytes, &[grid.len(), support.len(), verdict.len()].map(length));
     bytes
+}
+
+fn window_request(call: &Call, window: &Window, results: &Results, empty: Empty) -> Vec<u8> {
+    let Window { left, right, top, bottom } = *window;
+    let mut bytes = Vec::new();
+    put_opening(&mut bytes, WINDOW, empty);
+    put_plain(&mut bytes, call);
+    put_numbers(&mut bytes, &[left, right, top, bottom]);
+    put_columns(&mut bytes, call);
+    put_numbers(&mut bytes, &[results.grid.len(), results.support.len()].map(length));
+    bytes
+}
+
+fn put_opening(bytes: &mut Vec<u8>, function: u32, empty: Empty) {
+    let null = u32::from(empty == Empty::Null);
+    put_numbers(bytes, &[function, null, BYTE_PATTERN.into()]);
+}
+
+fn put_plain(bytes: &mut Vec<u8>, call: &Call) {
+    put_numbers(bytes, &[call.nx, call.ny, call.scans]);
+    put_numbers(bytes, &[call.smooth.into(), call.time, call.age]);
+}
+
+fn put_columns(bytes: &mut Vec<u8>, call: &Call) {
+    put_column(bytes, &call.first_guess, i32::to_le_bytes);
+    put_column(bytes, &call.x, i32::to_le_bytes);
+    put_column(bytes, &call.y, i32::to_le_bytes);
+    put_column(bytes, &call.value, i32::to_le_bytes);
+    put_column(bytes, &call.observed, u32::to_le_bytes);
+    put_column(bytes, &call.from, u32::to_le_bytes);
+    put_column(bytes, &call.until, u32::to_le_bytes);
+    put_column(bytes, &call.radius, i32::to_le_bytes);
+    put_column(bytes, &call.limit, i32::to_le_bytes);
 }
 
 fn put_numbers(bytes: &mut Vec<u8>, numbers: &[u32]) {
@@ -202,9 +248,9 @@ mod tests {
         numbers.map(u32::from_le_bytes).collect()
     }
 
-    #[test]
-    fn every_argument_is_in_its_place() {
-        let call = Call {
+    /// A call in which no two numbers are alike.
+    fn call() -> Call {
+        Call {
             nx: 1,
             ny: 2,
             first_guess: vec![-3],
@@ -221,7 +267,12 @@ mod tests {
             time: 13,
             age: 14,
             ..Call::default()
-        };
+        }
+    }
+
+    #[test]
+    fn every_argument_is_in_its_place() {
+        let call = call();
         let results = Results { grid: &mut [0; 15], support: &mut [0; 16], verdict: &mut [0; 17] };
         let null = numbers_of(&analyse_request(&call, &results, Empty::Null));
         assert_eq!(null[..9], [1, 1, 0xA5, 1, 2, 10, 1, 13, 14]);
@@ -230,6 +281,17 @@ mod tests {
         assert_eq!(null[25..], [1, 11, 0, 15, 16, 17]);
         let dangling = numbers_of(&analyse_request(&call, &results, Empty::Dangling));
         assert_eq!((dangling[1], &dangling[2..]), (0, &null[2..]));
+    }
+
+    #[test]
+    fn a_window_query_adds_its_ends_and_has_no_verdicts() {
+        let window = Window::new(18, 19, 20, u32::MAX);
+        let results = Results { grid: &mut [0; 15], support: &mut [0; 16], verdict: &mut [] };
+        let whole = numbers_of(&analyse_request(&call(), &results, Empty::Null));
+        let part = numbers_of(&window_request(&call(), &window, &results, Empty::Null));
+        assert_eq!((part[0], &part[1..9]), (2, &whole[1..9]));
+        assert_eq!(part[9..13], [18, 19, 20, u32::MAX]);
+        assert_eq!(part[13..], whole[9..whole.len() - 1]);
     }
 
     #[test]

@@ -60,6 +60,14 @@ impl Window {
         let rows = (self.bottom - self.top) as usize + 1;
         columns * rows
     }
+
+    /// What becomes of the area where nobody looks whether the ends are in
+    /// order, or whether a product fits.
+    pub fn wrapped_area(&self) -> u32 {
+        let columns = self.right.wrapping_sub(self.left).wrapping_add(1);
+        let rows = self.bottom.wrapping_sub(self.top).wrapping_add(1);
+        columns.wrapping_mul(rows)
+    }
 }
 
 /// The raw arguments of a point reading; a summary takes all but the support

@@ -3,10 +3,12 @@
 use crate::call::{Analysis, Call, Query, Refusal, Window};
 use crate::compare::{read, Answer, Case, Results, Subject};
 use crate::generate;
+use crate::generate_window;
 use crate::patterned::{Patterned, BYTE_PATTERN, GRID_PATTERN};
 use crate::reading::Reading;
 use crate::scheme::analyse;
 use crate::shrink;
+use crate::sorts;
 use crate::summary::{summarise, Summary};
 use crate::tally::{Floor, Tally};
 use crate::text;
@@ -24,11 +26,25 @@ fn scheme_floors(accepted: u64, refusals: &[u32]) -> Vec<Floor> {
     floors
 }
 
+/// The floors of the kinds that only C calls have.
+fn length_floors() -> Vec<Floor> {
+    let mut floors = [0, 1, 3, 4, 5].map(|n| Floor::times("empty slice", n, 50)).to_vec();
+    floors.extend([1, 3, 4].map(|n| Floor::times("length off by one", n, 100)));
+    floors.extend([1, 3, 4].map(|n| Floor::times("length off by more", n, 100)));
+    floors.extend([1, 2, 3].map(|n| Floor::times("unread plan entry", n, 50)));
+    floors
+}
+
 fn count_scheme(call: &Call, outcome: &Result<Analysis, Refusal>, tally: &mut Tally) {
     match outcome {
         Ok(analysis) => tally.add_analysis(call, analysis),
         Err(refusal) => tally.add_refusal(refusal),
     }
+}
+
+/// The refusal number of an outcome, 0 where it is accepted.
+fn number_of(outcome: &Result<Analysis, Refusal>) -> u32 {
+    outcome.as_ref().err().map_or(0, |refusal| refusal.number)
 }
 
 fn unlike_code<T>(code: Answer<u32>, outcome: &Result<T, Refusal>) -> Option<String> {
@@ -61,9 +77,11 @@ impl Case for AnalysisCase {
     }
 
     fn count(&self, expected: &Self::Expected, tally: &mut Tally) {
-        count_scheme(&self.0, expected, tally);
-        let refusal = expected.as_ref().err().map_or(0, |refusal| refusal.number);
-        tally.add_lengths(&self.0, refusal);
+        let call = &self.0;
+        count_scheme(call, expected, tally);
+        let (points, rows) = (call.first_guess.len(), call.x.len());
+        let results = [call.grid_len, call.support_len, call.verdict_len];
+        tally.add_lengths(call, &results, &[points, points, rows], number_of(expected));
     }
 
     fn difference(&self, expected: &Self::Expected, subject: &dyn Subject) -> Option<String> {
@@ -90,12 +108,7 @@ impl Case for AnalysisCase {
     }
 
     fn floors() -> Vec<Floor> {
-        let mut floors = scheme_floors(10_000, &[1, 3, 4, 5, 6, 7, 8]);
-        floors.extend([0, 1, 3, 4, 5].map(|n| Floor::times("empty slice", n, 50)));
-        floors.extend([1, 3, 4].map(|n| Floor::times("length off by one", n, 100)));
-        floors.extend([1, 3, 4].map(|n| Floor::times("length off by more", n, 100)));
-        floors.extend([1, 2, 3].map(|n| Floor::times("unread plan entry", n, 50)));
-        floors
+        [scheme_floors(10_000, &[1, 3, 4, 5, 6, 7, 8]), length_floors()].concat()
     }
 }
 
@@ -111,7 +124,7 @@ impl Case for WindowCase {
     type Expected = Result<Analysis, Refusal>;
 
     fn generate(seed: u64, index: u64) -> Self {
-        let (call, window) = generate::window(seed, index);
+        let (call, window) = generate_window::window(seed, index);
         WindowCase { call, window }
     }
 
@@ -120,7 +133,19 @@ impl Case for WindowCase {
     }
 
     fn count(&self, expected: &Self::Expected, tally: &mut Tally) {
-        count_scheme(&self.call, expected, tally);
+        let (call, window) = (&self.call, &self.window);
+        count_scheme(call, expected, tally);
+        let number = number_of(expected);
+        // After refusals 1 and 2 the ends are in order, and nothing wraps.
+        let asked = [window.wrapped_area() as usize; 2];
+        tally.add_lengths(call, &[call.grid_len, call.support_len], &asked, number);
+        match (expected, number) {
+            (Ok(analysis), _) => {
+                tally.add_sorts(&sorts::of_accepted(call, window, &analysis.verdict))
+            }
+            (_, 2) => tally.add_sorts(&sorts::of_bad(call, window)),
+            _ => (),
+        }
     }
 
     fn difference(&self, expected: &Self::Expected, subject: &dyn Subject) -> Option<String> {
@@ -148,7 +173,9 @@ impl Case for WindowCase {
     }
 
     fn floors() -> Vec<Floor> {
-        scheme_floors(10_000, &[1, 2, 3, 4, 5, 6, 7, 8])
+        let scheme = scheme_floors(10_000, &[1, 2, 3, 4, 5, 6, 7, 8]);
+        let empty = vec![Floor::times("empty slice", 2, 50)];
+        [scheme, length_floors(), empty, sorts::floors()].concat()
     }
 }
 

@@ -232,18 +232,43 @@ pub fn push_to_bounds(rng: &mut Rng, call: &mut Call) {
     }
 }
 
-/// A window with a wrong end, sometimes on a call with another fault.
-pub fn bad_window(rng: &mut Rng, mut call: Call, good: Window) -> (Call, Window) {
+/// A result of a window query with another length: that of the whole grid, if
+/// the window is not all of it, is the likeliest mistake.
+pub fn break_window_results(rng: &mut Rng, call: &mut Call) {
+    let right = call.grid_len;
+    let points = call.first_guess.len();
+    let wrong = wrong_length(rng, right);
+    let wrong = if points != right { rng.pick(&[points, wrong, wrong]) } else { wrong };
+    match rng.below(3) {
+        0 => call.grid_len = wrong,
+        1 => call.support_len = wrong,
+        _ => (call.grid_len, call.support_len) = (wrong, wrong),
+    }
+}
+
+/// A window with a wrong end, sometimes on a call with another fault. The
+/// results are as long as they were, or as what its area wraps to. The ways
+/// to go wrong come in turn.
+pub fn bad_window(rng: &mut Rng, mut call: Call, good: Window, way: u64) -> (Call, Window) {
     let mut bad = good;
-    match rng.below(8) {
-        0 => bad.left = good.right + 1,
-        1 => bad.top = good.bottom + 1,
-        2 => bad.right = call.nx,
-        3 => bad.bottom = call.ny,
-        4 => bad.right = u32::MAX,
-        5 => bad.bottom = u32::MAX,
-        6 => (bad.left, bad.right) = (call.nx, call.nx),
-        _ => (bad.top, bad.bottom) = (u32::MAX, u32::MAX),
+    let more = if way.is_multiple_of(2) { 1 } else { rng.pick(&[1, 2, 70]) };
+    match way % 16 {
+        0 | 1 => bad.left = good.right + more,
+        2 | 3 => bad.top = good.bottom + more,
+        4 | 5 => bad.right = call.nx - 1 + more,
+        6 | 7 => bad.bottom = call.ny - 1 + more,
+        8 => bad.left = u32::MAX,
+        9 => bad.right = u32::MAX,
+        10 => bad.top = u32::MAX,
+        11 => bad.bottom = u32::MAX,
+        12 => (bad.left, bad.right) = rng.pick(&[(call.nx, call.nx), (u32::MAX, u32::MAX)]),
+        13 => (bad.top, bad.bottom) = rng.pick(&[(call.ny, call.ny), (u32::MAX, u32::MAX)]),
+        14 => (bad.left, bad.right) = (0, u32::MAX),
+        _ => bad = Window::new(0, u32::MAX, 0, u32::MAX),
+    }
+    let wrapped = bad.wrapped_area() as usize;
+    if rng.one_in(2) && wrapped <= call.first_guess.len() {
+        (call.grid_len, call.support_len) = (wrapped, wrapped);
     }
     if rng.one_in(4) {
         let other = rng.pick(&[1, 3, 4, 5, 6, 7, 8]);

@@ -1,14 +1,14 @@
-//! The seeded generator: calls, windows, readings, summaries and texts, each
-//! valid, heavy with bounds, or damaged by a schedule over the index.
+//! The seeded generator: calls, readings, summaries and texts, each valid,
+//! heavy with bounds, or damaged by a schedule over the index. Windows are
+//! placed on such calls by `generate_window`.
 
-use crate::call::{Call, Query, Window};
+use crate::call::{Call, Query};
 use crate::damage;
 use crate::field::Shape;
 use crate::rng::Rng;
 use crate::scan::difference;
 use crate::scheme::run;
 use crate::units::{rounded, CELL, DEFAULT_AGE, MISSING, MOST_TEXT, NO_END, VALUE};
-use crate::window::{reach, widened};
 use crate::write::{request_text, Style};
 
 /// Every so many indices a request is big: both sides 48 or more and at least
@@ -17,10 +17,10 @@ const BIG_EVERY: u64 = 55;
 /// Every so many indices a text stands at the length limit or one past it.
 const LIMIT_EVERY: u64 = 97;
 /// The flavours come round in turns of this length.
-const TURNS: u64 = 24;
+pub const TURNS: u64 = 24;
 const BOUNDARY_TURNS: u64 = 5;
 
-enum Flavour {
+pub enum Flavour {
     Big,
     Valid,
     Boundary,
@@ -28,7 +28,7 @@ enum Flavour {
     Damaged(u32),
 }
 
-fn flavour(index: u64, damages: &[u32]) -> Flavour {
+pub fn flavour(index: u64, damages: &[u32]) -> Flavour {
     if index.is_multiple_of(BIG_EVERY) {
         return Flavour::Big;
     }
@@ -56,66 +56,7 @@ pub fn analysis(seed: u64, index: u64) -> Call {
     }
 }
 
-/// The arguments of a window query.
-pub fn window(seed: u64, index: u64) -> (Call, Window) {
-    let mut rng = Rng::for_case(seed, 2, index);
-    let rng = &mut rng;
-    match flavour(index, &[1, 2, 3, 4, 5, 6, 7, 8]) {
-        Flavour::Big => with_window(rng, big_call),
-        Flavour::Valid => with_window(rng, small_call),
-        Flavour::Boundary => {
-            let (mut call, window) = with_window(rng, edge_call);
-            damage::push_to_bounds(rng, &mut call);
-            (call, window)
-        }
-        Flavour::Damaged(2) => {
-            let (call, window) = with_window(rng, small_call);
-            damage::bad_window(rng, call, window)
-        }
-        Flavour::Damaged(number) => {
-            let (mut call, window) = with_window(rng, small_call);
-            damage::break_call(rng, &mut call, number);
-            (call, window)
-        }
-    }
-}
-
-/// A call with a good window, results as long as it, and some stations moved
-/// to the edges of its cut and just outside them.
-fn with_window(rng: &mut Rng, make: fn(&mut Rng) -> Call) -> (Call, Window) {
-    let mut call = make(rng);
-    let (left, right) = ends(rng, call.nx);
-    let (top, bottom) = ends(rng, call.ny);
-    let window = Window::new(left, right, top, bottom);
-    let part = widened(&call, &window, reach(&call));
-    for row in 0..call.x.len() {
-        if rng.one_in(6) {
-            call.x[row] = near_edge(rng, part.left, part.right);
-        }
-        if rng.one_in(6) {
-            call.y[row] = near_edge(rng, part.top, part.bottom);
-        }
-    }
-    tune_limits(rng, &mut call);
-    call.grid_len = window.area();
-    call.support_len = window.area();
-    (call, window)
-}
-
-fn ends(rng: &mut Rng, side: u32) -> (u32, u32) {
-    if rng.one_in(8) {
-        return (0, side - 1);
-    }
-    let first = rng.up_to(side - 1);
-    let last = if rng.one_in(3) { first } else { first + rng.up_to((side - 1 - first).min(4)) };
-    (first, last)
-}
-
-fn near_edge(rng: &mut Rng, low: u32, high: u32) -> i32 {
-    64 * rng.pick(&[low, high]) as i32 + rng.pick(&[-1, 0, 1])
-}
-
-fn small_call(rng: &mut Rng) -> Call {
+pub fn small_call(rng: &mut Rng) -> Call {
     let most = if rng.one_in(12) { 28 } else { 12 };
     let nx = rng.between(2, most) as u32;
     let ny = rng.between(2, most) as u32;
@@ -123,7 +64,7 @@ fn small_call(rng: &mut Rng) -> Call {
     call_of(rng, nx, ny, stations)
 }
 
-fn big_call(rng: &mut Rng) -> Call {
+pub fn big_call(rng: &mut Rng) -> Call {
     let nx = rng.between(48, 64) as u32;
     let ny = rng.between(48, 64) as u32;
     let stations = 300 + rng.below(213);
@@ -137,7 +78,7 @@ fn big_call(rng: &mut Rng) -> Call {
 }
 
 /// A call whose sides lie within their bounds, some exactly on them.
-fn edge_call(rng: &mut Rng) -> Call {
+pub fn edge_call(rng: &mut Rng) -> Call {
     let side = rng.between(2, 12) as u32;
     let nx = rng.pick(&[side, side, side, 2, 64]);
     let ny = rng.pick(&[side, side, side, 2, 3]);
@@ -162,6 +103,13 @@ fn boundary_call(rng: &mut Rng) -> Call {
 /// A call with plausible values: most stations are accepted at first, and
 /// some are rejected in each of the scans.
 pub fn call_of(rng: &mut Rng, nx: u32, ny: u32, stations: usize) -> Call {
+    let mut call = untuned_call(rng, nx, ny, stations);
+    tune_limits(rng, &mut call);
+    call
+}
+
+/// The same, with limits that do not know the differences.
+pub fn untuned_call(rng: &mut Rng, nx: u32, ny: u32, stations: usize) -> Call {
     let spread = rng.pick(&[3, 40, 300, 2_000]);
     let time = rng.pick(&[0, 1_000, 1_000, 1_000, 30_000_000, u32::MAX - 1, u32::MAX]);
     let short = rng.up_to(300);
@@ -180,7 +128,6 @@ pub fn call_of(rng: &mut Rng, nx: u32, ny: u32, stations: usize) -> Call {
     for _ in 0..stations {
         station(rng, &mut call, spread);
     }
-    tune_limits(rng, &mut call);
     call.fit_results();
     call
 }
@@ -268,15 +215,30 @@ fn position(rng: &mut Rng, call: &Call) -> (i32, i32) {
     }
 }
 
-/// The first guess at the place and a deviation of about the limits' size.
-fn observation(rng: &mut Rng, call: &Call, x: i32, y: i32, spread: i32) -> i32 {
+/// The first guess at a place, or any value where it has none.
+pub fn guess_at(call: &Call, x: i32, y: i32) -> i32 {
     let shape = call.shape();
     let sizable = shape.nx >= 2 && shape.ny >= 2 && shape.holds(x, y);
-    let guess = if sizable {
+    if sizable {
         rounded(shape.interpolation_sum(&call.first_guess, x, y), CELL) as i32
     } else {
         640
-    };
+    }
+}
+
+/// Adds a row that is in service for good and fresh.
+pub fn push_station(call: &mut Call, x: i32, y: i32, value: i32) {
+    call.x.push(x);
+    call.y.push(y);
+    call.value.push(value);
+    call.observed.push(call.time);
+    call.from.push(0);
+    call.until.push(NO_END);
+}
+
+/// The first guess at the place and a deviation of about the limits' size.
+fn observation(rng: &mut Rng, call: &Call, x: i32, y: i32, spread: i32) -> i32 {
+    let guess = guess_at(call, x, y);
     let deviation = match rng.below(8) {
         0 => rng.between(-4 * spread, 4 * spread),
         1 => 0,
@@ -313,7 +275,7 @@ fn minutes(rng: &mut Rng, call: &mut Call) {
 
 /// Sets the limits of some scans to exactly the size of a station's D there,
 /// or to one less, so that this station stays or goes in that very scan.
-fn tune_limits(rng: &mut Rng, call: &mut Call) {
+pub fn tune_limits(rng: &mut Rng, call: &mut Call) {
     if call.nx < 2 || call.ny < 2 {
         return;
     }

@@ -109,8 +109,9 @@ fn run_survey(seed: Option<&str>, count: Option<&str>) -> Result<(), Wrong> {
 fn compare(kind: &str, seed: Option<&str>, count: Option<&str>) -> Result<(), Wrong> {
     let compare_kind = match kind {
         "analysis" => compare_kind::<AnalysisCase>,
-        "window" | "reading" | "summary" | "text" => {
-            let message = format!("the archive does not offer {kind} yet; give analysis");
+        "window" => compare_kind::<WindowCase>,
+        "reading" | "summary" | "text" => {
+            let message = format!("the archive does not offer {kind} yet; give analysis or window");
             return Err(Wrong::Asked(message));
         }
         _ => return Err(no_such_kind(kind)),

@@ -1,12 +1,15 @@
 //! What a run has covered, and the floors below which a run fails.
 
 use crate::call::{Analysis, Call, Refusal};
+use crate::sorts::{Sort, SMALL_OF_BIG, WRAPPED};
 use crate::units::{LIMIT, SIDE};
 use std::collections::BTreeMap;
 use std::fmt::{Display, Formatter};
 
 /// Floors are given for a run of this many; smaller runs scale them down.
 const FULL_RUN: u64 = 20_000;
+/// The names under which there is one number only, which says nothing.
+const UNNUMBERED: [&str; 4] = ["accepted", "big", SMALL_OF_BIG, WRAPPED];
 
 /// How often something was seen, by its name and number.
 #[derive(Clone, Debug, Default, PartialEq, Eq)]
@@ -66,15 +69,20 @@ impl Tally {
         }
     }
 
+    pub fn add_sorts(&mut self, sorts: &[Sort]) {
+        sorts.iter().for_each(|(name, number)| self.add(name, *number));
+    }
+
     /// What only a C call can be handed: empty slices, lengths that do not
     /// fit, and plan entries that are not read. By refusal number, 0 for none.
-    pub fn add_lengths(&mut self, call: &Call, refusal: u32) {
+    /// `asked` are the lengths that the results have to have; it is looked at
+    /// only where the tests before refusal 3 let the call pass.
+    pub fn add_lengths(&mut self, call: &Call, results: &[usize], asked: &[usize], refusal: u32) {
         let (points, rows) = (call.first_guess.len(), call.x.len());
         let minutes = [&call.observed, &call.from, &call.until].map(Vec::len);
         let columns = [&[call.y.len(), call.value.len()], &minutes[..]].concat();
-        let results = [call.grid_len, call.support_len, call.verdict_len];
         let others = [points, rows, call.radius.len(), call.limit.len()];
-        if columns.iter().chain(&results).chain(&others).any(|length| *length == 0) {
+        if columns.iter().chain(results).chain(&others).any(|length| *length == 0) {
             self.add("empty slice", refusal);
         }
         let most_off = |given: &[usize], asked: &[usize]| {
@@ -84,7 +92,7 @@ impl Tally {
             1 if SIDE.contains(&call.nx) && SIDE.contains(&call.ny) => {
                 points.abs_diff(call.shape().points())
             }
-            3 => most_off(&results, &[points, points, rows]),
+            3 => most_off(results, asked),
             4 => most_off(&columns, &[rows; 5]),
             _ => 0,
         };
@@ -138,7 +146,7 @@ impl Display for Tally {
                 last = name;
             }
             match *name {
-                "accepted" | "big" => write!(out, " {seen}")?,
+                name if UNNUMBERED.contains(&name) => write!(out, " {seen}")?,
                 _ => write!(out, " {number}={seen}")?,
             }
         }

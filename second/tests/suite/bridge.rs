@@ -1,7 +1,7 @@
 //! The bridge itself, built for this processor around a stub of the archive.
 
 use second::bridge::{Bridge, Empty};
-use second::call::Call;
+use second::call::{Call, Window};
 use second::compare::{Answer, Results, Subject};
 use std::process::Command;
 use std::sync::OnceLock;
@@ -47,16 +47,37 @@ fn answer(bridge: &Bridge, time: u32) -> (Answer<u32>, Vec<i32>, Vec<u8>, Vec<u8
     (bridge.analyse(&call(time), results), grid, support, verdict)
 }
 
+fn window_answer(bridge: &Bridge, time: u32) -> (Answer<u32>, Vec<i32>, Vec<u8>) {
+    let (mut grid, mut support) = (vec![5; 40], vec![5; 3]);
+    let results = Results { grid: &mut grid, support: &mut support, verdict: &mut [] };
+    (bridge.window(&call(time), &Window::new(105, 106, 107, u32::MAX), results), grid, support)
+}
+
+/// What the stub says of a call's plain numbers and columns.
+fn assert_told(grid: &[i32]) {
+    assert_eq!(grid[..6], [101, 102, 103, 1, 0, 104]);
+    assert_eq!(grid[6..18], [3, -201, 301, 4, -202, 302, 5, -203, 303, 6, i32::MIN, 304]);
+    assert_eq!(grid[18..27], [7, 205, 305, 8, 206, 306, 9, 207, -1]);
+    assert_eq!(grid[27..33], [2, 208, 308, 1, 209, 209]);
+}
+
 #[test]
 fn every_argument_and_result_crosses_the_bridge() {
     let (code, grid, support, verdict) = answer(&start(Empty::Null), 0);
     assert_eq!((code, support, verdict), (Ok(0), vec![1; 3], vec![2; 2]));
-    assert_eq!(grid[..6], [101, 102, 103, 1, 0, 104]);
-    assert_eq!(grid[6..18], [3, -201, 301, 4, -202, 302, 5, -203, 303, 6, i32::MIN, 304]);
-    assert_eq!(grid[18..27], [7, 205, 305, 8, 206, 306, 9, 207, -1]);
-    assert_eq!(grid[27..36], [2, 208, 308, 1, 209, 209, 40, 3, 2]);
+    assert_told(&grid);
+    assert_eq!(grid[33..36], [40, 3, 2], "the lengths of the results");
     let untouched = i32::from_ne_bytes([0xA5; 4]);
     assert_eq!(grid[36..], [untouched; 4], "as they were before the call");
+}
+
+#[test]
+fn a_window_query_crosses_the_bridge() {
+    let (code, grid, support) = window_answer(&start(Empty::Null), 0);
+    assert_eq!((code, support), (Ok(0), vec![1; 3]));
+    assert_told(&grid);
+    assert_eq!(grid[33..35], [40, 3], "the lengths of the results");
+    assert_eq!(grid[36..], [105, 106, 107, -1], "the ends");
 }
 
 #[test]
@@ -66,6 +87,11 @@ fn empty_slices_are_null_where_asked() {
         start(empty).analyse(&Call::default(), results)
     };
     assert_eq!((nulls(Empty::Dangling), nulls(Empty::Null)), (Ok(0), Ok(12)));
+    let nulls = |empty| {
+        let results = Results { grid: &mut [], support: &mut [], verdict: &mut [] };
+        start(empty).window(&Call::default(), &Window::new(0, 0, 0, 0), results)
+    };
+    assert_eq!((nulls(Empty::Dangling), nulls(Empty::Null)), (Ok(0), Ok(11)));
 }
 
 #[test]
@@ -73,15 +99,19 @@ fn writes_outside_the_results_are_seen() {
     let bridge = start(Empty::Dangling);
     for (time, name) in (1..).zip(["grid", "grid", "support", "support", "verdict", "verdict"]) {
         let seen = format!("{name} is written outside its slice");
+        if name != "verdict" {
+            assert_eq!(window_answer(&bridge, time).0, Err(seen.clone()), "fault {time}");
+        }
         assert_eq!(answer(&bridge, time).0, Err(seen), "fault {time}");
     }
     let columns =
         ["first_guess", "x", "y", "value", "observed", "from", "until", "radius", "limit"];
     for (time, name) in (7..).zip(columns) {
         let seen = format!("the input {name} is changed by the call");
+        assert_eq!(window_answer(&bridge, time).0, Err(seen.clone()), "fault {time}");
         assert_eq!(answer(&bridge, time).0, Err(seen), "fault {time}");
     }
-    assert_eq!(answer(&bridge, 0).0, Ok(0));
+    assert_eq!((answer(&bridge, 0).0, window_answer(&bridge, 0).0), (Ok(0), Ok(0)));
 }
 
 #[test]

@@ -7,6 +7,7 @@ mod harness;
 mod numbers;
 mod readings;
 mod refusals;
+mod sorts;
 mod texts;
 mod windows;
 

@@ -1,7 +1,8 @@
 /*
  * stub.c: stands in for the archive in the tests of the bridge. Each of its calls says what it got: in grid the plain
  * numbers, the length, first and last number of each column, and the lengths of the results; as its result how many of
- * the addresses are null. A time that is not 0 asks for a fault.
+ * the addresses are null. A time that is not 0 asks for a fault. A window query is an analysis with a verdict of its
+ * own, and says its four ends at the end of grid.
  */
 #include "sosnyavik.h"
 
@@ -92,4 +93,31 @@ uint32_t sosnyavik_analyse(
     if (CHANGES <= time && time < CHANGES + COLUMNS)
         columns[time - CHANGES].numbers[columns[time - CHANGES].length - 1] ^= 1;
     return nulls;
+}
+
+/* clang-format off */
+uint32_t sosnyavik_window(
+    uint32_t nx, uint32_t ny, const int32_t *first_guess, size_t first_guess_len,
+    uint32_t left, uint32_t right, uint32_t top, uint32_t bottom,
+    const int32_t *x, size_t x_len,
+    const int32_t *y, size_t y_len,
+    const int32_t *value, size_t value_len,
+    const uint32_t *observed, size_t observed_len,
+    const uint32_t *from, size_t from_len,
+    const uint32_t *until, size_t until_len,
+    uint32_t scans,
+    const int32_t *radius, size_t radius_len,
+    const int32_t *limit, size_t limit_len,
+    bool smooth, uint32_t time, uint32_t age,
+    int32_t *grid, size_t grid_len,
+    uint8_t *support, size_t support_len) {
+    /* clang-format on */
+    uint8_t verdict[1];
+    int32_t ends[] = {(int32_t)left, (int32_t)right, (int32_t)top, (int32_t)bottom};
+    if (grid_len != 0)
+        memcpy(grid + grid_len - sizeof ends / sizeof *ends, ends, sizeof ends);
+    return sosnyavik_analyse(nx, ny, first_guess, first_guess_len, x, x_len, y, y_len, value, value_len, observed,
+                             observed_len, from, from_len, until, until_len, scans, radius, radius_len, limit,
+                             limit_len, smooth, time, age, grid, grid_len, support, support_len, verdict,
+                             sizeof verdict);
 }

@@ -1,23 +1,26 @@
-//! Demand 3 as a property: the cut by the reach agrees with the whole.
+//! Demand 3 as a property: the cut by the reach agrees with the whole, and no
+//! shorter cut does on the windows that the generator makes.
 
 use crate::sample;
-use second::call::{Call, Window};
-use second::generate;
+use second::call::{Call, Window, WindowAnswer};
+use second::generate_window;
 use second::scheme::{analyse, run};
 use second::window::{cut, pick, reach, rows_on, whole, widened, window};
 
 const SEED: u64 = 41;
 
-/// Whether the window's numbers, out of the cut by so many steps, are those
-/// of the whole grid.
-fn cut_agrees(call: &Call, ends: &Window, steps: u32) -> bool {
-    let answer = window(call, ends).expect("accepted");
-    let part = widened(call, ends, steps);
-    let cut = cut(call, &part);
+/// The window's numbers out of a part of the grid around it.
+fn from_part(call: &Call, ends: &Window, part: &Window) -> WindowAnswer {
+    let cut = cut(call, part);
     let (left, top) = (ends.left - part.left, ends.top - part.top);
     let (right, bottom) = (ends.right - part.left, ends.bottom - part.top);
     let analysis = analyse(&cut).expect("a cut of an accepted request is accepted");
-    pick(cut.shape(), &analysis, &Window::new(left, right, top, bottom)) == answer
+    pick(cut.shape(), &analysis, &Window::new(left, right, top, bottom))
+}
+
+/// Whether they are those of the whole grid.
+fn part_agrees(call: &Call, ends: &Window, part: &Window) -> bool {
+    from_part(call, ends, part) == window(call, ends).expect("accepted")
 }
 
 /// Verdicts of the stations on the unwidened window, in the whole and the cut.
@@ -32,25 +35,124 @@ fn verdicts_agree(call: &Call, ends: &Window) -> bool {
     })
 }
 
+/// Generated windows of accepted requests, with their indices.
+fn accepted(seed: u64, count: u64) -> impl Iterator<Item = (u64, Call, Window)> {
+    let cases = (0..count).map(move |index| (index, generate_window::window(seed, index)));
+    let cases = cases.map(|(index, (call, ends))| (index, call, ends));
+    cases.filter(|(_, call, ends)| whole(call, ends).is_ok())
+}
+
 #[test]
 fn the_cut_agrees_with_the_whole() {
-    let (mut held, mut smaller, mut largest_only_fails) = (0, 0, 0);
-    for index in 0..6000 {
-        let (call, ends) = generate::window(SEED, index);
-        if whole(&call, &ends).is_err() {
-            continue;
-        }
+    let (mut held, mut smaller) = (0, 0);
+    for (index, call, ends) in accepted(SEED, 6000) {
         held += 1;
         let part = widened(&call, &ends, reach(&call));
         smaller += usize::from(part.area() < call.first_guess.len());
-        assert!(cut_agrees(&call, &ends, reach(&call)), "case {index} of seed {SEED}");
+        assert!(part_agrees(&call, &ends, &part), "case {index} of seed {SEED}");
         assert!(verdicts_agree(&call, &ends), "verdicts of case {index} of seed {SEED}");
-        let largest = call.radius[0].unsigned_abs().div_ceil(64);
-        largest_only_fails += usize::from(!cut_agrees(&call, &ends, largest));
     }
     assert!(held > 3000, "{held} windows were accepted");
-    assert!(smaller > 1000, "{smaller} cuts were smaller than the grid");
-    assert!(largest_only_fails > 50, "{largest_only_fails} show that the largest radius is short");
+    assert!(smaller > 1500, "{smaller} cuts were smaller than the grid");
+}
+
+/// A part of the grid that somebody might take for the cut.
+type Part = fn(&Call, &Window) -> Window;
+
+fn steps(call: &Call, each: fn(u32) -> u32, smoothing: u32) -> u32 {
+    let radii = call.radius[..call.scans as usize].iter();
+    radii.map(|radius| each(radius.unsigned_abs())).sum::<u32>() + smoothing
+}
+
+fn largest_only(call: &Call, ends: &Window) -> Window {
+    widened(call, ends, call.radius[0].unsigned_abs().div_ceil(64) + u32::from(call.smooth))
+}
+
+fn rounded_down(call: &Call, ends: &Window) -> Window {
+    let smoothing = call.scans * u32::from(call.smooth);
+    widened(call, ends, steps(call, |radius| radius / 64, smoothing).max(1))
+}
+
+fn no_smoothing_step(call: &Call, ends: &Window) -> Window {
+    widened(call, ends, steps(call, |radius| radius.div_ceil(64), 0))
+}
+
+fn one_smoothing_step(call: &Call, ends: &Window) -> Window {
+    widened(call, ends, steps(call, |radius| radius.div_ceil(64), call.smooth.into()))
+}
+
+/// The cut less its outermost column or row on one side, unless the window or
+/// the least grid is in the way.
+fn one_less(call: &Call, ends: &Window, side: usize) -> Window {
+    let part = widened(call, ends, reach(call));
+    let Window { left, right, top, bottom } = part;
+    let shorter = match side {
+        0 if left < ends.left && right - left > 1 => Window { left: left + 1, ..part },
+        1 if right > ends.right && right - left > 1 => Window { right: right - 1, ..part },
+        2 if top < ends.top && bottom - top > 1 => Window { top: top + 1, ..part },
+        3 if bottom > ends.bottom && bottom - top > 1 => Window { bottom: bottom - 1, ..part },
+        _ => part,
+    };
+    let border = [left == 0, right == call.nx - 1, top == 0, bottom == call.ny - 1];
+    // The grid's own border is no matter of the reach.
+    if border[side] {
+        part
+    } else {
+        shorter
+    }
+}
+
+const TOO_SMALL: [(&str, Part); 8] = [
+    ("the largest radius only", largest_only),
+    ("R/64 rounded down", rounded_down),
+    ("no step for smoothing", no_smoothing_step),
+    ("one step for all smoothing", one_smoothing_step),
+    ("a column less on the left", |call, ends| one_less(call, ends, 0)),
+    ("a column less on the right", |call, ends| one_less(call, ends, 1)),
+    ("a row less at the top", |call, ends| one_less(call, ends, 2)),
+    ("a row less at the bottom", |call, ends| one_less(call, ends, 3)),
+];
+
+/// So many generated cases, of any seed, show each fault of a cut. Over 20
+/// seeds the first that did was case 187 at the latest.
+const ENOUGH: u64 = 500;
+
+#[test]
+fn a_reach_that_is_too_short_is_seen_early() {
+    for (name, part) in TOO_SMALL {
+        for seed in 0..5 {
+            let differs = |(_, call, ends): (u64, Call, Window)| {
+                !part_agrees(&call, &ends, &part(&call, &ends))
+            };
+            assert!(accepted(seed, ENOUGH).any(differs), "{name} was not seen at seed {seed}");
+        }
+    }
+}
+
+/// A cut without the stations on its edges. Where an edge of the cut is the
+/// grid's border they speak.
+fn without_edges(call: &Call, part: &Window) -> Call {
+    let mut call = call.clone();
+    let at = |end: u32| 64 * end as i32;
+    for row in 0..call.x.len() {
+        let on_column = [at(part.left), at(part.right)].contains(&call.x[row]);
+        if on_column || [at(part.top), at(part.bottom)].contains(&call.y[row]) {
+            call.x[row] = -1;
+        }
+    }
+    call
+}
+
+#[test]
+fn edge_stations_that_are_left_out_are_seen_early() {
+    for seed in 0..5 {
+        let differs = |(_, call, ends): (u64, Call, Window)| {
+            let part = widened(&call, &ends, reach(&call));
+            let faulty = from_part(&without_edges(&call, &part), &ends, &part);
+            faulty != window(&call, &ends).expect("accepted")
+        };
+        assert!(accepted(seed, ENOUGH).any(differs), "not seen at seed {seed}");
+    }
 }
 
 #[test]

@@ -1,0 +1,131 @@
+//! The sorts of window query that a run must not lose, by name and number.
+//! A name lists in brackets what its numbers, from 0, stand for.
+
+use crate::call::{Call, Window};
+use crate::tally::Floor;
+use crate::window::{reach, widened};
+
+pub type Sort = (&'static str, u32);
+
+const CORNER: &str = "window on a corner (left top, right top, left bottom, right bottom)";
+const EDGE: &str = "window on one edge (left, right, top, bottom)";
+const SHAPE: &str = "window of (all points, inner points, one column, one row, one point)";
+const CUT: &str = "cut's edge inside the grid (left, right, top, bottom)";
+const ON_CUT: &str = "station on the cut's edge (left, right, top, bottom)";
+const INSIDE_CUT: &str = "station one unit inside the cut (left, right, top, bottom)";
+const OUTSIDE_CUT: &str = "station one unit outside the cut (left, right, top, bottom)";
+pub const SMALL_OF_BIG: &str = "small window of a big grid";
+const BAD: &str = "bad window (left > right, top > bottom, right past, bottom past, more than one)";
+const BAD_BY_ONE: &str = "bad window by one (left > right, top > bottom, right past, bottom past)";
+const EXTREME: &str = "end at u32's greatest (left, right, top, bottom)";
+pub const WRAPPED: &str = "bad window with results as long as its area wraps to";
+
+/// The least of each sort in a full run.
+pub fn floors() -> Vec<Floor> {
+    let sides = [CORNER, EDGE, CUT, ON_CUT, INSIDE_CUT, OUTSIDE_CUT];
+    let by_side = sides.into_iter().flat_map(|name| (0..4).map(move |n| (name, n, 200)));
+    let shapes = (0..5).map(|n| (SHAPE, n, 200));
+    let bad = (0..4).flat_map(|n| [(BAD, n, 40), (BAD_BY_ONE, n, 30), (EXTREME, n, 30)]);
+    let others = [(SMALL_OF_BIG, 0, 200), (BAD, 4, 30), (WRAPPED, 0, 100)];
+    let all = by_side.chain(shapes).chain(bad).chain(others);
+    all.map(|(name, number, least)| Floor::times(name, number, least)).collect()
+}
+
+/// The numbers at which something holds, in order.
+fn named(name: &'static str, holds: impl IntoIterator<Item = bool>) -> Vec<Sort> {
+    let numbered = (0..).zip(holds).filter(|(_, holds)| *holds);
+    numbered.map(|(number, _)| (name, number)).collect()
+}
+
+/// The sorts of an accepted query, with the verdicts of the whole grid.
+pub fn of_accepted(call: &Call, window: &Window, verdict: &[u8]) -> Vec<Sort> {
+    let cut = widened(call, window, reach(call));
+    [
+        lying(call, window),
+        shaped(call, window),
+        cut_off(call, &cut),
+        by_the_cut(call, &cut, verdict),
+    ]
+    .concat()
+    .into_iter()
+    .chain(is_small_of_big(call, window, &cut).then_some((SMALL_OF_BIG, 0)))
+    .collect()
+}
+
+/// Which sides of the grid a part of it lies on: left, right, top, bottom.
+fn sides(call: &Call, part: &Window) -> [bool; 4] {
+    [part.left == 0, part.right == call.nx - 1, part.top == 0, part.bottom == call.ny - 1]
+}
+
+fn lying(call: &Call, window: &Window) -> Vec<Sort> {
+    let [left, right, top, bottom] = sides(call, window);
+    let corners = [left && top, right && top, left && bottom, right && bottom];
+    let alone = sides(call, window).iter().filter(|lies| **lies).count() == 1;
+    let edges = sides(call, window).map(|lies| lies && alone);
+    let whole = corners.iter().all(|lies| *lies);
+    [named(CORNER, corners.map(|lies| lies && !whole)), named(EDGE, edges)].concat()
+}
+
+fn shaped(call: &Call, window: &Window) -> Vec<Sort> {
+    let whole = sides(call, window).iter().all(|lies| *lies);
+    let inner = !sides(call, window).iter().any(|lies| *lies);
+    let (column, row) = (window.left == window.right, window.top == window.bottom);
+    named(SHAPE, [whole, inner, column && !row, row && !column, column && row])
+}
+
+fn cut_off(call: &Call, cut: &Window) -> Vec<Sort> {
+    named(CUT, sides(call, cut).map(|lies| !lies))
+}
+
+/// Stations that take part in the whole analysis and stand at an edge of the
+/// cut which is not the grid's border, beside the cut's own points.
+fn by_the_cut(call: &Call, cut: &Window, verdict: &[u8]) -> Vec<Sort> {
+    let off = sides(call, cut).map(|lies| !lies);
+    let mut found = [[false; 4]; 3];
+    for row in (0..verdict.len()).filter(|row| !(1..=5).contains(&verdict[*row])) {
+        let outside = outside(cut, call.x[row], call.y[row]);
+        for side in (0..4).filter(|side| off[*side]) {
+            let beside = (0..4).all(|other| other / 2 == side / 2 || outside[other] <= 0);
+            for (found, distance) in found.iter_mut().zip([0, -1, 1]) {
+                found[side] |= beside && outside[side] == distance;
+            }
+        }
+    }
+    let names = [ON_CUT, INSIDE_CUT, OUTSIDE_CUT];
+    names.into_iter().zip(found).flat_map(|(name, found)| named(name, found)).collect()
+}
+
+/// How many units a place is outside a part, by side.
+fn outside(part: &Window, x: i32, y: i32) -> [i32; 4] {
+    let at = |end: u32| 64 * end as i32;
+    [at(part.left) - x, x - at(part.right), at(part.top) - y, y - at(part.bottom)]
+}
+
+fn is_small_of_big(call: &Call, window: &Window, cut: &Window) -> bool {
+    let big = call.nx >= 48 && call.ny >= 48 && call.x.len() >= 300;
+    big && window.area() <= 64 && cut.area() <= call.first_guess.len() / 2
+}
+
+/// The sorts of a query with refusal 2.
+pub fn of_bad(call: &Call, window: &Window) -> Vec<Sort> {
+    let Window { left, right, top, bottom } = *window;
+    let faults = [left > right, top > bottom, right >= call.nx, bottom >= call.ny];
+    let several = faults.iter().filter(|fault| **fault).count() > 1;
+    let by_one = [
+        left.checked_sub(1) == Some(right),
+        top.checked_sub(1) == Some(bottom),
+        right == call.nx,
+        bottom == call.ny,
+    ];
+    let alone = |fault: bool| fault && !several;
+    let [a, b, c, d] = faults.map(alone);
+    let wrapped = window.wrapped_area() as usize;
+    let fits = wrapped == call.grid_len && wrapped == call.support_len;
+    [
+        named(BAD, [a, b, c, d, several]),
+        named(BAD_BY_ONE, by_one.map(alone)),
+        named(EXTREME, [left, right, top, bottom].map(|end| end == u32::MAX)),
+        named(WRAPPED, [fits]),
+    ]
+    .concat()
+}
