@@ -263,7 +263,7 @@ fn whole_at(
     observed: &[u32],
     from: &[u32],
     until: &[u32],
-    count: usize,
+    scans: usize,
     radius: &[i32],
     limit: &[i32],
     smooth: bool,
@@ -272,8 +272,8 @@ fn whole_at(
     grid: &mut [i32],
     support: &mut [u8],
 )
-    requires { ⌜ QueryReady (requestOf nx ny (now guess) (now x) (now y) (now value) (now observed) (now from) (now until) count (now radius) (now limit) smooth time age) (windowAt left right top bottom) (length (now grid)) (length (now support)) ⌝ }
-    ensures { λ u. ⌜ tile (now (grid .exit)) (now (support .exit)) ≡ wholeAt (requestOf nx ny (now (guess .entry)) (now (x .entry)) (now (y .entry)) (now (value .entry)) (now (observed .entry)) (now (from .entry)) (now (until .entry)) count (now (radius .entry)) (now (limit .entry)) smooth time age) (windowAt left right top bottom) ⌝ }
+    requires { ⌜ QueryReady (requestOf nx ny (now guess) (now x) (now y) (now value) (now observed) (now from) (now until) scans (now radius) (now limit) smooth time age) (windowAt left right top bottom) (length (now grid)) (length (now support)) ⌝ }
+    ensures { λ u. ⌜ tile (now (grid .exit)) (now (support .exit)) ≡ wholeAt (requestOf nx ny (now (guess .entry)) (now (x .entry)) (now (y .entry)) (now (value .entry)) (now (observed .entry)) (now (from .entry)) (now (until .entry)) scans (now (radius .entry)) (now (limit .entry)) smooth time age) (windowAt left right top bottom) ⌝ }
 {
     let mut values = [0i32; 4096];
     let mut bits = [0u8; 4096];
@@ -290,7 +290,7 @@ fn whole_at(
         observed,
         from,
         until,
-        count,
+        scans,
         radius,
         limit,
         smooth,

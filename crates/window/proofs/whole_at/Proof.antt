@@ -25,7 +25,7 @@ use Rattle.window.proofs.part_of_values.Reads as part-of-values-reads
 -- the request and the window
 module _ (s : lts.Start (work-reads.Asked, work-reads.Learnt, part-of-values-reads.Asked, part-of-values-reads.Learnt, part-of-bytes-reads.Asked, part-of-bytes-reads.Learnt) reads.Pre reads.Post) where
   abbrev q : Request
-  q = let a = s .args in requestOf (a .nx) (a .ny) (a .guess .now) (a .x .now) (a .y .now) (a .value .now) (a .observed .now) (a .from .now) (a .until .now) (a .count) (a .radius .now) (a .limit .now) (a .smooth) (a .time) (a .age)
+  q = let a = s .args in requestOf (a .nx) (a .ny) (a .guess .now) (a .x .now) (a .y .now) (a .value .now) (a .observed .now) (a .from .now) (a .until .now) (a .scans) (a .radius .now) (a .limit .now) (a .smooth) (a .time) (a .age)
 
   abbrev w : Window
   w = let a = s .args in windowAt (a .left) (a .right) (a .top) (a .bottom)
