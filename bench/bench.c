@@ -8,6 +8,7 @@
  *                                  compare its answer with the whole analysis
  *   bench CASE stack               print the bytes of stack that the analysis touches, and those that it may
  *   bench CASE stack SIDE          the same of a window query
+ *   bench CASE stack reading|summary   the same of a point reading's two calls, of the summary
  *
  * Exit status: 0 done; 1 the answers differ, or the system failed; 2 bad arguments.
  */
@@ -67,8 +68,9 @@ static struct output ours, plain, part;
 static uint32_t left, right, top, bottom;
 
 static void complain(const char *what, const char *word) {
-    fprintf(stderr, "bench: %s '%s': use bench a|b|c|w ours|plain|both REPEAT, window SIDE, or stack [SIDE]\n", what,
-            word);
+    fprintf(stderr,
+            "bench: %s '%s': use bench a|b|c|w ours|plain|both REPEAT, window SIDE, or stack [SIDE|reading|summary]\n",
+            what, word);
     exit(2);
 }
 
@@ -209,6 +211,25 @@ static void time_both(long repeat) {
 
 enum { STACK = 8 * 1024 * 1024, PAGE = 4096, PAINT = 0xC3 };
 
+/* Where their results go, so that the calls are made. */
+static volatile double read_here;
+
+/* The place is the grid's middle: any will do. */
+static void run_reading(void) {
+    const struct evening *evening = input.evening;
+    size_t points = (size_t)evening->nx * evening->ny;
+    int32_t x = 32 * (int32_t)evening->nx, y = 32 * (int32_t)evening->ny;
+    read_here = sosnyavik_reading_kind(evening->nx, evening->ny, input.first_guess, points, ours.support, points, x, y);
+    read_here =
+        sosnyavik_reading_value(evening->nx, evening->ny, input.first_guess, points, ours.support, points, x, y);
+}
+
+static void run_summary(void) {
+    const struct evening *evening = input.evening;
+    size_t points = (size_t)evening->nx * evening->ny;
+    read_here = sosnyavik_summarise(evening->nx, evening->ny, input.first_guess, points).units.span;
+}
+
 static void run_nothing(void) {}
 static void run_analysis(void) { run(sosnyavik_analyse, &ours); }
 
@@ -284,6 +305,10 @@ int main(int argc, char **argv) {
         measure_stack(run_analysis, SOSNYAVIK_STACK_ANALYSE);
     else if (argc == 3)
         complain("a number is needed after", what);
+    else if (strcmp(what, "stack") == 0 && strcmp(argv[3], "reading") == 0)
+        measure_stack(run_reading, SOSNYAVIK_STACK_READING);
+    else if (strcmp(what, "stack") == 0 && strcmp(argv[3], "summary") == 0)
+        measure_stack(run_summary, SOSNYAVIK_STACK_SUMMARISE);
     else if (strcmp(what, "window") == 0 || strcmp(what, "stack") == 0)
         run_window_case(what, argv[3]);
     else

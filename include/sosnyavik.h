@@ -6,8 +6,9 @@
 ** is the analysed grid, the support of each point and a verdict for each
 ** station. It follows from the arguments alone, to the last digit.
 **
-** Two calls: the whole analysis, and the window query, which answers for a
-** part of the grid alone and with the same numbers.
+** The whole analysis, and the window query, which answers for a part of the
+** grid alone and with the same numbers. Beside them stand a point reading and
+** a summary, which tell a field in doubles that are exact.
 **
 ** In this file: marks, units and sizes, windows, results, verdicts, support,
 ** refusals, what the caller owes, what the calls keep, and the calls.
@@ -145,7 +146,7 @@ extern "C" {
 /*
 ** REFUSALS
 **
-** Both calls return 0 if the request was accepted, and otherwise
+** Analysis and window query return 0 if the request was accepted, and otherwise
 ** refusal*65536 + place. Tested in this order; the first that fits is given,
 ** at the first place that it fits.
 **
@@ -171,6 +172,10 @@ extern "C" {
 **
 ** Only the window query gives 2. A row with a verdict of 1 .. 5 to come is
 ** tested for refusal 8 like any other, and so is one far from the window.
+**
+** The point reading and the summary give only 1, tested on the field that they
+** are handed in place of first_guess. The reading tests its support too, which
+** must be as long. How each of them says so stands with it below.
 **
 ** A mistake for each, and what comes back:
 **
@@ -214,6 +219,8 @@ extern "C" {
 */
 #define SOSNYAVIK_STACK_ANALYSE 65536
 #define SOSNYAVIK_STACK_WINDOW 131072
+#define SOSNYAVIK_STACK_READING 4096
+#define SOSNYAVIK_STACK_SUMMARISE 4096
 
 /*
 ** THE WHOLE ANALYSIS
@@ -291,6 +298,90 @@ uint32_t sosnyavik_window(
     int32_t *grid, size_t grid_len,
     uint8_t *support, size_t support_len);
 /* clang-format on */
+
+/*
+** THE POINT READING
+**
+** What a field has at a place, and what stands behind it. Two calls, with the
+** same arguments: the kind of the reading, and its double.
+**
+**   nx, ny        columns and rows of the grid       2 .. 64 each
+**   field         nx*ny values, row by row, such     any
+**                 as an analysed grid
+**   support       nx*ny bytes, in the same order     any
+**   x, y          position                           any
+**
+** The double is in whole units: a field of 672 reads 10.5. With the lower corner
+** of the place's cell at (m, n), a = x - 64*m and b = y - 64*n it is
+**
+**   ((64-a)*(64-b)*z(m,n) + a*(64-b)*z(m+1,n)
+**    + (64-a)*b*z(m,n+1) + a*b*z(m+1,n+1)) / 262144
+**
+** and exact: nothing is rounded. A place on the last column or row uses the last
+** cell, with a or b = 64. Zero is positive zero.
+**
+**   kind                       when                                  double
+**   0  SOSNYAVIK_OFF_GRID      not 0 <= x <= 64*(nx-1), or           0
+**                              not 0 <= y <= 64*(ny-1)
+**   1  SOSNYAVIK_FIRST_GUESS   a corner with a nonzero share has     the reading
+**                              a support byte of 0
+**   2  SOSNYAVIK_BACKED        no such corner has                    the reading
+**   3  SOSNYAVIK_REFUSED       nx or ny is out of 2 .. 64, or        0
+**                              field or support is not nx*ny long
+**
+** 3 is tested first. Here is 0 everywhere but for a second point of 1/64 unit,
+** read half way between four, and on a point:
+**
+**   int32_t field[4] = {0, 1, 0, 0};
+**   uint8_t backed[4] = {1, 1, 1, 0};
+**   sosnyavik_reading_kind(2, 2, field, 4, backed, 4, 32, 32)     1
+**   sosnyavik_reading_value(2, 2, field, 4, backed, 4, 32, 32)    0.00390625
+**   sosnyavik_reading_kind(2, 2, field, 4, backed, 4, 64, 0)      2
+**   sosnyavik_reading_value(2, 2, field, 4, backed, 4, 64, 0)     0.015625
+**   sosnyavik_reading_kind(2, 2, field, 4, backed, 4, 65, 0)      0
+**   sosnyavik_reading_kind(2, 2, field, 4, backed, 3, 64, 0)      3
+*/
+#define SOSNYAVIK_OFF_GRID 0
+#define SOSNYAVIK_FIRST_GUESS 1
+#define SOSNYAVIK_BACKED 2
+#define SOSNYAVIK_REFUSED 3
+
+/* clang-format off */
+uint32_t sosnyavik_reading_kind(
+    uint32_t nx, uint32_t ny, const int32_t *field, size_t field_len,
+    const uint8_t *support, size_t support_len,
+    int32_t x, int32_t y);
+
+double sosnyavik_reading_value(
+    uint32_t nx, uint32_t ny, const int32_t *field, size_t field_len,
+    const uint8_t *support, size_t support_len,
+    int32_t x, int32_t y);
+/* clang-format on */
+
+/*
+** THE SUMMARY
+**
+** The lowest and the highest value of a whole field, and their span, which is
+** the highest less the lowest: doubles in whole units, each exact. Any field
+** will do. Zero is positive zero.
+**
+** refusal is 0, or 1 if nx or ny is out of 2 .. 64 or field is not nx*ny long;
+** then units holds three zeros. place is 0.
+**
+**   int32_t field[4] = {-32, 0, 640, 672};
+**   struct sosnyavik_summary s = sosnyavik_summarise(2, 2, field, 4);
+**
+** Now s.refusal is 0, s.units.lowest is -0.5, s.units.highest is 10.5 and
+** s.units.span is 11.
+*/
+struct sosnyavik_summary {
+    uint32_t refusal, place;
+    struct {
+        double lowest, highest, span;
+    } units;
+};
+
+struct sosnyavik_summary sosnyavik_summarise(uint32_t nx, uint32_t ny, const int32_t *field, size_t field_len);
 
 #ifdef __cplusplus
 }

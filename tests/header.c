@@ -1,5 +1,5 @@
-// What include/sosnyavik.h tells a C programmer, called: the paper's example, whole and as a window, and a mistake for
-// each refusal of each call.
+// What include/sosnyavik.h tells a C programmer, called: the paper's example, whole and as a window, a mistake for each
+// refusal of each call, and the examples of the reading and the summary.
 #include <stdio.h>
 #include <stdlib.h>
 #include <string.h>
@@ -116,11 +116,48 @@ static void mistakes_of_one_call(void) {
     q.part_len = POINTS, refused(window, q, 3, 0, "refusal 3 of a window");
 }
 
+// Bit for bit: positive zero is not negative zero.
+static bool same(double a, double b) { return memcmp(&a, &b, sizeof a) == 0; }
+
+static void reads(size_t support_len, int32_t x, int32_t y, uint32_t kind, double value) {
+    static const int32_t field[4] = {0, 1, 0, 0};
+    static const uint8_t backed[5] = {1, 1, 1, 0, 1};
+    must(sosnyavik_reading_kind(2, 2, field, 4, backed, support_len, x, y) == kind, "the kind of a reading");
+    must(same(sosnyavik_reading_value(2, 2, field, 4, backed, support_len, x, y), value), "a reading's double");
+}
+
+static void readings(void) {
+    reads(4, 32, 32, SOSNYAVIK_FIRST_GUESS, 0.00390625);
+    reads(4, 64, 0, SOSNYAVIK_BACKED, 0.015625);
+    reads(4, 0, 64, SOSNYAVIK_BACKED, 0.0);
+    reads(4, 64, 64, SOSNYAVIK_FIRST_GUESS, 0.0);
+    reads(4, 65, 0, SOSNYAVIK_OFF_GRID, 0.0);
+    reads(4, 0, -1, SOSNYAVIK_OFF_GRID, 0.0);
+    reads(3, 64, 0, SOSNYAVIK_REFUSED, 0.0);
+    reads(5, 65, 0, SOSNYAVIK_REFUSED, 0.0);
+}
+
+static void summed_up(uint32_t nx, size_t length, uint32_t refusal, double lowest, double highest, double span) {
+    static const int32_t field[4] = {-32, 0, 640, 672};
+    struct sosnyavik_summary s = sosnyavik_summarise(nx, 2, field, length);
+    must(s.refusal == refusal && s.place == 0, "a summary's refusal");
+    must(same(s.units.lowest, lowest) && same(s.units.highest, highest), "a summary's lowest or highest");
+    must(same(s.units.span, span), "a summary's span");
+}
+
+static void summaries(void) {
+    summed_up(2, 4, 0, -0.5, 10.5, 11.0);
+    summed_up(65, 4, 1, 0.0, 0.0, 0.0);
+    summed_up(2, 3, 1, 0.0, 0.0, 0.0);
+}
+
 int main(void) {
     examples();
     mistakes(analyse);
     mistakes(window);
     mistakes_of_one_call();
+    readings();
+    summaries();
     puts("header: the examples, and the mistakes for refusals 1 to 8, answer as include/sosnyavik.h says");
     return 0;
 }

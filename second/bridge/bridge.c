@@ -10,8 +10,14 @@
  *                age; the nine columns in the order of enum column_name; the lengths of grid, support and verdict. The
  *                answer is what the archive returned, the flags, and grid, support and verdict as they are then.
  *   2, window    the same, with left, right, top and bottom after age, and without verdict.
+ *   3, kind      whether empty slices get null; nx, ny, x, y; the column field; the column support, of bytes. The
+ *                answer is what the archive returned, and the flags.
+ *   4, value     the same. The answer is the double as it lies in memory, and the flags.
+ *   5, summary   whether empty slices get null; nx, ny; the column field. The answer is refusal, place and the three
+ *                doubles as they lie in memory, and the flags.
  *
  * Bit r of the flags is set where the archive wrote outside result r, and bit RESULTS + c where it changed column c.
+ * The last three have no results, and bit c stands for column c: field, then support.
  */
 #include "sosnyavik.h"
 
@@ -20,7 +26,7 @@
 #include <string.h>
 #include <sys/resource.h>
 
-enum function { GREET = 0, ANALYSE = 1, WINDOW = 2 };
+enum function { GREET = 0, ANALYSE = 1, WINDOW = 2, KIND = 3, VALUE_AT = 4, SUMMARY = 5 };
 enum column_name { FIRST_GUESS, X, Y, VALUE, OBSERVED, FROM, UNTIL, RADIUS, LIMIT, COLUMNS };
 enum result_name { GRID, SUPPORT, VERDICT, RESULTS };
 
@@ -85,9 +91,9 @@ static void give(const void *from, size_t size) {
 
 static void give_number(uint32_t number) { give(&number, sizeof number); }
 
-static struct column take_column(bool null) {
+static struct column take_column(size_t cell, bool null) {
     struct column column = {.length = take_number()};
-    column.size = column.length * sizeof(uint32_t);
+    column.size = column.length * cell;
     column.sent = allocate(column.size);
     column.lent = allocate(column.size);
     take(column.sent, column.size);
@@ -97,6 +103,11 @@ static struct column take_column(bool null) {
 }
 
 static bool is_changed(const struct column *column) { return memcmp(column->sent, column->lent, column->size) != 0; }
+
+static void release_column(struct column *column) {
+    free(column->sent);
+    free(column->lent);
+}
 
 static struct result take_result(size_t cell, unsigned char pattern, bool null) {
     struct result result = {.length = take_number(), .guard = GUARD * cell, .pattern = pattern};
@@ -137,7 +148,7 @@ static struct request take_request(enum function function) {
     if (function == WINDOW)
         take_window(&q);
     for (size_t c = 0; c < COLUMNS; c++)
-        q.columns[c] = take_column(null);
+        q.columns[c] = take_column(sizeof(uint32_t), null);
     for (size_t r = 0; r < q.results_lent; r++)
         q.results[r] = take_result(r == GRID ? sizeof(int32_t) : sizeof(uint8_t), pattern, null);
     return q;
@@ -195,10 +206,8 @@ static uint32_t flags_of(const struct request *q) {
 }
 
 static void release(struct request *q) {
-    for (size_t c = 0; c < COLUMNS; c++) {
-        free(q->columns[c].sent);
-        free(q->columns[c].lent);
-    }
+    for (size_t c = 0; c < COLUMNS; c++)
+        release_column(&q->columns[c]);
     for (size_t r = 0; r < q->results_lent; r++)
         free(q->results[r].block);
 }
@@ -210,6 +219,63 @@ static void answer_request(enum function function) {
     for (size_t r = 0; r < q.results_lent; r++)
         give(q.results[r].block + q.results[r].guard, q.results[r].size);
     release(&q);
+}
+
+/* A summary asks for no place and no support. */
+struct query {
+    uint32_t nx, ny;
+    int32_t x, y;
+    struct column field, support;
+};
+
+static struct query take_query(enum function function) {
+    struct query q = {0};
+    bool null = take_number() != 0;
+    q.nx = take_number();
+    q.ny = take_number();
+    if (function != SUMMARY) {
+        q.x = (int32_t)take_number();
+        q.y = (int32_t)take_number();
+    }
+    q.field = take_column(sizeof(int32_t), null);
+    if (function != SUMMARY)
+        q.support = take_column(sizeof(uint8_t), null);
+    return q;
+}
+
+static void give_double(double value) { give(&value, sizeof value); }
+
+static void give_kind(const struct query *q) {
+    give_number(sosnyavik_reading_kind(q->nx, q->ny, q->field.address, q->field.length, q->support.address,
+                                       q->support.length, q->x, q->y));
+}
+
+static void give_value(const struct query *q) {
+    give_double(sosnyavik_reading_value(q->nx, q->ny, q->field.address, q->field.length, q->support.address,
+                                        q->support.length, q->x, q->y));
+}
+
+static void give_summary(const struct query *q) {
+    struct sosnyavik_summary summary = sosnyavik_summarise(q->nx, q->ny, q->field.address, q->field.length);
+    give_number(summary.refusal);
+    give_number(summary.place);
+    give_double(summary.units.lowest);
+    give_double(summary.units.highest);
+    give_double(summary.units.span);
+}
+
+static void answer_query(enum function function) {
+    struct query q = take_query(function);
+    if (function == KIND)
+        give_kind(&q);
+    else if (function == VALUE_AT)
+        give_value(&q);
+    else
+        give_summary(&q);
+    bool support_changed = function != SUMMARY && is_changed(&q.support);
+    give_number((uint32_t)is_changed(&q.field) | (uint32_t)support_changed << 1);
+    release_column(&q.field);
+    release_column(&q.support);
 }
 
 /* The number of the next call's function, unless the input ends before it. */
@@ -228,6 +294,11 @@ static void answer(uint32_t function) {
     case ANALYSE:
     case WINDOW:
         answer_request(function);
+        break;
+    case KIND:
+    case VALUE_AT:
+    case SUMMARY:
+        answer_query(function);
         break;
     default:
         fail("a call names no function of the bridge");

@@ -2,9 +2,10 @@
 //! runs on any processor, so its calls are made by a program of their own,
 //! the bridge, over pipes. `bridge/bridge.c` has the protocol.
 
-use crate::call::{Call, Window};
+use crate::call::{Call, Query, Window};
 use crate::compare::{Answer, Results, Subject};
 use crate::patterned::BYTE_PATTERN;
+use crate::summary::Summary;
 use std::cell::RefCell;
 use std::io::{self, BufRead, BufReader, Read, Write};
 use std::process::{Child, ChildStdin, ChildStdout, Command, Stdio};
@@ -13,6 +14,9 @@ use std::thread::{spawn, JoinHandle};
 const GREET: u32 = 0;
 const ANALYSE: u32 = 1;
 const WINDOW: u32 = 2;
+const KIND: u32 = 3;
+const VALUE: u32 = 4;
+const SUMMARY: u32 = 5;
 const GREETING: u32 = 0x536F_736E;
 
 /// What the lowest bits of the flags stand for; one for each result, then one
@@ -20,6 +24,8 @@ const GREETING: u32 = 0x536F_736E;
 const RESULTS: [&str; 3] = ["grid", "support", "verdict"];
 const COLUMNS: [&str; 9] =
     ["first_guess", "x", "y", "value", "observed", "from", "until", "radius", "limit"];
+/// A reading and a summary have no results.
+const QUERY_COLUMNS: [&str; 2] = ["field", "support"];
 
 /// What a C caller hands over as the address of an empty slice. Its length is
 /// 0, so the address must not be followed.
@@ -72,7 +78,13 @@ impl Bridge {
 
     fn ask_request(&self, request: &[u8], results: Results) -> Answer<u32> {
         let (code, flags) = self.ask(request, |output| read_answer(output, results))?;
-        seen_by_bridge(flags).map_or(Ok(code), Err)
+        seen_by_bridge(flags, &RESULTS, &COLUMNS).map_or(Ok(code), Err)
+    }
+
+    fn ask_query<T>(&self, request: &[u8], read: Reader<T>) -> Answer<T> {
+        let (answer, flags) =
+            self.ask(request, |output| Ok((read(output)?, read_number(output)?)))?;
+        seen_by_bridge(flags, &[], &QUERY_COLUMNS).map_or(Ok(answer), Err)
     }
 }
 
@@ -85,6 +97,18 @@ impl Subject for Bridge {
     fn window(&self, call: &Call, window: &Window, results: Results) -> Answer<u32> {
         let request = window_request(call, window, &results, self.empty);
         self.ask_request(&request, results)
+    }
+
+    fn reading_kind(&self, query: &Query) -> Answer<u32> {
+        self.ask_query(&reading_request(KIND, query, self.empty), read_number)
+    }
+
+    fn reading_value(&self, query: &Query) -> Answer<f64> {
+        self.ask_query(&reading_request(VALUE, query, self.empty), read_double)
+    }
+
+    fn summary(&self, query: &Query) -> Answer<Summary> {
+        self.ask_query(&summary_request(query, self.empty), read_summary)
     }
 }
 
@@ -118,7 +142,7 @@ impl Running {
 
     /// Fails if something else than a bridge was started.
     fn greeted(mut self) -> Result<Self, String> {
-        match self.ask(&GREET.to_le_bytes()).and_then(read_number) {
+        match self.ask(&GREET.to_le_bytes()).and_then(|output| read_number(output)) {
             Ok(GREETING) => Ok(self),
             Ok(_) => {
                 self.end();
@@ -174,6 +198,25 @@ fn window_request(call: &Call, window: &Window, results: &Results, empty: Empty)
     bytes
 }
 
+fn reading_request(function: u32, query: &Query, empty: Empty) -> Vec<u8> {
+    let mut bytes = Vec::new();
+    let null = u32::from(empty == Empty::Null);
+    put_numbers(&mut bytes, &[function, null, query.nx, query.ny]);
+    put_numbers(&mut bytes, &[query.x as u32, query.y as u32]);
+    put_column(&mut bytes, &query.field, i32::to_le_bytes);
+    put_numbers(&mut bytes, &[length(query.support.len())]);
+    bytes.extend(&query.support);
+    bytes
+}
+
+fn summary_request(query: &Query, empty: Empty) -> Vec<u8> {
+    let mut bytes = Vec::new();
+    let null = u32::from(empty == Empty::Null);
+    put_numbers(&mut bytes, &[SUMMARY, null, query.nx, query.ny]);
+    put_column(&mut bytes, &query.field, i32::to_le_bytes);
+    bytes
+}
+
 fn put_opening(bytes: &mut Vec<u8>, function: u32, empty: Empty) {
     let null = u32::from(empty == Empty::Null);
     put_numbers(bytes, &[function, null, BYTE_PATTERN.into()]);
@@ -209,6 +252,9 @@ fn length(length: usize) -> u32 {
     u32::try_from(length).expect("no column is that long")
 }
 
+/// Reads an answer, up to its flags.
+type Reader<T> = fn(&mut dyn Read) -> io::Result<T>;
+
 /// Fills the results in and gives the code and the flags.
 fn read_answer(mut input: impl Read, results: Results) -> io::Result<(u32, u32)> {
     let code = read_number(&mut input)?;
@@ -221,17 +267,33 @@ fn read_answer(mut input: impl Read, results: Results) -> io::Result<(u32, u32)>
     Ok((code, flags))
 }
 
-fn read_number(mut input: impl Read) -> io::Result<u32> {
+fn read_number(input: &mut dyn Read) -> io::Result<u32> {
     let mut bytes = [0; 4];
     input.read_exact(&mut bytes)?;
     Ok(u32::from_le_bytes(bytes))
 }
 
+fn read_double(input: &mut dyn Read) -> io::Result<f64> {
+    let mut bytes = [0; 8];
+    input.read_exact(&mut bytes)?;
+    Ok(f64::from_le_bytes(bytes))
+}
+
+fn read_summary(input: &mut dyn Read) -> io::Result<Summary> {
+    Ok(Summary {
+        refusal: read_number(input)?,
+        place: read_number(input)?,
+        lowest: read_double(input)?,
+        highest: read_double(input)?,
+        span: read_double(input)?,
+    })
+}
+
 /// The first thing that the flags say.
-fn seen_by_bridge(flags: u32) -> Option<String> {
+fn seen_by_bridge(flags: u32, results: &[&str], columns: &[&str]) -> Option<String> {
     let bit = (0..u32::BITS as usize).find(|bit| flags >> bit & 1 == 1)?;
-    let column = bit.checked_sub(RESULTS.len()).and_then(|column| COLUMNS.get(column));
-    Some(match (RESULTS.get(bit), column) {
+    let column = bit.checked_sub(results.len()).and_then(|column| columns.get(column));
+    Some(match (results.get(bit), column) {
         (Some(name), _) => format!("{name} is written outside its slice"),
         (None, Some(name)) => format!("the input {name} is changed by the call"),
         (None, None) => format!("the bridge answers with flags that mean nothing, {flags:#x}"),
@@ -311,13 +373,27 @@ mod tests {
 
     #[test]
     fn flags_name_what_was_written() {
-        let said = |flags| seen_by_bridge(flags).unwrap_or_default();
-        assert_eq!(seen_by_bridge(0), None);
+        let said = |flags| seen_by_bridge(flags, &RESULTS, &COLUMNS).unwrap_or_default();
+        assert_eq!(seen_by_bridge(0, &RESULTS, &COLUMNS), None);
         assert_eq!(said(0b1), "grid is written outside its slice");
         assert_eq!(said(0b100), "verdict is written outside its slice");
         assert_eq!(said(0b1000), "the input first_guess is changed by the call");
         assert_eq!(said(1 << 11), "the input limit is changed by the call");
         assert_eq!(said(1 << 12), "the bridge answers with flags that mean nothing, 0x1000");
+        let said = |flags| seen_by_bridge(flags, &[], &QUERY_COLUMNS).unwrap_or_default();
+        assert_eq!(said(0b10), "the input support is changed by the call");
+        assert_eq!(said(0b100), "the bridge answers with flags that mean nothing, 0x4");
+    }
+
+    #[test]
+    fn queries_are_in_their_places() {
+        let query =
+            Query { nx: 1, ny: 2, field: vec![-3, 4], support: vec![5, 6, 7, 8], x: -9, y: 10 };
+        let numbers = numbers_of(&reading_request(VALUE, &query, Empty::Null));
+        let [minus_3, minus_9] = [3_u32, 9].map(u32::wrapping_neg);
+        assert_eq!(numbers, [4, 1, 1, 2, minus_9, 10, 2, minus_3, 4, 4, 0x0807_0605]);
+        let numbers = numbers_of(&summary_request(&query, Empty::Dangling));
+        assert_eq!(numbers, [5, 0, 1, 2, 2, minus_3, 4]);
     }
 
     #[test]

@@ -3,8 +3,10 @@
 use crate::call::{Analysis, Call, Query, Refusal, Window};
 use crate::compare::{read, Answer, Case, Results, Subject};
 use crate::generate;
+use crate::generate_query;
 use crate::generate_window;
 use crate::patterned::{Patterned, BYTE_PATTERN, GRID_PATTERN};
+use crate::query_sorts;
 use crate::reading::Reading;
 use crate::scheme::analyse;
 use crate::shrink;
@@ -197,7 +199,7 @@ impl Case for ReadingCase {
     type Expected = Reading;
 
     fn generate(seed: u64, index: u64) -> Self {
-        ReadingCase(generate::reading(seed, index))
+        ReadingCase(generate_query::reading(seed, index))
     }
 
     fn expected(&self) -> Reading {
@@ -206,6 +208,7 @@ impl Case for ReadingCase {
 
     fn count(&self, expected: &Reading, tally: &mut Tally) {
         tally.add("kind", expected.kind());
+        tally.add_sorts(&query_sorts::of_reading(&self.0, expected));
     }
 
     fn difference(&self, expected: &Reading, subject: &dyn Subject) -> Option<String> {
@@ -226,7 +229,8 @@ impl Case for ReadingCase {
     }
 
     fn floors() -> Vec<Floor> {
-        [0, 1, 2, 3].map(|n| Floor::times("kind", n, 200)).to_vec()
+        let kinds = [0, 1, 2, 3].map(|n| Floor::times("kind", n, 1_000)).to_vec();
+        [kinds, query_sorts::reading_floors()].concat()
     }
 }
 
@@ -238,7 +242,7 @@ impl Case for SummaryCase {
     type Expected = Summary;
 
     fn generate(seed: u64, index: u64) -> Self {
-        SummaryCase(generate::summary(seed, index))
+        SummaryCase(generate_query::summary(seed, index))
     }
 
     fn expected(&self) -> Summary {
@@ -247,6 +251,7 @@ impl Case for SummaryCase {
 
     fn count(&self, expected: &Summary, tally: &mut Tally) {
         tally.add("refusal", expected.refusal);
+        tally.add_sorts(&query_sorts::of_summary(&self.0, expected.refusal != 0));
     }
 
     fn difference(&self, expected: &Summary, subject: &dyn Subject) -> Option<String> {
@@ -269,7 +274,7 @@ impl Case for SummaryCase {
     }
 
     fn floors() -> Vec<Floor> {
-        [0, 1].map(|n| Floor::times("refusal", n, 200)).to_vec()
+        query_sorts::summary_floors()
     }
 }
 

@@ -277,23 +277,37 @@ pub fn bad_window(rng: &mut Rng, mut call: Call, good: Window, way: u64) -> (Cal
     (call, bad)
 }
 
-/// A reading or summary whose shape or lengths are wrong.
-pub fn break_query(rng: &mut Rng, query: &mut Query) {
-    match rng.below(7) {
+/// A reading whose shape or lengths are wrong, in turn.
+pub fn break_reading(rng: &mut Rng, query: &mut Query, turn: u64) {
+    match turn % 3 {
+        0 => change_length(rng, &mut query.support, 1),
+        _ => break_summary(rng, query, turn / 3),
+    }
+}
+
+/// A summary whose shape or length is wrong, in turn.
+pub fn break_summary(rng: &mut Rng, query: &mut Query, turn: u64) {
+    match turn % 6 {
         0 => query.nx = rng.pick(&SIDES),
         1 => query.ny = rng.pick(&SIDES),
         2 => {
-            query.nx = 65;
-            query.field.resize(65 * query.ny as usize, 7);
-            query.support.resize(65 * query.ny as usize, 1);
+            // Out of bounds, with lengths that fit.
+            (query.nx, query.ny) = rng.pick(&[(65, query.ny), (query.nx, 65), (1, 5), (5, 1)]);
+            let points = query.nx as usize * query.ny as usize;
+            query.field.resize(points, 7);
+            query.support.resize(points, 1);
         }
-        3 => query.field.push(0),
-        4 => {
-            query.field.pop();
+        3 => {
+            // No points, where a product of 32 bits is 0 too.
+            (query.nx, query.ny) = rng.pick(&[(0, 0), (1 << 16, 1 << 16), (1 << 31, 2)]);
+            query.field.clear();
+            query.support.clear();
         }
-        5 => query.support.push(1),
         _ => {
-            query.support.pop();
+            change_length(rng, &mut query.field, 0);
+            if rng.one_in(2) {
+                query.support.resize(query.field.len(), 1);
+            }
         }
     }
 }

@@ -1,10 +1,9 @@
-//! The seeded generator: calls, readings, summaries and texts, each valid,
-//! heavy with bounds, or damaged by a schedule over the index. Windows are
-//! placed on such calls by `generate_window`.
+//! The seeded generator: calls and texts, each valid, heavy with bounds, or
+//! damaged by a schedule over the index. `generate_window` places windows on
+//! such calls; `generate_query` makes readings and summaries.
 
-use crate::call::{Call, Query};
+use crate::call::Call;
 use crate::damage;
-use crate::field::Shape;
 use crate::rng::Rng;
 use crate::scan::difference;
 use crate::scheme::run;
@@ -289,64 +288,6 @@ pub fn tune_limits(rng: &mut Rng, call: &mut Call) {
             let size = difference(call, &before.grid, row).abs() as i32;
             call.limit[scan as usize] = (size - rng.pick(&[0, 1])).clamp(0, 2_000_000);
         }
-    }
-}
-
-/// The arguments of a point reading.
-pub fn reading(seed: u64, index: u64) -> Query {
-    query(seed, 3, index)
-}
-
-/// The arguments of a summary: a query of which only the field counts.
-pub fn summary(seed: u64, index: u64) -> Query {
-    query(seed, 4, index)
-}
-
-fn query(seed: u64, kind: u64, index: u64) -> Query {
-    let mut rng = Rng::for_case(seed, kind, index);
-    let rng = &mut rng;
-    let (nx, ny) = (rng.between(2, 9) as u32, rng.between(2, 9) as u32);
-    let (nx, ny) = rng.pick(&[(nx, ny), (nx, ny), (nx, ny), (64, ny), (nx, 64)]);
-    let shape = Shape { nx: nx as usize, ny: ny as usize };
-    let field = any_field(rng, shape.points());
-    let bare = rng.pick(&[2, 8, 8, 1_000]);
-    let support = (0..shape.points())
-        .map(|_| if rng.one_in(bare) { 0 } else { rng.between(1, 255) as u8 })
-        .collect();
-    let (x, y) = reading_place(rng, shape);
-    let mut query = Query { nx, ny, field, support, x, y };
-    if index.is_multiple_of(6) {
-        damage::break_query(rng, &mut query);
-    }
-    query
-}
-
-/// Any i32 may stand in a field that is read or summed up.
-fn any_field(rng: &mut Rng, points: usize) -> Vec<i32> {
-    let wide = (i32::MIN, i32::MAX);
-    let (low, high) = rng.pick(&[(0, 0), (-5, 5), (-50_000, 50_000), (0, 13_000_000), wide, wide]);
-    let value = |rng: &mut Rng| match rng.below(12) {
-        0 => rng.pick(&[low, high, 0]),
-        _ => rng.between(low, high),
-    };
-    (0..points).map(|_| value(rng)).collect()
-}
-
-fn reading_place(rng: &mut Rng, shape: Shape) -> (i32, i32) {
-    let (last_x, last_y) = shape.far_corner();
-    let (last_x, last_y) = (last_x as i32, last_y as i32);
-    let (x, y) = (rng.between(0, last_x), rng.between(0, last_y));
-    let off = rng.pick(&[-1, last_x + 1, i32::MIN, i32::MAX, -64]);
-    match rng.below(12) {
-        0..=3 => (x, y),
-        4 => (x / 64 * 64, y),
-        5 => (x, y / 64 * 64),
-        6 => (x / 64 * 64, y / 64 * 64),
-        7 => (last_x, y),
-        8 => (x, last_y),
-        9 => (last_x, last_y),
-        10 => (off, y),
-        _ => (x, rng.pick(&[-1, last_y + 1, i32::MIN, i32::MAX])),
     }
 }
 

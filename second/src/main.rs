@@ -110,8 +110,11 @@ fn compare(kind: &str, seed: Option<&str>, count: Option<&str>) -> Result<(), Wr
     let compare_kind = match kind {
         "analysis" => compare_kind::<AnalysisCase>,
         "window" => compare_kind::<WindowCase>,
-        "reading" | "summary" | "text" => {
-            let message = format!("the archive does not offer {kind} yet; give analysis or window");
+        "reading" => compare_kind::<ReadingCase>,
+        "summary" => compare_kind::<SummaryCase>,
+        "text" => {
+            let kinds = "analysis, window, reading or summary";
+            let message = format!("the archive does not offer {kind} yet; give {kinds}");
             return Err(Wrong::Asked(message));
         }
         _ => return Err(no_such_kind(kind)),

@@ -32,7 +32,7 @@ pub fn floors() -> Vec<Floor> {
 }
 
 /// The numbers at which something holds, in order.
-fn named(name: &'static str, holds: impl IntoIterator<Item = bool>) -> Vec<Sort> {
+pub fn named(name: &'static str, holds: impl IntoIterator<Item = bool>) -> Vec<Sort> {
     let numbered = (0..).zip(holds).filter(|(_, holds)| *holds);
     numbered.map(|(number, _)| (name, number)).collect()
 }

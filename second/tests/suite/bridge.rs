@@ -1,7 +1,7 @@
 //! The bridge itself, built for this processor around a stub of the archive.
 
 use second::bridge::{Bridge, Empty};
-use second::call::{Call, Window};
+use second::call::{Call, Query, Window};
 use second::compare::{Answer, Results, Subject};
 use std::process::Command;
 use std::sync::OnceLock;
@@ -78,6 +78,43 @@ fn a_window_query_crosses_the_bridge() {
     assert_told(&grid);
     assert_eq!(grid[33..35], [40, 3], "the lengths of the results");
     assert_eq!(grid[36..], [105, 106, 107, -1], "the ends");
+}
+
+/// A query in which no two lengths are alike; an x below 0 asks for a fault.
+fn query(x: i32) -> Query {
+    Query { nx: 1, ny: 2, field: vec![x, 0, 0, 8], support: vec![0, 0, 5], x, y: 70_000 }
+}
+
+#[test]
+fn readings_and_summaries_cross_the_bridge() {
+    let bridge = start(Empty::Null);
+    let kind = 1 + 20 + 400 + 3_000 + 6 + 70_000;
+    assert_eq!(bridge.reading_kind(&query(6)), Ok(kind));
+    let value = f64::from(kind) + 4.0 + 5.0 / 1024.0;
+    assert_eq!(bridge.reading_value(&query(6)), Ok(value));
+    let summary = bridge.summary(&query(6)).expect("answered");
+    assert_eq!((summary.refusal, summary.place), (1, 2));
+    assert_eq!((summary.lowest, summary.highest, summary.span), (2.0, 8.0, 0.0));
+    let empty = Query { field: vec![], support: vec![], ..query(6) };
+    let bits = |value: Answer<f64>| value.map(f64::to_bits);
+    assert_eq!(bits(bridge.reading_value(&empty)), Ok((-0.0_f64).to_bits()), "not positive zero");
+    let nulls = |empty_as| {
+        let bridge = start(empty_as);
+        (bridge.reading_kind(&empty), bridge.summary(&empty).map(|summary| summary.span))
+    };
+    assert_eq!((nulls(Empty::Dangling), nulls(Empty::Null)), ((Ok(0), Ok(0.0)), (Ok(2), Ok(1.0))));
+}
+
+#[test]
+fn changes_by_readings_and_summaries_are_seen() {
+    let bridge = start(Empty::Dangling);
+    for (fault, name) in [(-7, "field"), (-8, "support")] {
+        let seen = format!("the input {name} is changed by the call");
+        assert_eq!(bridge.reading_kind(&query(fault)), Err(seen.clone()));
+        assert_eq!(bridge.reading_value(&query(fault)), Err(seen));
+    }
+    assert!(bridge.summary(&query(-7)).is_err_and(|said| said.contains("field is changed")));
+    assert!(bridge.summary(&query(6)).is_ok());
 }
 
 #[test]

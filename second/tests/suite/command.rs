@@ -90,7 +90,7 @@ fn bad_arguments_give_one_line_and_two() {
     wrong(&["compare"], &[]);
     wrong(&["compare", "maps"], &[]);
     wrong(&["compare", "window"], &[]);
-    wrong(&["compare", "reading"], &[]);
+    wrong(&["compare", "text"], &[]);
     wrong(&["compare", "analysis", "1", "0"], &[]);
     wrong(&["compare", "analysis"], &[("SOSNYAVIK_EMPTY", "nil")]);
     wrong(&["survey"], &[("SOSNYAVIK_COUNT", "1e3")]);

@@ -23,7 +23,14 @@ pub enum Fault {
     WidenedByLargestOnly,
     IdleCornersCount,
     NegativeZero,
+    AnyCornerBacks,
+    LastEdgeIsOff,
+    OneUnitOffIsOn,
+    ReadingRounded,
+    SupportUnmeasured,
     RefusedSummaryFilled,
+    LastPointLeftOut,
+    SpanWraps,
     CarriageReturns,
 }
 
@@ -61,24 +68,44 @@ impl Subject for Faulty {
     }
 
     fn reading_kind(&self, query: &Query) -> Answer<u32> {
+        let query = &misread(query, self.0);
         let kind = Own.reading_kind(query)?;
-        if kind != 2 || self.0 != Fault::IdleCornersCount {
+        if ![1, 2].contains(&kind) {
             return Ok(kind);
         }
-        let shape = Shape { nx: query.nx as usize, ny: query.ny as usize };
-        let corners = shape.corners(query.x, query.y);
-        Ok(if corners.iter().any(|corner| query.support[corner.0] == 0) { 1 } else { 2 })
+        let corners = shape(query).corners(query.x, query.y);
+        let bare = |corner: &(usize, i64)| query.support[corner.0] == 0;
+        Ok(match self.0 {
+            Fault::IdleCornersCount if corners.iter().any(bare) => 1,
+            Fault::AnyCornerBacks if corners.iter().any(|c| c.1 > 0 && !bare(c)) => 2,
+            Fault::LastEdgeIsOff if i64::from(query.x) == shape(query).far_corner().0 => 0,
+            _ => kind,
+        })
     }
 
     fn reading_value(&self, query: &Query) -> Answer<f64> {
-        let value = Own.reading_value(query)?;
-        Ok(if self.0 == Fault::NegativeZero && value == 0.0 { -0.0 } else { value })
+        let value = Own.reading_value(&misread(query, self.0))?;
+        Ok(match self.0 {
+            Fault::NegativeZero if value == 0.0 => -0.0,
+            Fault::ReadingRounded => (value * 64.0).round() / 64.0,
+            _ => value,
+        })
     }
 
     fn summary(&self, query: &Query) -> Answer<Summary> {
         let mut summary = Own.summary(query)?;
         if self.0 == Fault::RefusedSummaryFilled && summary.refusal != 0 {
             summary.span = 1.0;
+        }
+        if self.0 == Fault::SpanWraps {
+            let span = (summary.span * 64.0) as i64 as i32;
+            summary.span = f64::from(span) / 64.0;
+        }
+        if self.0 == Fault::LastPointLeftOut && summary.refusal == 0 {
+            let mut query = query.clone();
+            let last = query.field.len() - 1;
+            query.field[last] = query.field[0];
+            return Own.summary(&query);
         }
         Ok(summary)
     }
@@ -90,6 +117,24 @@ impl Subject for Faulty {
         }
         Own.text(request)
     }
+}
+
+fn shape(query: &Query) -> Shape {
+    Shape { nx: query.nx as usize, ny: query.ny as usize }
+}
+
+/// The query as somebody might take it who tests too little of it.
+fn misread(query: &Query, fault: Fault) -> Query {
+    let mut query = query.clone();
+    match fault {
+        Fault::OneUnitOffIsOn if query.x == -1 => query.x = 0,
+        Fault::OneUnitOffIsOn if i64::from(query.y) == shape(&query).far_corner().1 + 1 => {
+            query.y -= 1;
+        }
+        Fault::SupportUnmeasured => query.support.resize(query.field.len(), 0),
+        _ => (),
+    }
+    query
 }
 
 /// The scheme with a fault in it.

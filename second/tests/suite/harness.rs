@@ -164,7 +164,16 @@ fn faults_of_readings_and_summaries_are_seen() {
     assert_eq!((idle.nx, idle.ny), (2, 2));
     let zero = failure::<ReadingCase>(Fault::NegativeZero).smallest.0;
     assert_eq!(zero.field.iter().filter(|value| **value != 0).count(), 0);
-    failure::<SummaryCase>(Fault::RefusedSummaryFilled);
+    use Fault::*;
+    for fault in [AnyCornerBacks, LastEdgeIsOff, OneUnitOffIsOn, ReadingRounded] {
+        let query = failure::<ReadingCase>(fault).smallest.0;
+        assert_eq!((query.nx, query.ny), (2, 2), "{fault:?}: {query:?}");
+    }
+    failure::<ReadingCase>(SupportUnmeasured);
+    failure::<SummaryCase>(RefusedSummaryFilled);
+    failure::<SummaryCase>(LastPointLeftOut);
+    let wide = failure::<SummaryCase>(SpanWraps).smallest.0;
+    assert_eq!((wide.nx, wide.ny), (2, 2));
 }
 
 #[test]

@@ -1,10 +1,13 @@
-//! The sorts of window query are told apart, and each has its floor.
+//! The sorts of windows, readings and summaries are told apart, and each has
+//! its floor.
 
 use crate::lone_station;
-use second::call::{Call, Window};
+use second::call::{Call, Query, Window};
+use second::compare::read;
+use second::query_sorts::{of_reading, of_summary, reading_floors, summary_floors};
 use second::scheme::run;
 use second::sorts::{floors, of_accepted, of_bad, Sort};
-use second::tally::Tally;
+use second::tally::{Floor, Tally};
 
 /// The numbers under the one name that begins so.
 fn numbers(sorts: &[Sort], name: &str) -> Vec<u32> {
@@ -72,13 +75,106 @@ fn bad_windows_are_told_apart() {
     assert_eq!(bad([0, 0, u32::MAX, 2]), [vec![1], vec![], vec![2], vec![]]);
 }
 
+/// A reading of a field of 3 by 2, all its corners backed.
+fn reading_at(x: i32, y: i32) -> Query {
+    Query { nx: 3, ny: 2, field: vec![7, -9, 0, 5, 9, 0], support: vec![1; 6], x, y }
+}
+
+fn told(query: &Query) -> Vec<Sort> {
+    of_reading(query, &read(query))
+}
+
+#[test]
+fn places_of_readings_are_told_apart() {
+    let lies = |x, y| {
+        let sorts = told(&reading_at(x, y));
+        ["place (", "place on an edge", "place on a corner"].map(|name| numbers(&sorts, name))
+    };
+    assert_eq!(lies(70, 1), [vec![0], vec![], vec![]]);
+    assert_eq!(lies(64, 1), [vec![1], vec![], vec![]]);
+    assert_eq!(lies(70, 0), [vec![2], vec![2], vec![]]);
+    assert_eq!(lies(64, 64), [vec![3], vec![3], vec![]]);
+    assert_eq!(lies(128, 63), [vec![1], vec![1], vec![]]);
+    assert_eq!(lies(128, 64), [vec![3], vec![], vec![3]]);
+    assert_eq!(lies(0, 64), [vec![3], vec![], vec![2]]);
+    let off = |x, y| {
+        let sorts = told(&reading_at(x, y));
+        ["place off", "place at"].map(|name| numbers(&sorts, name))
+    };
+    assert_eq!(off(-1, 64), [vec![0], vec![]]);
+    assert_eq!(off(129, 0), [vec![1], vec![]]);
+    assert_eq!(off(128, 65), [vec![3], vec![]]);
+    assert_eq!(off(129, 65), [vec![], vec![]], "off on both axes");
+    assert_eq!(off(i32::MIN, i32::MAX), [vec![], vec![0, 3]]);
+}
+
+#[test]
+fn corners_of_readings_are_told_apart() {
+    let sorts = |change: fn(&mut Query), x, y| {
+        let mut query = reading_at(x, y);
+        change(&mut query);
+        let sorts = told(&query);
+        ["corners that count", "bare corner", "first guess by", "value"]
+            .map(|name| numbers(&sorts, name))
+    };
+    assert_eq!(sorts(|_| (), 1, 1), [vec![], vec![], vec![], vec![3]]);
+    assert_eq!(sorts(|_| (), 128, 64), [vec![], vec![], vec![], vec![1]]);
+    assert_eq!(sorts(|q| q.field[0] = 9, 32, 0), [vec![], vec![], vec![], vec![2]]);
+    assert_eq!(sorts(|q| q.support[3] = 0, 1, 1), [vec![], vec![], vec![0], vec![3]]);
+    assert_eq!(sorts(|q| q.support[3] = 0, 1, 0), [vec![], vec![0], vec![], vec![3]]);
+    assert_eq!(sorts(|q| q.support[1] = 0, 63, 0), [vec![], vec![], vec![1], vec![0]]);
+    assert_eq!(sorts(|q| q.support.fill(0), 64, 0), [vec![], vec![], vec![2], vec![0]]);
+    let low = |q: &mut Query| q.field.fill(i32::MIN);
+    assert_eq!(sorts(low, 1, 1), [vec![0, 3], vec![], vec![], vec![0]]);
+    assert_eq!(sorts(low, 1, 0), [vec![0], vec![], vec![], vec![0]]);
+}
+
+#[test]
+fn refused_readings_are_told_apart() {
+    let refused = |change: fn(&mut Query)| {
+        let mut query = reading_at(0, 0);
+        change(&mut query);
+        let sorts = told(&query);
+        ["refused by (", "refused by one", "refused without"].map(|name| numbers(&sorts, name))
+    };
+    assert_eq!(refused(|q| q.nx = 1), [vec![0], vec![], vec![]]);
+    assert_eq!(refused(|q| q.ny = 65), [vec![1], vec![], vec![]]);
+    assert_eq!(refused(|q| q.field.push(0)), [vec![2], vec![0], vec![]]);
+    assert_eq!(refused(|q| q.field.clear()), [vec![3], vec![], vec![0]]);
+    assert_eq!(refused(|q| q.support.truncate(5)), [vec![5], vec![3], vec![]]);
+    assert_eq!(refused(|q| q.support.clear()), [vec![5], vec![], vec![]]);
+}
+
+#[test]
+fn summaries_are_told_apart() {
+    let told = |field: [i32; 6]| {
+        let query = Query { field: field.to_vec(), ..reading_at(0, 0) };
+        let sorts = of_summary(&query, false);
+        ["lowest", "highest", "field with", "field ("].map(|name| numbers(&sorts, name))
+    };
+    assert_eq!(told([-1, 2, 3, 2, 1, 4]), [vec![0], vec![1], vec![], vec![2]]);
+    assert_eq!(told([3, 1, 5, 5, 5, 2]), [vec![2], vec![2], vec![], vec![1]]);
+    assert_eq!(told([1, 1, 3, 3, 3, 2]), [vec![], vec![2], vec![], vec![1]], "first, not alone");
+    assert_eq!(told([0; 6]), [vec![], vec![], vec![], vec![3, 4]]);
+    let ends = [i32::MAX, 0, 0, 0, 0, i32::MIN];
+    assert_eq!(told(ends), [vec![1], vec![0], vec![0, 1, 2], vec![2]]);
+}
+
 #[test]
 fn every_sort_has_a_floor() {
+    assert_eq!(held(floors()), 7 * 4 + 5 + 2 * 4 + 3, "each once, and none left out");
+    assert_eq!(held(reading_floors()), 6 * 4 + 2 + 2 * 4 + 6 + 4 + 1);
+    assert_eq!(held(summary_floors()), 3 * 3 + 5 + 4 + 4 + 2 + 1 + 2);
+}
+
+/// Sees that every floor is one that can be missed and be held, and gives
+/// their number.
+fn held(floors: Vec<Floor>) -> usize {
     let mut tally = Tally { count: 20_000, ..Tally::default() };
-    for floor in floors() {
+    for floor in floors {
         assert!(floor.least > 0 && tally.missed(&[floor]).is_some(), "{floor:?}");
         (0..floor.least).for_each(|_| tally.add(floor.name, floor.number));
         assert_eq!(tally.missed(&[floor]), None);
     }
-    assert_eq!(tally.seen.len(), 7 * 4 + 5 + 2 * 4 + 3, "each once, and none left out");
+    tally.seen.len()
 }

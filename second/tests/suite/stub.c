@@ -2,7 +2,8 @@
  * stub.c: stands in for the archive in the tests of the bridge. Each of its calls says what it got: in grid the plain
  * numbers, the length, first and last number of each column, and the lengths of the results; as its result how many of
  * the addresses are null. A time that is not 0 asks for a fault. A window query is an analysis with a verdict of its
- * own, and says its four ends at the end of grid.
+ * own, and says its four ends at the end of grid. A reading and a summary are made of all that they got; some x, or
+ * field[0], ask for a fault.
  */
 #include "sosnyavik.h"
 
@@ -120,4 +121,36 @@ uint32_t sosnyavik_window(
                              observed_len, from, from_len, until, until_len, scans, radius, radius_len, limit,
                              limit_len, smooth, time, age, grid, grid_len, support, support_len, verdict,
                              sizeof verdict);
+}
+
+enum { CHANGES_FIELD = -7, CHANGES_SUPPORT = -8 };
+
+static void change(const int32_t *field, const uint8_t *support, int32_t fault) {
+    if (fault == CHANGES_FIELD)
+        ((int32_t *)field)[1] ^= 1;
+    if (fault == CHANGES_SUPPORT)
+        ((uint8_t *)support)[1] ^= 1;
+}
+
+uint32_t sosnyavik_reading_kind(uint32_t nx, uint32_t ny, const int32_t *field, size_t field_len,
+                                const uint8_t *support, size_t support_len, int32_t x, int32_t y) {
+    if (field_len == 0)
+        return (field == NULL) + (support == NULL);
+    change(field, support, x);
+    return nx + 10 * ny + 100 * (uint32_t)field_len + 1000 * (uint32_t)support_len + (uint32_t)(x + y);
+}
+
+double sosnyavik_reading_value(uint32_t nx, uint32_t ny, const int32_t *field, size_t field_len, const uint8_t *support,
+                               size_t support_len, int32_t x, int32_t y) {
+    uint32_t kind = sosnyavik_reading_kind(nx, ny, field, field_len, support, support_len, x, y);
+    return field_len == 0 ? -0.0 : kind + field[field_len - 1] / 2.0 + support[support_len - 1] / 1024.0;
+}
+
+struct sosnyavik_summary sosnyavik_summarise(uint32_t nx, uint32_t ny, const int32_t *field, size_t field_len) {
+    struct sosnyavik_summary summary = {nx, ny, {field_len / 2.0, -0.0, field == NULL}};
+    if (field_len == 0)
+        return summary;
+    change(field, NULL, field[0]);
+    summary.units.highest = field[field_len - 1];
+    return summary;
 }
