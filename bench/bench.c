@@ -309,6 +309,10 @@ int main(int argc, char **argv) {
         measure_stack(run_reading, SOSNYAVIK_STACK_READING);
     else if (strcmp(what, "stack") == 0 && strcmp(argv[3], "summary") == 0)
         measure_stack(run_summary, SOSNYAVIK_STACK_SUMMARISE);
+    else if (strcmp(what, "one") == 0 && strcmp(argv[3], "reading") == 0)
+        run_reading();
+    else if (strcmp(what, "one") == 0 && strcmp(argv[3], "summary") == 0)
+        run_summary();
     else if (strcmp(what, "window") == 0 || strcmp(what, "stack") == 0)
         run_window_case(what, argv[3]);
     else
