@@ -69,7 +69,8 @@ static uint32_t left, right, top, bottom;
 
 static void complain(const char *what, const char *word) {
     fprintf(stderr,
-            "bench: %s '%s': use bench a|b|c|w ours|plain|both REPEAT, window SIDE, or stack [SIDE|reading|summary]\n",
+            "bench: %s '%s': use bench a|b|c|w ours|plain|both REPEAT, window SIDE, one reading|summary, or stack "
+            "[SIDE|reading|summary]\n",
             what, word);
     exit(2);
 }
