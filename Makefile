@@ -1,5 +1,6 @@
 # make run: answer a request.  make test: the gate.  make bench: the archive against plain C.
-.PHONY: run test bench tools clean
+# make install PREFIX=/usr/local: archive, header and pkg-config file, for a server's build.
+.PHONY: run test bench install tools clean
 .DEFAULT_GOAL := test
 
 CARGO = CARGO_TARGET_DIR=build/second cargo
@@ -26,6 +27,13 @@ bench:
 	@mkdir -p build/bench
 	@rt staticlib clause > build/bench/staticlib.log 2>&1 || { echo "make bench: rt staticlib clause failed: see build/bench/staticlib.log" >&2; exit 1; }
 	@bench/run target/staticlib
+
+install:
+	@scripts/tools rt
+	@test -n "$(PREFIX)" || { echo "make install: say where to: make install PREFIX=/usr/local" >&2; exit 1; }
+	@mkdir -p build/install
+	@rt staticlib clause > build/install/staticlib.log 2>&1 || { echo "make install: rt staticlib clause failed: see build/install/staticlib.log" >&2; exit 1; }
+	@host/install target/staticlib "$(PREFIX)"
 
 clean:
 	@rm -rf build target

@@ -1,0 +1,133 @@
+/* evening.c: see evening.h. */
+#include "evening.h"
+
+#include <string.h>
+
+enum { MINUTE = 1200, AGE = 120, PLAN = 3 };
+
+static const size_t ENTRY[COLUMNS] = {
+    [FIRST_GUESS] = sizeof(int32_t), [X] = sizeof(int32_t),         [Y] = sizeof(int32_t),
+    [VALUE] = sizeof(int32_t),       [OBSERVED] = sizeof(uint32_t), [FROM] = sizeof(uint32_t),
+    [UNTIL] = sizeof(uint32_t),      [RADIUS] = sizeof(int32_t),    [LIMIT] = sizeof(int32_t),
+};
+
+int32_t *numbers_of(const struct evening *evening, enum column column) { return evening->columns[column].at; }
+uint32_t *minutes_of(const struct evening *evening, enum column column) { return evening->columns[column].at; }
+
+/* A number in 0..most, small steps of a fixed sequence: the same on every machine. */
+static int32_t draw(uint32_t *state, int32_t most) {
+    *state = *state * 1664525u + 1013904223u;
+    return (int32_t)((*state >> 8) % (uint32_t)(most + 1));
+}
+
+/* About 5 degrees, warmer to the east, each mast within 2 degrees of the nearest point, fresh and in service. */
+static void set_masts(struct evening *evening, uint32_t *state) {
+    for (size_t row = 0; row < evening->columns[X].length; row++) {
+        int32_t x = draw(state, 64 * (int32_t)(evening->nx - 1)), y = draw(state, 64 * (int32_t)(evening->ny - 1));
+        int32_t nearest = (y + 32) / 64 * (int32_t)evening->nx + (x + 32) / 64;
+        numbers_of(evening, X)[row] = x;
+        numbers_of(evening, Y)[row] = y;
+        numbers_of(evening, VALUE)[row] = numbers_of(evening, FIRST_GUESS)[nearest] - 128 + draw(state, 256);
+        minutes_of(evening, OBSERVED)[row] = MINUTE - (uint32_t)draw(state, AGE);
+        minutes_of(evening, FROM)[row] = 0;
+        minutes_of(evening, UNTIL)[row] = SOSNYAVIK_NO_END;
+    }
+}
+
+struct evening make_evening(uint32_t nx, uint32_t ny, size_t masts) {
+    static const int32_t radius[PLAN] = {192, 96, 64}, limit[PLAN] = {640, 320, 256};
+    struct evening evening = {.nx = nx, .ny = ny, .scans = PLAN, .time = MINUTE, .age = AGE, .smooth = true};
+    const size_t lengths[COLUMNS] = {(size_t)nx * ny, masts, masts, masts, masts, masts, masts, PLAN, PLAN};
+    uint32_t state = 1955;
+    for (size_t c = 0; c < COLUMNS; c++)
+        evening.columns[c] = make_slice(lengths[c], ENTRY[c]);
+    for (uint32_t point = 0; point < nx * ny; point++)
+        numbers_of(&evening, FIRST_GUESS)[point] = 320 + 3 * (int32_t)(point % nx) - 16 + draw(&state, 32);
+    set_masts(&evening, &state);
+    memcpy(numbers_of(&evening, RADIUS), radius, sizeof radius);
+    memcpy(numbers_of(&evening, LIMIT), limit, sizeof limit);
+    if (masts >= 4) {
+        minutes_of(&evening, UNTIL)[0] = MINUTE;
+        numbers_of(&evening, VALUE)[1] = SOSNYAVIK_MISSING;
+        minutes_of(&evening, OBSERVED)[2] = MINUTE - AGE - 1;
+        numbers_of(&evening, VALUE)[3] += 1280;
+    }
+    return evening;
+}
+
+struct evening copy_evening(const struct evening *from) {
+    struct evening evening = *from;
+    for (size_t c = 0; c < COLUMNS; c++)
+        evening.columns[c] = copy_slice(&from->columns[c], from->columns[c].length);
+    return evening;
+}
+
+void free_evening(struct evening *evening) {
+    for (size_t c = 0; c < COLUMNS; c++)
+        free_slice(&evening->columns[c]);
+}
+
+void set_length(struct evening *evening, enum column column, size_t length) {
+    struct slice old = evening->columns[column];
+    evening->columns[column] = copy_slice(&old, length);
+    free_slice(&old);
+}
+
+struct answer make_answer(size_t grid, size_t support, size_t verdict, unsigned char pattern) {
+    struct answer answer = {.results = {make_slice(grid, sizeof(int32_t)), make_slice(support, sizeof(uint8_t)),
+                                        make_slice(verdict, sizeof(uint8_t))}};
+    for (size_t r = 0; r < RESULTS; r++)
+        fill_slice(&answer.results[r], pattern);
+    return answer;
+}
+
+struct answer whole_answer(const struct evening *evening, unsigned char pattern) {
+    size_t points = evening->columns[FIRST_GUESS].length;
+    return make_answer(points, points, evening->columns[X].length, pattern);
+}
+
+struct answer window_answer(const struct window *window, unsigned char pattern) {
+    size_t points = (size_t)(window->right - window->left + 1) * (window->bottom - window->top + 1);
+    return make_answer(points, points, 0, pattern);
+}
+
+void free_answer(struct answer *answer) {
+    for (size_t r = 0; r < RESULTS; r++)
+        free_slice(&answer->results[r]);
+}
+
+bool same_answer(const struct answer *a, const struct answer *b) {
+    for (size_t r = 0; r < RESULTS; r++) {
+        const struct slice *one = &a->results[r], *other = &b->results[r];
+        if (one->length != other->length)
+            return false;
+        if (one->length > 0 && memcmp(one->at, other->at, one->length * one->entry) != 0)
+            return false;
+    }
+    return true;
+}
+
+/* clang-format off */
+uint32_t analyse(const struct evening *evening, struct answer *answer) {
+    const struct slice *in = evening->columns, *out = answer->results;
+    return sosnyavik_analyse(
+        evening->nx, evening->ny, in[FIRST_GUESS].at, in[FIRST_GUESS].length,
+        in[X].at, in[X].length, in[Y].at, in[Y].length, in[VALUE].at, in[VALUE].length,
+        in[OBSERVED].at, in[OBSERVED].length, in[FROM].at, in[FROM].length, in[UNTIL].at, in[UNTIL].length,
+        evening->scans, in[RADIUS].at, in[RADIUS].length, in[LIMIT].at, in[LIMIT].length,
+        evening->smooth, evening->time, evening->age,
+        out[GRID].at, out[GRID].length, out[SUPPORT].at, out[SUPPORT].length, out[VERDICT].at, out[VERDICT].length);
+}
+
+uint32_t query(const struct evening *evening, const struct window *window, struct answer *answer) {
+    const struct slice *in = evening->columns, *out = answer->results;
+    return sosnyavik_window(
+        evening->nx, evening->ny, in[FIRST_GUESS].at, in[FIRST_GUESS].length,
+        window->left, window->right, window->top, window->bottom,
+        in[X].at, in[X].length, in[Y].at, in[Y].length, in[VALUE].at, in[VALUE].length,
+        in[OBSERVED].at, in[OBSERVED].length, in[FROM].at, in[FROM].length, in[UNTIL].at, in[UNTIL].length,
+        evening->scans, in[RADIUS].at, in[RADIUS].length, in[LIMIT].at, in[LIMIT].length,
+        evening->smooth, evening->time, evening->age,
+        out[GRID].at, out[GRID].length, out[SUPPORT].at, out[SUPPORT].length);
+}
+/* clang-format on */

@@ -1,0 +1,48 @@
+/* evening.h: an evening's request, its answers, and the archive's calls on them. */
+#ifndef EVENING_H
+#define EVENING_H
+
+#include "slices.h"
+#include "sosnyavik.h"
+
+/* The columns of a request, and the results of an answer, by name. */
+enum column { FIRST_GUESS, X, Y, VALUE, OBSERVED, FROM, UNTIL, RADIUS, LIMIT, COLUMNS };
+enum result { GRID, SUPPORT, VERDICT, RESULTS };
+
+struct evening {
+    uint32_t nx, ny, scans, time, age;
+    bool smooth;
+    struct slice columns[COLUMNS];
+};
+
+struct window {
+    uint32_t left, right, top, bottom;
+};
+
+struct answer {
+    struct slice results[RESULTS];
+};
+
+/* A spring evening on a grid of so many points, the same in every run. Of the masts one was taken down, one says
+ * nothing, one is too old and one reports a gross error. */
+struct evening make_evening(uint32_t nx, uint32_t ny, size_t masts);
+struct evening copy_evening(const struct evening *evening);
+void free_evening(struct evening *evening);
+
+/* Another number of entries in one column: those beyond the old ones are 0. */
+void set_length(struct evening *evening, enum column column, size_t length);
+
+int32_t *numbers_of(const struct evening *evening, enum column column);
+uint32_t *minutes_of(const struct evening *evening, enum column column);
+
+/* Results of the lengths that are asked for, all bytes the pattern. */
+struct answer make_answer(size_t grid, size_t support, size_t verdict, unsigned char pattern);
+struct answer whole_answer(const struct evening *evening, unsigned char pattern);
+struct answer window_answer(const struct window *window, unsigned char pattern);
+void free_answer(struct answer *answer);
+bool same_answer(const struct answer *a, const struct answer *b);
+
+uint32_t analyse(const struct evening *evening, struct answer *answer);
+uint32_t query(const struct evening *evening, const struct window *window, struct answer *answer);
+
+#endif

@@ -1,0 +1,171 @@
+/* threads.c: eight threads at once on the same inputs, and threads with no more stack than the header asks for. */
+#define _XOPEN_SOURCE 700
+
+#include "evening.h"
+#include "parts.h"
+
+#include <limits.h>
+#include <pthread.h>
+#include <stdio.h>
+#include <stdlib.h>
+#include <string.h>
+#include <unistd.h>
+
+enum { THREADS = 8, ROUNDS = 20, EVENINGS = 2, NX = 32, NY = 32, MASTS = 60 };
+
+static const struct window MIDDLE = {12, 19, 12, 19};
+
+/* What all threads share: two evenings, and what a run before them made of each. */
+struct known {
+    struct evening evening;
+    struct answer whole, part;
+    struct sosnyavik_summary summary;
+    double reading;
+};
+
+static struct known known[EVENINGS];
+static pthread_barrier_t at_once;
+
+static double read_middle(const struct answer *answer) {
+    const struct slice *grid = &answer->results[GRID], *support = &answer->results[SUPPORT];
+    return sosnyavik_reading_value(NX, NY, grid->at, grid->length, support->at, support->length, 1001, 1003);
+}
+
+static struct sosnyavik_summary sum_up(const struct answer *answer) {
+    return sosnyavik_summarise(NX, NY, answer->results[GRID].at, answer->results[GRID].length);
+}
+
+static bool same_doubles(const struct sosnyavik_summary *a, const struct sosnyavik_summary *b) {
+    return memcmp(&a->units, &b->units, sizeof a->units) == 0;
+}
+
+/* Each round has results of its own, filled anew: what is left out of one shows. */
+static void run_all(const struct known *k, unsigned char pattern) {
+    struct answer whole = whole_answer(&k->evening, pattern), part = window_answer(&MIDDLE, pattern);
+    must(analyse(&k->evening, &whole) == 0, "an analysis among threads");
+    must(query(&k->evening, &MIDDLE, &part) == 0, "a window query among threads");
+    must(same_answer(&whole, &k->whole) && same_answer(&part, &k->part), "an answer among threads");
+    double reading = read_middle(&whole);
+    struct sosnyavik_summary summary = sum_up(&whole);
+    must(memcmp(&reading, &k->reading, sizeof reading) == 0, "a reading among threads");
+    must(same_doubles(&summary, &k->summary), "a summary among threads");
+    free_answer(&whole);
+    free_answer(&part);
+}
+
+/* Half of the threads begin with the one evening and half with the other: what one call left behind for another to find
+ * would not fit. */
+static void *run_rounds(void *first) {
+    size_t which = *(const size_t *)first;
+    pthread_barrier_wait(&at_once);
+    for (int round = 0; round < ROUNDS; round++)
+        run_all(&known[(which + (size_t)round) % EVENINGS], (unsigned char)(UNTOUCHED + round));
+    return NULL;
+}
+
+static void make_known(struct known *k, int32_t warmer) {
+    k->evening = make_evening(NX, NY, MASTS);
+    for (size_t point = 0; point < NX * NY; point++)
+        numbers_of(&k->evening, FIRST_GUESS)[point] += warmer;
+    k->whole = whole_answer(&k->evening, UNTOUCHED);
+    k->part = window_answer(&MIDDLE, UNTOUCHED);
+    must(analyse(&k->evening, &k->whole) == 0 && query(&k->evening, &MIDDLE, &k->part) == 0, "an evening's answers");
+    k->reading = read_middle(&k->whole);
+    k->summary = sum_up(&k->whole);
+}
+
+static void free_known(struct known *k) {
+    free_answer(&k->whole);
+    free_answer(&k->part);
+    free_evening(&k->evening);
+}
+
+static void no_thread(void) {
+    fprintf(stderr, "host: a thread cannot be started: allow more threads and memory, and run again\n");
+    exit(2);
+}
+
+void try_threads(void) {
+    pthread_t threads[THREADS];
+    size_t first[THREADS];
+    for (size_t e = 0; e < EVENINGS; e++)
+        make_known(&known[e], 40 * (int32_t)e);
+    must(!same_answer(&known[0].whole, &known[1].whole), "the answer of a warmer evening");
+    if (pthread_barrier_init(&at_once, NULL, THREADS) != 0)
+        no_thread();
+    for (size_t i = 0; i < THREADS; i++) {
+        first[i] = i % EVENINGS;
+        if (pthread_create(&threads[i], NULL, run_rounds, &first[i]) != 0)
+            no_thread();
+    }
+    for (size_t i = 0; i < THREADS; i++)
+        pthread_join(threads[i], NULL);
+    pthread_barrier_destroy(&at_once);
+    printf("host: %d threads at once on two evenings, %d rounds each, the same answers bit for bit\n", THREADS, ROUNDS);
+    for (size_t e = 0; e < EVENINGS; e++)
+        free_known(&known[e]);
+}
+
+/* Made before its thread starts: the stack is for the call. */
+static struct answer small;
+
+static void *analyse_small(void *unused) {
+    must(analyse(&known[0].evening, &small) == 0, "an analysis on a small stack");
+    return unused;
+}
+
+static void *query_small(void *unused) {
+    must(query(&known[0].evening, &MIDDLE, &small) == 0, "a window query on a small stack");
+    return unused;
+}
+
+static void *read_small(void *unused) {
+    double value = read_middle(&known[0].whole);
+    must(memcmp(&value, &known[0].reading, sizeof value) == 0, "a reading on a small stack");
+    return unused;
+}
+
+static void *sum_up_small(void *unused) {
+    struct sosnyavik_summary s = sum_up(&known[0].whole);
+    must(same_doubles(&s, &known[0].summary), "a summary on a small stack");
+    return unused;
+}
+
+/* The address sanitizer takes stack of its own. */
+#if defined(__SANITIZE_ADDRESS__)
+enum { OF_THE_SANITIZER = 1 << 20 };
+#else
+enum { OF_THE_SANITIZER = 0 };
+#endif
+
+/* What the header promises for the call, and what a thread itself may take of its stack. Below lies a page that stops
+ * whoever takes more. */
+static size_t run_on(size_t promised, void *(*run)(void *)) {
+    size_t page = (size_t)sysconf(_SC_PAGESIZE), size = promised + PTHREAD_STACK_MIN + OF_THE_SANITIZER;
+    pthread_attr_t attributes;
+    pthread_t thread;
+    size = (size + page - 1) / page * page;
+    if (pthread_attr_init(&attributes) != 0 || pthread_attr_setstacksize(&attributes, size + page) != 0 ||
+        pthread_attr_setguardsize(&attributes, page) != 0 || pthread_create(&thread, &attributes, run, NULL) != 0)
+        no_thread();
+    pthread_join(thread, NULL);
+    pthread_attr_destroy(&attributes);
+    return size;
+}
+
+void try_small_stacks(void) {
+    make_known(&known[0], 0);
+    small = whole_answer(&known[0].evening, UNTOUCHED);
+    size_t analysis = run_on(SOSNYAVIK_STACK_ANALYSE, analyse_small);
+    must(same_answer(&small, &known[0].whole), "the answer of an analysis on a small stack");
+    free_answer(&small);
+    small = window_answer(&MIDDLE, UNTOUCHED);
+    size_t window = run_on(SOSNYAVIK_STACK_WINDOW, query_small);
+    must(same_answer(&small, &known[0].part), "the answer of a window query on a small stack");
+    free_answer(&small);
+    size_t read = run_on(SOSNYAVIK_STACK_READING, read_small);
+    size_t summed = run_on(SOSNYAVIK_STACK_SUMMARISE, sum_up_small);
+    printf("host: threads with stacks of %zu (analysis), %zu (window), %zu (reading) and %zu (summary) bytes\n",
+           analysis, window, read, summed);
+    free_known(&known[0]);
+}
