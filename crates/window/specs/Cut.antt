@@ -9,10 +9,10 @@ use lib.Seq.{getD-take}
 use lib.IntN.{ℤ, pos}
 use Rattle.lists.specs.Tab.{tab, is-tab, map-tab}
 use Rattle.scheme.specs.Units.{Request, Columns, Station, Field, guess, stationAt, stations, stored}
-use Rattle.scheme.specs.Refusals.{Window, pointsOf}
+use Rattle.scheme.specs.Refusals.{Window}
 use Rattle.scheme.specs.Scan.{after}
-use Rattle.scheme.specs.Reach.{reach, Span, pointsAlong, widened, columnsCut, rowsCut, onCut, stationsCut, cut, windowOf, wholeAt}
-use Rattle.scheme.specs.Accepted.{Shaped, Sound, OnGrid}
+use Rattle.scheme.specs.Reach.{Span, pointsAlong, widened, columnsCut, rowsCut, onCut, stationsCut, cut, windowOf, wholeAt}
+use Rattle.scheme.specs.Accepted.{Sound, OnGrid}
 use Rattle.scheme.specs.Promises.{requestOf, windowAt}
 use Rattle.scheme.specs.Stored.{stored-same}
 use Rattle.scheme.specs.Cut.{cut-sound}
@@ -20,15 +20,6 @@ use Rattle.scheme.specs.Windows.{window-value, window-support}
 use Rattle.window.specs.Kept.{Long, KeepReady, Kept}
 use Rattle.window.specs.Part.{partOf, PartReady, part-ready}
 use Rattle.window.specs.Query.{QueryReady, prefix-long}
-
--- the spans as the code finds them
-pub columns-are : (q : Request) (w : Window) (s : Span) (r : ℕ) → r ≡ reach q → s ≡ widened r (q .nx) (w .left) (w .right) → s ≡ columnsCut q w
-unfolding columnsCut
-columns-are q w s r e h = h ∙ rw e
-
-pub rows-are : (q : Request) (w : Window) (s : Span) (r : ℕ) → r ≡ reach q → s ≡ widened r (q .ny) (w .top) (w .bottom) → s ≡ rowsCut q w
-unfolding rowsCut
-rows-are q w s r e h = h ∙ rw e
 
 -- the window from the cut's lower corner
 abbrev pub moved : Span → Span → Window → Window
@@ -43,19 +34,18 @@ pub record Sides (q : Request) (w : Window) (columns rows : Span) : Type 0 where
   pub bottom : w .bottom ≤ rows .last
   pub below : rows .last < q .ny
 
-module _ (q : Request) (w : Window) (sound : Sound q) (on : OnGrid q w) where
-  pub sides : {columns rows : Span} → columns ≡ columnsCut q w → rows ≡ rowsCut q w → Sides q w columns rows
-  unfolding columnsCut rowsCut widened
-  sides cs rs =
-      rw (cs, rs)
-      (record {
-        left = omega arith;
-        right = omega (arith, on .right);
-        inside = omega (arith, on .right);
-        top = omega arith;
-        bottom = omega (arith, on .bottom);
-        below = omega (arith, on .bottom);
-      })
+pub sides : (q : Request) (w : Window) → OnGrid q w → {columns rows : Span} → columns ≡ columnsCut q w → rows ≡ rowsCut q w → Sides q w columns rows
+unfolding columnsCut rowsCut widened
+sides q w on cs rs =
+    rw (cs, rs)
+    (record {
+      left = omega arith;
+      right = omega (arith, on .right);
+      inside = omega (arith, on .right);
+      top = omega arith;
+      bottom = omega (arith, on .bottom);
+      below = omega (arith, on .bottom);
+    })
 
 -- ---- what the work needs on the way
 
@@ -130,7 +120,7 @@ module _ (q : Request) (w : Window) {columns rows : Span} (cs : columns ≡ colu
 
 module _ (q : Request) (w : Window) (sound : Sound q) (on : OnGrid q w) {columns rows : Span} (cs : columns ≡ columnsCut q w) (rs : rows ≡ rowsCut q w) where
   abbrev side : Sides q w columns rows
-  side = sides q w sound on cs rs
+  side = sides q w on cs rs
 
   -- as wide and as high
   same-width : w .right - columns .first - (w .left - columns .first) + 1 ≡ w .right - w .left + 1

@@ -38,7 +38,7 @@ pub record Long (c : Columns) : Type 0 where
   pub until : length (c .until) ≡ 512
 
 module _ (c : Columns) (m : ℕ) (s : Station) where
-  pub put-long : Long c → Long (putAt c m s)
+  put-long : Long c → Long (putAt c m s)
   put-long l =
       record {
         x = length-set (c .x) m (s .x) ∙ l .x;
@@ -96,10 +96,10 @@ module _ {A B : Type 0} (p : A → Bool) (f : A → B) (a : A) where
       go true h = ap (λ (r : List B). f b ∷ r) h
       go false h = h
 
-  kept-same : (l : List A) → p a ≡ false → keep p (l ++ (a ∷ [])) ≡ keep p l
-  unfolding keep
-  kept-same [] e = rw e
-  kept-same (b ∷ l) e = ap (λ (r : List A). cond (p b) (b ∷ r) r) (kept-same l e)
+kept-same : {A : Type 0} (p : A → Bool) (a : A) (l : List A) → p a ≡ false → keep p (l ++ (a ∷ [])) ≡ keep p l
+unfolding keep
+kept-same p a [] e = rw e
+kept-same {A = A} p a (b ∷ l) e = ap (λ (r : List A). cond (p b) (b ∷ r) r) (kept-same p a l e)
 
 -- ---- the loop
 
@@ -127,7 +127,7 @@ module _ (columns rows : Span) (all : Columns) where
   unfolding tab keep
   kept-none c = record { no-more = omega arith; stations = refl }
 
-  pub kept-next : (c : Columns) (k m : ℕ) (s : Station) → Long c → m < 512 → s ≡ counted columns rows (stationAt all k) → Kept columns rows all c k m
+  kept-next : (c : Columns) (k m : ℕ) (s : Station) → Long c → m < 512 → s ≡ counted columns rows (stationAt all k) → Kept columns rows all c k m
       → Kept columns rows all (putAt c m s) (k + 1) (m + cond (onSpans columns rows (stationAt all k)) 1 0)
   kept-next c k m s l h e p = go (onSpans columns rows (stationAt all k)) refl
     where
@@ -147,7 +147,7 @@ module _ (columns rows : Span) (all : Columns) where
           rw z
           (record {
             no-more = omega (arith, p .no-more);
-            stations = before ∙ rw (tab-more k (stationAt all), kept-same (onSpans columns rows) (counted columns rows) (stationAt all k) (tab k (stationAt all)) q);
+            stations = before ∙ rw (tab-more k (stationAt all), kept-same (onSpans columns rows) (stationAt all k) (tab k (stationAt all)) q);
           })
 
   -- a turn, of the numbers that the code has

@@ -2,7 +2,7 @@
 use Prim.Native.Nat.{ℕ, _+_, _-_, _*_, _/_, _%_, _≤_, _<_}
 use native.Mathlib.Omega.{arith}
 use native.Mathlib.Nat.{add-comm, mul-comm, mul-le-mul, mul-le-mul-right}
-use mathlib.Core.Path.{_≡_, refl, sym, ap, _∙_}
+use mathlib.Core.Path.{_≡_, sym, ap, _∙_}
 use mathlib.Core.List.{List}
 use lib.Arith.{digits-div, digits-mod}
 use lib.ListN.{length, getD, set}
@@ -69,8 +69,8 @@ abbrev pub partK : {A : Type 0} → A → (across column row wide : ℕ) → Lis
 partK past across column row wide from k = partOf past across column row from (k % wide) (k / wide)
 
 module _ {A : Type 0} (past : A) (across column row wide high : ℕ) (from : List A) where
-  abbrev goal : ℕ → A
-  goal = partK past across column row wide from
+  abbrev partAt : ℕ → A
+  partAt = partK past across column row wide from
 
   -- row j
   pub row-ready : {to : ℕ} → PartReady to (length from) across column row wide high → (j : ℕ) → j < high → CopyReady to (j * wide) (length from) ((row + j) * across + column) wide
@@ -85,17 +85,17 @@ module _ {A : Type 0} (past : A) (across column row wide high : ℕ) (from : Lis
       below : (j : ℕ) → j < high → row + j + 1 ≤ row + high
       below j h = omega arith
 
-  pub part-none : (to : List A) → Filled past goal 0 (0 * wide) to to
-  part-none to = filled-none past goal 0 (0 * wide) to (omega arith)
+  pub part-none : (to : List A) → Filled past partAt 0 (0 * wide) to to
+  part-none to = filled-none past partAt 0 (0 * wide) to (omega arith)
 
-  pub part-next : (to₀ to to' : List A) (j : ℕ) → Filled past goal 0 (j * wide) to₀ to
-      → Filled past (copied past (j * wide) from ((row + j) * across + column)) (j * wide) (j * wide + wide) to to' → Filled past goal 0 ((j + 1) * wide) to₀ to'
+  pub part-next : (to₀ to to' : List A) (j : ℕ) → Filled past partAt 0 (j * wide) to₀ to
+      → Filled past (copied past (j * wide) from ((row + j) * across + column)) (j * wide) (j * wide + wide) to to' → Filled past partAt 0 ((j + 1) * wide) to₀ to'
   unfolding fieldOf
   part-next to₀ to to' j p q =
       let e : (j + 1) * wide ≡ j * wide + wide = omega arith in
-      rw e (filled-join past goal _ 0 (j * wide) (j * wide + wide) to₀ to to' (omega arith) (omega arith) same p q)
+      rw e (filled-join past partAt _ 0 (j * wide) (j * wide + wide) to₀ to to' (omega arith) (omega arith) same p q)
     where
-      same : (k : ℕ) → j * wide ≤ k → k < j * wide + wide → copied past (j * wide) from ((row + j) * across + column) k ≡ goal k
+      same : (k : ℕ) → j * wide ≤ k → k < j * wide + wide → copied past (j * wide) from ((row + j) * across + column) k ≡ partAt k
       same k h m =
           let i = k - j * wide in
           let e : k ≡ j * wide + i = omega arith in
@@ -104,8 +104,8 @@ module _ {A : Type 0} (past : A) (across column row wide high : ℕ) (from : Lis
           let s : (row + j) * across + column + i ≡ (j + row) * across + (i + column) = omega (arith, ap (λ (n : ℕ). n * across) (add-comm row j)) in
           rw (a, b) (ap (λ (n : ℕ). getD from n past) s)
 
-  pub part-all : (to₀ to : List A) → length to₀ ≡ wide * high → Filled past goal 0 (high * wide) to₀ to → to ≡ stored wide high (partOf past across column row from)
+  pub part-all : (to₀ to : List A) → length to₀ ≡ wide * high → Filled past partAt 0 (high * wide) to₀ to → to ≡ stored wide high (partOf past across column row from)
   unfolding stored
   part-all to₀ to e p =
       let h = rw (mul-comm high wide) at p in
-      filled-all past goal (wide * high) to₀ to e h
+      filled-all past partAt (wide * high) to₀ to e h

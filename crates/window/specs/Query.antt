@@ -1,18 +1,18 @@
 -- An accepted query: what it needs, and that the analysis, of the whole grid or of the cut, gives what it promises.
-use Prim.Native.Nat.{ℕ, _+_, _-_, _*_, _≤_, _<_}
+use Prim.Native.Nat.{ℕ, _+_, _-_, _*_, _≤_}
 use native.Mathlib.Omega.{arith}
-use mathlib.Core.Path.{_≡_, refl, sym, ap, _∙_}
+use mathlib.Core.Path.{_≡_, ap, _∙_}
 use mathlib.Core.List.{List, _++_}
-use lib.ListN.{length, getD, take, drop, length-append, length-take}
+use lib.ListN.{length, take, drop, length-append, length-take}
 use lib.Seq.{take-at}
 use lib.IntN.{ℤ, pos}
-use Rattle.scheme.specs.Units.{Request, Field, stored, fieldOf}
+use Rattle.scheme.specs.Units.{Request, Field, stored}
 use Rattle.scheme.specs.Refusals.{accepted, Window, pointsOf, windowRefusal}
 use Rattle.scheme.specs.Scan.{after, analysis}
-use Rattle.scheme.specs.Reach.{windowOf, Tile, wholeAt}
-use Rattle.scheme.specs.Accepted.{Shaped, same-shape, Sound, OnGrid, window-sound, window-on-grid}
+use Rattle.scheme.specs.Reach.{windowOf, wholeAt}
+use Rattle.scheme.specs.Accepted.{Shaped, Sound, OnGrid, window-sound, window-on-grid}
 use Rattle.scheme.specs.Promises.{slices, tile}
-use Rattle.scheme.specs.Stored.{Same, length-stored, field-stored, stored-same}
+use Rattle.scheme.specs.Stored.{length-stored, field-stored, stored-same}
 use Rattle.window.specs.Part.{partOf, PartReady, part-ready}
 
 pub record QueryReady (q : Request) (w : Window) (grid support : ℕ) : Type 0 where

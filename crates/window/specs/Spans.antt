@@ -2,9 +2,8 @@
 use Prim.Native.Nat.{ℕ, _+_, _-_, _*_, _/_, _≤_, _<_}
 use native.Mathlib.Omega.{arith}
 use mathlib.Core.Path.{_≡_, refl, sym, ap, _∙_}
-use mathlib.Core.Bool.{Bool, true, false, cond}
+use mathlib.Core.Bool.{Bool, true, false, cond, _&&_}
 use mathlib.Core.List.{List}
-use borrow.Author.Tests.{le-leb, lt-leb}
 use lib.Dec.{T, leb}
 use lib.ListN.{length, getD}
 use lib.IntN.{ℤ, pos, negsuc, natAbs}
@@ -68,33 +67,14 @@ pub one-most : (b : Bool) → cond b 1 0 ≤ 1
 one-most true = omega arith
 one-most false = omega arith
 
--- ---- positions on a span: below zero on none, and from zero on by two comparisons
+-- ---- positions on a span: one below zero is on none, and any other is where it says
 
 pub below-span : (c : Span) (x : ℤ) → ltZ x (pos 0) ≡ true → onSpan c x ≡ false
 unfolding onSpan
 below-span c (pos x) e = absurd (omega (arith, less-parts (pos x) (pos 0) e))
 below-span c (negsuc x) e = refl
 
-module _ (c : Span) (x : ℤ) (e : ltZ x (pos 0) ≡ false) where
-  pub from-zero : T (nonNeg x)
-  from-zero = go x e
-    where
-      go : (x : ℤ) → ltZ x (pos 0) ≡ false → T (nonNeg x)
-      go (pos x) e = tt
-      go (negsuc x) e = absurd (omega (arith, not-less-parts (negsuc x) (pos 0) e))
-
-  pub before-span : natAbs x < step * c .first → onSpan c x ≡ false
-  unfolding onSpan
-  before-span = go x e
-    where
-      go : (x : ℤ) → ltZ x (pos 0) ≡ false → natAbs x < step * c .first → onSpan c x ≡ false
-      go (pos x) e h = rw (lt-leb (step * c .first) x h)
-      go (negsuc x) e h = refl
-
-  pub along-span : step * c .first ≤ natAbs x → onSpan c x ≡ leb (natAbs x) (step * c .last)
-  unfolding onSpan
-  along-span = go x e
-    where
-      go : (x : ℤ) → ltZ x (pos 0) ≡ false → step * c .first ≤ natAbs x → onSpan c x ≡ leb (natAbs x) (step * c .last)
-      go (pos x) e h = rw (le-leb (step * c .first) x h)
-      go (negsuc x) e h = absurd (omega (arith, not-less-parts (negsuc x) (pos 0) e))
+pub along-span : (c : Span) (x : ℤ) → ltZ x (pos 0) ≡ false → (T (nonNeg x)) × (leb (step * c .first) (natAbs x) && leb (natAbs x) (step * c .last) ≡ onSpan c x)
+unfolding onSpan
+along-span c (pos x) e = (tt, refl)
+along-span c (negsuc x) e = absurd (omega (arith, not-less-parts (negsuc x) (pos 0) e))

@@ -1,8 +1,8 @@
 // The window query over lent slices (document 01, "Reach of a window"): the analysis of the cut alone, and of it the window's points.
 ghost use mathlib.Core.Path.{_≡_};
 ghost use mathlib.Core.Bool.{cond, _&&_};
-ghost use Prim.Native.Nat.{ℕ, _+_, _-_, _*_, _/_, _≤_, _<_, min};
-ghost use lib.ListN.{length, getD};
+ghost use Prim.Native.Nat.{_+_, _-_, _*_, _/_, _≤_, _<_, min};
+ghost use lib.ListN.{length};
 ghost use lib.IntN.{pos, natAbs, _-ℤ_};
 ghost use Rattle.lists.specs.Filled.{Filled};
 ghost use Rattle.scheme.specs.Units.{Request, step, stored, mostRadius, mostPosition};
@@ -40,12 +40,12 @@ fn reach(radius: &[i32], count: usize, smooth: bool) -> usize
 }
 
 // From first to last, along one axis.
-pub struct Span {
-    pub first: usize,
-    pub last: usize,
+struct Span {
+    first: usize,
+    last: usize,
 }
 
-// Less b, and no further than 0.
+// a less b, and no less than 0.
 fn less(a: usize, b: usize) -> usize
     ensures { λ r. ⌜ r ≡ a - b ⌝ }
 {

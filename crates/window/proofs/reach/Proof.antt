@@ -1,7 +1,7 @@
 -- `window::reach` meets its contract. The loop's invariant: the total is that of the scans passed. Assumes nothing.
-use Prim.Native.Nat.{ℕ, _+_, _-_, _*_, _≤_, _<_}
+use Prim.Native.Nat.{_+_, _-_, _*_, _≤_}
 use native.Mathlib.Omega.{arith}
-use mathlib.Core.Path.{_≡_, refl, ap, _∙_}
+use mathlib.Core.Path.{_≡_, ap, _∙_}
 use lib.ListN.{getD}
 use lib.IntN.{ℤ, pos, natAbs}
 use mir.Syntax.{w32}

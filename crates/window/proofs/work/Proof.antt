@@ -9,14 +9,14 @@ use lib.ListN.{length, take, drop, replicate, length-replicate}
 use lib.IntN.{ℤ, pos}
 use Rattle.scheme.specs.Units.{Request, Columns, stored}
 use Rattle.scheme.specs.Refusals.{Window}
-use Rattle.scheme.specs.Reach.{Span, pointsAlong, columnsCut, rowsCut, cut, wholeAt}
+use Rattle.scheme.specs.Reach.{reach, Span, pointsAlong, columnsCut, rowsCut, cut, wholeAt}
 use Rattle.scheme.specs.Promises.{sixColumns, requestOf, windowAt}
 use Rattle.scheme.specs.Stored.{length-stored}
 use Rattle.window.specs.Spans.{fromTo, planned}
 use Rattle.window.specs.Kept.{Long, Kept}
 use Rattle.window.specs.Part.{partOf}
 use Rattle.window.specs.Query.{QueryReady, prefix-long, prefix-back, prefix-in}
-use Rattle.window.specs.Cut.{columns-are, rows-are, moved, Sides, sides, few-points, guess-part, keep-ready, cut-made, cut-ready, cut-whole}
+use Rattle.window.specs.Cut.{moved, Sides, sides, few-points, guess-part, keep-ready, cut-made, cut-ready, cut-whole}
 use Rattle.window.proofs.work.Statement.{statement}
 use Rattle.window.proofs.work.Tie as tie
 use Rattle.window.proofs.work.Reads as reads
@@ -49,18 +49,19 @@ module _ (c : lts.After-widened2 (reach-reads.Asked, reach-reads.Learnt, widened
   abbrev points : ℕ
   points = pointsAlong columns * pointsAlong rows
 
+  reach-is : c .before .before .reach .result ≡ reach (q start)
+  reach-is = c .before .before .reach .ensures .1 (q start) (record { radius-is = refl; scans-are = refl; smooth-is = refl })
+
   columns-is : columns ≡ columnsCut (q start) (w start)
-  columns-is =
-      columns-are (q start) (w start) columns (c .before .before .reach .result)
-      (c .before .before .reach .ensures .1 (q start) (record { radius-is = refl; scans-are = refl; smooth-is = refl })) (c .before .widened .ensures)
+  unfolding columnsCut
+  columns-is = rw reach-is at (c .before .widened .ensures)
 
   rows-is : rows ≡ rowsCut (q start) (w start)
-  rows-is =
-      rows-are (q start) (w start) rows (c .before .before .reach .result)
-      (c .before .before .reach .ensures .1 (q start) (record { radius-is = refl; scans-are = refl; smooth-is = refl })) (c .widened2 .ensures)
+  unfolding rowsCut
+  rows-is = rw reach-is at (c .widened2 .ensures)
 
   side : Sides (q start) (w start) columns rows
-  side = sides (q start) (w start) (start .pre .sound) (start .pre .on-grid) columns-is rows-is
+  side = sides (q start) (w start) (start .pre .on-grid) columns-is rows-is
 
   few : points ≤ 4096
   few = few-points (q start) (w start) (start .pre .sound) (start .pre .on-grid) columns rows side
