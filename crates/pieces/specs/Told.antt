@@ -1,6 +1,6 @@
 -- What reading at a place answers, as the definitions of the text say it: what is read, and the bytes from the next place on.
 use Prim.Native.Nat.{ℕ, _^_, _≤_, min}
-use mathlib.Core.Path.{_≡_}
+use mathlib.Core.Path.{_≡_, ap, _∙_}
 use mathlib.Core.List.{List}
 use lib.ListN.{drop}
 use lib.IntN.{ℤ}
@@ -50,3 +50,9 @@ Within low high NotUnsigned = Unit {0}
 pub record Lies (n : NaturalRead) (low high : ℕ) (r : UnsignedRead) : Type 0 where
   pub said : (s : List ℕ) → between low high (naturalTold s n) ≡ unsignedTold s r
   pub within : Within low high r
+
+-- ---- laws
+
+-- a piece that was read, and then what must follow it, as code reads them
+pub before-told : {A B : Type 0} {p m r v : Parsed A} (q : Piece B) → p ≡ m → follows m q ≡ r → r ≡ v → follows p q ≡ v
+before-told {A = A} q e f g = ap (λ (x : Parsed A). follows x q) e ∙ f ∙ g
