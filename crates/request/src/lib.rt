@@ -5,10 +5,12 @@ ghost use lib.ListN.{length, take, drop};
 ghost use Rattle.lists.specs.Tab.{tab};
 ghost use Rattle.scheme.specs.Units.{stationAt};
 ghost use Rattle.scheme.specs.Text.Pieces.{signed, following, values, count, _before_};
-ghost use Rattle.scheme.specs.Text.Lines.{number, gridLine, scanLine, rowLine, stationLine, observation, end};
-ghost use Rattle.scheme.specs.Text.Order.{lines, rows};
+ghost use Rattle.scheme.specs.Text.{defaultAge, requestLines};
+ghost use Rattle.scheme.specs.Text.Lines.{number, gridLine, ageLine, scanLine, rowLine, stationLine, observation, end};
+ghost use Rattle.scheme.specs.Text.Order.{read, optional, lines, rows};
 ghost use Rattle.scheme.specs.Promises.{sixColumns};
 ghost use Rattle.pieces.specs.Told.{unsignedTold, signedTold, Within};
+ghost use Rattle.request.specs.Whole.{Heads, Limits, Lent, Ends, afterHead, requestTold, Fits};
 ghost use Rattle.request.specs.Told.{sizeTold, entryTold, stationTold, valuesTold, linesTold, entryAt, Room};
 use pieces::SignedRead;
 use pieces::UnsignedRead;
@@ -19,6 +21,9 @@ const MISSING: i32 = -2147483648;
 
 // The largest u32 means no end.
 const NO_END: u32 = 4294967295;
+
+// `age` may be left out, which means 120.
+const DEFAULT_AGE: u32 = 120;
 
 // What a line says and the place after it, or that it is not in form.
 pub enum SizeRead {
@@ -48,6 +53,53 @@ pub enum StationRead {
 // Where lines end, or the first of them that is not in form.
 pub enum LinesRead {
     Next(usize),
+    NotInForm(usize),
+}
+
+// What the age line says, or 120; the number of the line after it, and its place.
+pub struct Age {
+    pub age: u32,
+    pub line: usize,
+    pub next: usize,
+}
+
+// What the lines before the scans say; the number of the line after them, and its place.
+pub struct Head {
+    pub nx: u32,
+    pub ny: u32,
+    pub time: u32,
+    pub age: u32,
+    pub smooth: bool,
+    pub scans: u32,
+    pub line: usize,
+    pub next: usize,
+}
+
+pub enum HeadRead {
+    Value(Head),
+    NotInForm(usize),
+}
+
+// How many stations there are, or the first line not in form.
+pub enum StationsRead {
+    Rows(usize),
+    NotInForm(usize),
+}
+
+// What the caller's columns do not hold of a request, with the number of the line after the last; or the first line not in form.
+pub struct Asked {
+    pub nx: u32,
+    pub ny: u32,
+    pub time: u32,
+    pub age: u32,
+    pub smooth: bool,
+    pub scans: u32,
+    pub stations: usize,
+    pub line: usize,
+}
+
+pub enum RequestRead {
+    Value(Asked),
     NotInForm(usize),
 }
 
@@ -257,4 +309,180 @@ fn station_lines(
         i += 1;
     }
     LinesRead::Next(p)
+}
+
+// ---- the whole request
+
+// A line that may be left out.
+fn age_line(s: &[u8], at: usize, line: usize) -> Age
+    requires { ⌜ line ≤ 3 ⌝ }
+    ensures { λ r. ⌜ (optional defaultAge ageLine line (drop at (now (s .entry))) ≡ read (r .age) (r .line) (drop (r .next) (now (s .entry)))) × (r .line ≤ 4) ⌝ }
+{
+    let UnsignedRead::Value(age, next) = number_line(s, at, b"age=", 0, 4294967295) else {
+        return Age {
+            age: DEFAULT_AGE,
+            line,
+            next: at,
+        };
+    };
+    Age {
+        age,
+        line: line + 1,
+        next,
+    }
+}
+
+// The lines before the scans.
+fn head_lines(s: &[u8]) -> HeadRead
+    ensures { λ r. ⌜ Heads (now (s .entry)) r ⌝ }
+{
+    let SizeRead::Value(nx, ny, p) = grid_line(s, 0) else {
+        return HeadRead::NotInForm(1);
+    };
+    let UnsignedRead::Value(time, q) = number_line(s, p, b"time=", 0, 4294967295) else {
+        return HeadRead::NotInForm(2);
+    };
+    let aged = age_line(s, q, 3);
+    let at = aged.next;
+    let UnsignedRead::Value(smooth, u) = number_line(s, at, b"smooth=", 0, 1) else {
+        return HeadRead::NotInForm(aged.line);
+    };
+    let UnsignedRead::Value(scans, next) = number_line(s, u, b"scans=", 1, 6) else {
+        return HeadRead::NotInForm(aged.line + 1);
+    };
+    let h = Head {
+        nx,
+        ny,
+        time,
+        age: aged.age,
+        smooth: smooth == 1,
+        scans,
+        line: aged.line + 2,
+        next,
+    };
+    HeadRead::Value(h)
+}
+
+// The stations, and nothing after.
+fn last_lines(
+    s: &[u8],
+    at: usize,
+    line: usize,
+    x: &mut [i32],
+    y: &mut [i32],
+    value: &mut [i32],
+    observed: &mut [u32],
+    from: &mut [u32],
+    until: &mut [u32],
+) -> StationsRead
+    requires { ⌜ (line ≤ 76) × Room 512 (sixColumns (now x) (now y) (now value) (now observed) (now from) (now until)) ⌝ }
+    ensures { λ r. ⌜ Ends line (drop at (now (s .entry))) (sixColumns (now (x .exit)) (now (y .exit)) (now (value .exit)) (now (observed .exit)) (now (from .exit)) (now (until .exit))) r ⌝ }
+{
+    let UnsignedRead::Value(count, p) = number_line(s, at, b"stations=", 0, 512) else {
+        return StationsRead::NotInForm(line);
+    };
+    let n = count as usize;
+    match station_lines(
+        s,
+        p,
+        line + 1,
+        n,
+        x,
+        y,
+        value,
+        observed,
+        from,
+        until,
+    ) {
+        LinesRead::NotInForm(k) => StationsRead::NotInForm(k),
+        LinesRead::Next(next) => {
+            if next < s.len() {
+                return StationsRead::NotInForm(line + 1 + n);
+            }
+            StationsRead::Rows(n)
+        }
+    }
+}
+
+// The lines from the scans on.
+fn after_head(
+    s: &[u8],
+    h: Head,
+    guess: &mut [i32],
+    radius: &mut [i32],
+    limit: &mut [i32],
+    x: &mut [i32],
+    y: &mut [i32],
+    value: &mut [i32],
+    observed: &mut [u32],
+    from: &mut [u32],
+    until: &mut [u32],
+) -> RequestRead
+    requires { ⌜ Limits h × Lent (now guess) (now radius) (now limit) (sixColumns (now x) (now y) (now value) (now observed) (now from) (now until)) ⌝ }
+    ensures { λ r. ⌜ (afterHead h (h .line) (drop (h .next) (now (s .entry))) ≡ requestTold (now (guess .exit)) (now (radius .exit)) (now (limit .exit)) (sixColumns (now (x .exit)) (now (y .exit)) (now (value .exit)) (now (observed .exit)) (now (from .exit)) (now (until .exit))) r) × Fits r ⌝ }
+{
+    let at = h.next;
+    let scans = h.scans as usize;
+    let nx = h.nx as usize;
+    let ny = h.ny as usize;
+    let rows = h.line + scans;
+    let last = rows + ny;
+    match scan_lines(s, at, h.line, scans, radius, limit) {
+        LinesRead::NotInForm(k) => RequestRead::NotInForm(k),
+        LinesRead::Next(p) => match row_lines(s, p, rows, nx, ny, guess) {
+            LinesRead::NotInForm(k) => RequestRead::NotInForm(k),
+            LinesRead::Next(q) => match last_lines(s, q, last, x, y, value, observed, from, until) {
+                StationsRead::NotInForm(k) => RequestRead::NotInForm(k),
+                StationsRead::Rows(n) => {
+                    let asked = Asked {
+                        nx: h.nx,
+                        ny: h.ny,
+                        time: h.time,
+                        age: h.age,
+                        smooth: h.smooth,
+                        scans: h.scans,
+                        stations: n,
+                        line: last + 1 + n,
+                    };
+                    RequestRead::Value(asked)
+                }
+            },
+        },
+    }
+}
+
+// The whole request.
+pub fn read_request(
+    s: &[u8],
+    guess: &mut [i32],
+    radius: &mut [i32],
+    limit: &mut [i32],
+    x: &mut [i32],
+    y: &mut [i32],
+    value: &mut [i32],
+    observed: &mut [u32],
+    from: &mut [u32],
+    until: &mut [u32],
+) -> RequestRead
+    requires { ⌜ Lent (now guess) (now radius) (now limit) (sixColumns (now x) (now y) (now value) (now observed) (now from) (now until)) ⌝ }
+    ensures { λ r. ⌜ (requestLines 1 (now (s .entry)) ≡ requestTold (now (guess .exit)) (now (radius .exit)) (now (limit .exit)) (sixColumns (now (x .exit)) (now (y .exit)) (now (value .exit)) (now (observed .exit)) (now (from .exit)) (now (until .exit))) r) × Fits r ⌝ }
+{
+    match head_lines(s) {
+        HeadRead::NotInForm(k) => RequestRead::NotInForm(k),
+        HeadRead::Value(h) => {
+            after_head(
+                s,
+                h,
+                guess,
+                radius,
+                limit,
+                x,
+                y,
+                value,
+                observed,
+                from,
+                until,
+            )
+        }
+    }
 }
