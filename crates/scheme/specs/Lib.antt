@@ -22,6 +22,7 @@ pub mod Nearest
 pub mod Weights
 pub mod Adding
 pub mod Cells
+pub mod Decimals
 pub mod Stored
 pub mod Bounds
 pub mod Support
