@@ -53,13 +53,13 @@ pub enum StationRead {
 // Where lines end, or the first of them that is not in form.
 pub enum LinesRead {
     Next(usize),
-    NotInForm(usize),
+    NotInForm(u32),
 }
 
 // What the age line says, or 120; the number of the line after it, and its place.
 pub struct Age {
     pub age: u32,
-    pub line: usize,
+    pub line: u32,
     pub next: usize,
 }
 
@@ -71,19 +71,19 @@ pub struct Head {
     pub age: u32,
     pub smooth: bool,
     pub scans: u32,
-    pub line: usize,
+    pub line: u32,
     pub next: usize,
 }
 
 pub enum HeadRead {
     Value(Head),
-    NotInForm(usize),
+    NotInForm(u32),
 }
 
 // How many stations there are, or the first line not in form.
 pub enum StationsRead {
-    Rows(usize),
-    NotInForm(usize),
+    Rows(u32),
+    NotInForm(u32),
 }
 
 // What the caller's columns do not hold of a request, with the number of the line after the last; or the first line not in form.
@@ -94,13 +94,13 @@ pub struct Asked {
     pub age: u32,
     pub smooth: bool,
     pub scans: u32,
-    pub stations: usize,
-    pub line: usize,
+    pub stations: u32,
+    pub line: u32,
 }
 
 pub enum RequestRead {
     Value(Asked),
-    NotInForm(usize),
+    NotInForm(u32),
 }
 
 // ---- lines, each at a place of the text
@@ -239,7 +239,7 @@ fn row_line(s: &[u8], at: usize, z: &mut [i32]) -> WordRead
 
 // ---- lines of a kind, the first of which is line number line, into the front of the caller's columns
 
-fn scan_lines(s: &[u8], at: usize, line: usize, n: usize, radius: &mut [i32], limit: &mut [i32]) -> LinesRead
+fn scan_lines(s: &[u8], at: usize, line: u32, n: usize, radius: &mut [i32], limit: &mut [i32]) -> LinesRead
     requires { ⌜ (line + n < 2 ^ 32) × (n ≤ length (now radius)) × (n ≤ length (now limit)) ⌝ }
     ensures { λ r. ⌜ lines n scanLine line (drop at (now (s .entry))) ≡ linesTold (now (s .entry)) (tab n (entryAt (now (radius .exit)) (now (limit .exit)))) (line + n) r ⌝ }
 {
@@ -247,7 +247,7 @@ fn scan_lines(s: &[u8], at: usize, line: usize, n: usize, radius: &mut [i32], li
     let mut i: usize = 0;
     while i < n {
         let EntryRead::Value(r, e, next) = scan_line(s, p) else {
-            return LinesRead::NotInForm(line + i);
+            return LinesRead::NotInForm(line + i as u32);
         };
         radius[i] = r;
         limit[i] = e;
@@ -257,7 +257,7 @@ fn scan_lines(s: &[u8], at: usize, line: usize, n: usize, radius: &mut [i32], li
     LinesRead::Next(p)
 }
 
-fn row_lines(s: &[u8], at: usize, line: usize, nx: usize, ny: usize, z: &mut [i32]) -> LinesRead
+fn row_lines(s: &[u8], at: usize, line: u32, nx: usize, ny: usize, z: &mut [i32]) -> LinesRead
     requires { ⌜ (line + ny < 2 ^ 32) × (ny * nx ≤ length (now z)) ⌝ }
     ensures { λ r. ⌜ rows ny (rowLine nx) line (drop at (now (s .entry))) ≡ linesTold (now (s .entry)) (take (ny * nx) (now (z .exit))) (line + ny) r ⌝ }
 {
@@ -267,7 +267,7 @@ fn row_lines(s: &[u8], at: usize, line: usize, nx: usize, ny: usize, z: &mut [i3
         let a = j * nx;
         let b = a + nx;
         let WordRead::At(next) = row_line(s, p, &mut z[a..b]) else {
-            return LinesRead::NotInForm(line + j);
+            return LinesRead::NotInForm(line + j as u32);
         };
         p = next;
         j += 1;
@@ -278,7 +278,7 @@ fn row_lines(s: &[u8], at: usize, line: usize, nx: usize, ny: usize, z: &mut [i3
 fn station_lines(
     s: &[u8],
     at: usize,
-    line: usize,
+    line: u32,
     n: usize,
     x: &mut [i32],
     y: &mut [i32],
@@ -294,7 +294,7 @@ fn station_lines(
     let mut i: usize = 0;
     while i < n {
         let StationRead::Value(row, next) = station_line(s, p) else {
-            return LinesRead::NotInForm(line + i);
+            return LinesRead::NotInForm(line + i as u32);
         };
         let row_x = row.x;
         let row_y = row.y;
@@ -314,7 +314,7 @@ fn station_lines(
 // ---- the whole request
 
 // A line that may be left out.
-fn age_line(s: &[u8], at: usize, line: usize) -> Age
+fn age_line(s: &[u8], at: usize, line: u32) -> Age
     requires { ⌜ line ≤ 3 ⌝ }
     ensures { λ r. ⌜ (optional defaultAge ageLine line (drop at (now (s .entry))) ≡ read (r .age) (r .line) (drop (r .next) (now (s .entry)))) × (r .line ≤ 4) ⌝ }
 {
@@ -367,7 +367,7 @@ fn head_lines(s: &[u8]) -> HeadRead
 fn last_lines(
     s: &[u8],
     at: usize,
-    line: usize,
+    line: u32,
     x: &mut [i32],
     y: &mut [i32],
     value: &mut [i32],
@@ -381,12 +381,11 @@ fn last_lines(
     let UnsignedRead::Value(count, p) = number_line(s, at, b"stations=", 0, 512) else {
         return StationsRead::NotInForm(line);
     };
-    let n = count as usize;
     match station_lines(
         s,
         p,
         line + 1,
-        n,
+        count as usize,
         x,
         y,
         value,
@@ -397,9 +396,9 @@ fn last_lines(
         LinesRead::NotInForm(k) => StationsRead::NotInForm(k),
         LinesRead::Next(next) => {
             if next < s.len() {
-                return StationsRead::NotInForm(line + 1 + n);
+                return StationsRead::NotInForm(line + 1 + count);
             }
-            StationsRead::Rows(n)
+            StationsRead::Rows(count)
         }
     }
 }
@@ -425,8 +424,8 @@ fn after_head(
     let scans = h.scans as usize;
     let nx = h.nx as usize;
     let ny = h.ny as usize;
-    let rows = h.line + scans;
-    let last = rows + ny;
+    let rows = h.line + h.scans;
+    let last = rows + h.ny;
     match scan_lines(s, at, h.line, scans, radius, limit) {
         LinesRead::NotInForm(k) => RequestRead::NotInForm(k),
         LinesRead::Next(p) => match row_lines(s, p, rows, nx, ny, guess) {

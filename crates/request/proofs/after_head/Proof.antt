@@ -20,7 +20,7 @@ use Rattle.request.proofs.after_head.Tie as tie
 
 module _ (c : tie.After-p) where
   abbrev start : tie.Start
-  start = c .before .before .before .before .before .before .before .before .before .before .before .before .before .before .before
+  start = c .before .before .before .before .before .before .before .before .before .before .before .before .before .before .before .before
 
   abbrev head : Head
   head = start .args .h
@@ -132,7 +132,7 @@ same-length-2 c = search needs
 
 returns : tie.Need-returns
 returns c =
-    let a = c .before .before .before .before .before .before .before .before .before .before .before .before .before .before .before .before .args in
+    let a = c .before .before .before .before .before .before .before .before .before .before .before .before .before .before .before .before .before .args in
     (rw (c .before .before .before .before .before .scan-lines .ensures ∙ ap (linesTold (a .s .now) _ _) (c .before .k .given .1)), tt)
 
 same-length-3 : tie.Need-same-length-3

@@ -69,11 +69,11 @@ returns : tie.Need-returns
 unfolding stationsLine
 returns c = λ next. rw (c .before .before .number-line .ensures .0 ∙ ap (unsignedTold (c .before .before .before .before .before .before .before .before .args .s .now)) (c .enum-told .given .1))
 
-cast-n : tie.Need-cast-n
-cast-n c = search needs
-
 add-station-lines : tie.Need-add-station-lines
 add-station-lines c = search needs
+
+cast-station-lines : tie.Need-cast-station-lines
+cast-station-lines c = search needs
 
 station-lines-requires : tie.Need-station-lines-requires
 station-lines-requires c κs =
@@ -100,7 +100,7 @@ add-t36 : tie.Need-add-t36
 add-t36 c = search needs
 
 add-t37 : tie.Need-add-t37
-add-t37 c = search needs
+add-t37 c = let m = c .before .before .before .before .before .before .before .before .before .before .before .before .before .before .before .before .before .before .before .before .before in omega (arith, few m, start m .pre .0)
 
 same-length : tie.Need-same-length
 same-length c = search needs
@@ -187,8 +187,8 @@ last-lines-spec =
     enum-known-count
     enum-told
     returns
-    cast-n
     add-station-lines
+    cast-station-lines
     station-lines-requires
     enum-known-k
     enum-known-next

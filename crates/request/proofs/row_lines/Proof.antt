@@ -99,8 +99,11 @@ enum-known-next c = search needs
 enum-told : tie.Need-enum-told Inv-loop μ-loop
 enum-told c = search needs
 
-add-t19 : tie.Need-add-t19 Inv-loop μ-loop
-add-t19 c = search needs
+cast-t19 : tie.Need-cast-t19 Inv-loop μ-loop
+cast-t19 c = search needs
+
+add-t20 : tie.Need-add-t20 Inv-loop μ-loop
+add-t20 c = search needs
 
 same-length : tie.Need-same-length Inv-loop μ-loop
 same-length c = same (c .before .before .before)
@@ -156,7 +159,8 @@ row-lines-spec =
     row-line-requires
     enum-known-next
     enum-told
-    add-t19
+    cast-t19
+    add-t20
     same-length
     returns
     add-j

@@ -41,8 +41,11 @@ enum-known-row c = search needs
 enum-told : tie.Need-enum-told Inv-loop μ-loop
 enum-told c = search needs
 
-add-t20 : tie.Need-add-t20 Inv-loop μ-loop
-add-t20 c = search needs
+cast-t20 : tie.Need-cast-t20 Inv-loop μ-loop
+cast-t20 c = search needs
+
+add-t21 : tie.Need-add-t21 Inv-loop μ-loop
+add-t21 c = search needs
 
 same-length : tie.Need-same-length Inv-loop μ-loop
 same-length c = c .before .before .before .before .loop .inv .1 .x
@@ -164,7 +167,8 @@ station-lines-spec =
     station-line-requires
     enum-known-row
     enum-told
-    add-t20
+    cast-t20
+    add-t21
     same-length
     same-length-2
     same-length-3
