@@ -26,5 +26,6 @@ pub mod Decimals
 pub mod Stored
 pub mod Bounds
 pub mod Support
+pub mod AnswerSize
 pub mod DeadMasts
 pub mod Table

@@ -2,13 +2,14 @@
 use Prim.Native.Nat.{ℕ}
 use mathlib.Core.Path.{_≡_, sym, _∙_}
 use mathlib.Core.Bool.{Bool}
-use mathlib.Core.List.{List}
-use lib.ListN.{length}
+use mathlib.Core.List.{List, _++_}
+use lib.ListN.{length, drop}
 use lib.IntN.{ℤ}
 use Rattle.scheme.specs.Units.{Request, Columns}
 use Rattle.scheme.specs.Refusals.{Refusal, asOne, unlessRefused, Lengths, Window, analysisRefusal, windowRefusal}
 use Rattle.scheme.specs.Scan.{Analysis, analysis}
 use Rattle.scheme.specs.Reach.{Tile, wholeAt}
+use Rattle.scheme.specs.Text.{answerText}
 
 -- the six columns and the request, from the arguments of a call
 abbrev pub sixColumns : (x y value : List ℤ) (observed from until : List ℕ) → Columns
@@ -67,3 +68,19 @@ tile grid support = record { grid = grid; support = support }
 abbrev pub Queries : Request → Window → Tile → ℕ → Tile → Type 0
 Queries q w found answer left =
     Promised (windowRefusal q w (length (found .grid)) (length (found .support))) (wholeAt q w) found answer left
+
+-- ---- the program
+
+-- a text at the start of bytes that were lent, and after it what stood there
+pub record Stands (text found : List ℕ) (bytes : ℕ) (left : List ℕ) : Type 0 where
+  pub answers : bytes ≡ length text
+  pub leaves : left ≡ text ++ drop (length text) found
+
+-- it admits one outcome
+pub one-text : {text found left left' : List ℕ} {bytes bytes' : ℕ}
+    → Stands text found bytes left → Stands text found bytes' left' → (bytes ≡ bytes') × (left ≡ left')
+one-text p p' = (p .answers ∙ sym (p' .answers), p .leaves ∙ sym (p' .leaves))
+
+-- the answer to standard input, byte for byte
+abbrev pub Replies : (input found : List ℕ) → ℕ → List ℕ → Type 0
+Replies input found bytes left = Stands (answerText input) found bytes left
