@@ -2,16 +2,75 @@
 ghost use mathlib.Core.Path.{_≡_};
 ghost use Prim.Native.Nat.{_≤_};
 ghost use lib.ListN.{length};
-ghost use Rattle.scheme.specs.Promises.{sixColumns, Stands, Replies};
+ghost use Rattle.scheme.specs.Promises.{sixColumns, requestOf, slices, lengthsOf, Stands, Replies};
 ghost use Rattle.request.specs.Whole.{Lent, AskedFits, requestRead};
-ghost use Rattle.analyse.specs.Reply.{replyText, Within};
+ghost use Rattle.analyse.specs.Reply.{replyText, Measured, Results, Within};
 use libc::STDERR_FILENO;
 use libc::STDIN_FILENO;
 use libc::STDOUT_FILENO;
 use request::Asked;
 use request::RequestRead;
 
-// The answer to a request in form, at the start of out; how many bytes it has.
+// The answer to a request, at the start of out; how many bytes it has. The analysis goes into grid, support and verdict.
+fn analysed(
+    nx: u32,
+    ny: u32,
+    guess: &[i32],
+    x: &[i32],
+    y: &[i32],
+    value: &[i32],
+    observed: &[u32],
+    from: &[u32],
+    until: &[u32],
+    scans: u32,
+    radius: &[i32],
+    limit: &[i32],
+    smooth: bool,
+    time: u32,
+    age: u32,
+    grid: &mut [i32],
+    support: &mut [u8],
+    verdict: &mut [u8],
+    out: &mut [u8],
+) -> usize
+    requires { ⌜ Measured nx ny (length (now x)) (lengthsOf (slices (now grid) (now support) (now verdict))) × (length (now out) ≡ 65536) ⌝ }
+    ensures { λ r. ⌜ Stands (replyText (requestOf nx ny (now (guess .entry)) (now (x .entry)) (now (y .entry)) (now (value .entry)) (now (observed .entry)) (now (from .entry)) (now (until .entry)) scans (now (radius .entry)) (now (limit .entry)) smooth time age)) (now (out .entry)) r (now (out .exit)) ⌝ }
+{
+    let refused = analysis::analyse(
+        nx,
+        ny,
+        guess,
+        x,
+        y,
+        value,
+        observed,
+        from,
+        until,
+        scans,
+        radius,
+        limit,
+        smooth,
+        time,
+        age,
+        grid,
+        support,
+        verdict,
+    );
+    if refused != 0 {
+        return answer::first_two(out, 0, refused / 65536, refused % 65536);
+    }
+    answer::analysis_text(
+        out,
+        0,
+        nx as usize,
+        ny as usize,
+        grid,
+        support,
+        verdict,
+    )
+}
+
+// The answer to a request in form, whose columns are the fronts of those that were lent.
 fn reply_to(
     q: Asked,
     guess: &[i32],
@@ -23,20 +82,18 @@ fn reply_to(
     observed: &[u32],
     from: &[u32],
     until: &[u32],
-    out: &mut [u8; 65536],
+    grid: &mut [i32],
+    support: &mut [u8],
+    verdict: &mut [u8],
+    out: &mut [u8],
 ) -> usize
-    requires { ⌜ AskedFits q × Lent (now guess) (now radius) (now limit) (sixColumns (now x) (now y) (now value) (now observed) (now from) (now until)) ⌝ }
+    requires { ⌜ AskedFits q × Lent (now guess) (now radius) (now limit) (sixColumns (now x) (now y) (now value) (now observed) (now from) (now until)) × Results (now grid) (now support) (now verdict) × (length (now out) ≡ 65536) ⌝ }
     ensures { λ r. ⌜ Stands (replyText (requestRead (now (guess .entry)) (now (radius .entry)) (now (limit .entry)) (sixColumns (now (x .entry)) (now (y .entry)) (now (value .entry)) (now (observed .entry)) (now (from .entry)) (now (until .entry))) q)) (now (out .entry)) r (now (out .exit)) ⌝ }
 {
-    let nx = q.nx as usize;
-    let ny = q.ny as usize;
-    let points = ny * nx;
+    let points = (q.ny as usize) * (q.nx as usize);
     let n = q.stations as usize;
     let scans = q.scans as usize;
-    let mut grid = [0i32; 4096];
-    let mut support = [0u8; 4096];
-    let mut verdict = [0u8; 512];
-    let refused = analysis::analyse(
+    analysed(
         q.nx,
         q.ny,
         &guess[..points],
@@ -55,19 +112,62 @@ fn reply_to(
         &mut grid[..points],
         &mut support[..points],
         &mut verdict[..n],
-    );
-    if refused != 0 {
-        return answer::first_two(out, 0, refused / 65536, refused % 65536);
-    }
-    answer::analysis_text(
         out,
-        0,
-        nx,
-        ny,
-        &grid[..points],
-        &support[..points],
-        &verdict[..n],
     )
+}
+
+// The answer to a text that is not too long, with memory to work in.
+fn reply_with(
+    text: &[u8],
+    guess: &mut [i32],
+    radius: &mut [i32],
+    limit: &mut [i32],
+    x: &mut [i32],
+    y: &mut [i32],
+    value: &mut [i32],
+    observed: &mut [u32],
+    from: &mut [u32],
+    until: &mut [u32],
+    grid: &mut [i32],
+    support: &mut [u8],
+    verdict: &mut [u8],
+    out: &mut [u8],
+) -> usize
+    requires { ⌜ (length (now text) ≤ 65536) × Lent (now guess) (now radius) (now limit) (sixColumns (now x) (now y) (now value) (now observed) (now from) (now until)) × Results (now grid) (now support) (now verdict) × (length (now out) ≡ 65536) ⌝ }
+    ensures { λ r. ⌜ Replies (now (text .entry)) (now (out .entry)) r (now (out .exit)) ⌝ }
+{
+    match request::read_request(
+        text,
+        guess,
+        radius,
+        limit,
+        x,
+        y,
+        value,
+        observed,
+        from,
+        until,
+    ) {
+        RequestRead::NotInForm(line) => answer::first_two(out, 0, 9, line),
+        RequestRead::Value(q) => {
+            reply_to(
+                q,
+                guess,
+                radius,
+                limit,
+                x,
+                y,
+                value,
+                observed,
+                from,
+                until,
+                grid,
+                support,
+                verdict,
+                out,
+            )
+        }
+    }
 }
 
 // The answer to any text, at the start of out; how many bytes it has.
@@ -86,7 +186,10 @@ pub fn reply(text: &[u8], out: &mut [u8; 65536]) -> usize
     let mut observed = [0u32; 512];
     let mut from = [0u32; 512];
     let mut until = [0u32; 512];
-    match request::read_request(
+    let mut grid = [0i32; 4096];
+    let mut support = [0u8; 4096];
+    let mut verdict = [0u8; 512];
+    reply_with(
         text,
         &mut guess,
         &mut radius,
@@ -97,24 +200,11 @@ pub fn reply(text: &[u8], out: &mut [u8; 65536]) -> usize
         &mut observed,
         &mut from,
         &mut until,
-    ) {
-        RequestRead::NotInForm(line) => answer::first_two(out, 0, 9, line),
-        RequestRead::Value(q) => {
-            reply_to(
-                q,
-                &guess,
-                &radius,
-                &limit,
-                &x,
-                &y,
-                &value,
-                &observed,
-                &from,
-                &until,
-                out,
-            )
-        }
-    }
+        &mut grid,
+        &mut support,
+        &mut verdict,
+        out,
+    )
 }
 
 // How many bytes came, or that a read failed.
@@ -135,11 +225,11 @@ fn read_some(text: &mut [u8]) -> Came
 }
 
 // All of standard input, or as much of it as text is long. A read may bring fewer bytes than it is asked for.
-fn read_text(text: &mut [u8; 65537]) -> Came
+fn read_text(text: &mut [u8]) -> Came
     ensures { λ r. ⌜ Within (length (now (text .exit))) r ⌝ }
 {
     let mut n: usize = 0;
-    while n < 65537 {
+    while n < text.len() {
         match read_some(&mut text[n..]) {
             Came::Failed => return Came::Failed,
             Came::Bytes(more) => {
