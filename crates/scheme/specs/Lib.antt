@@ -22,10 +22,12 @@ pub mod Nearest
 pub mod Weights
 pub mod Adding
 pub mod Cells
+pub mod Decimals
 pub mod Stored
 pub mod Bounds
 pub mod Exact
 pub mod Support
+pub mod AnswerSize
 pub mod DeadMasts
 pub mod Axes
 pub mod Laws

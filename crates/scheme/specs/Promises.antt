@@ -2,8 +2,8 @@
 use Prim.Native.Nat.{ℕ}
 use mathlib.Core.Path.{_≡_, sym, _∙_}
 use mathlib.Core.Bool.{Bool}
-use mathlib.Core.List.{List}
-use lib.ListN.{length}
+use mathlib.Core.List.{List, _++_}
+use lib.ListN.{length, drop}
 use lib.IntN.{ℤ}
 use lib.Ieee.{Float}
 use Rattle.scheme.specs.declared.Reading.{Reading}
@@ -13,6 +13,7 @@ use Rattle.scheme.specs.Refusals.{Refusal, asOne, unlessRefused, Lengths
 use Rattle.scheme.specs.Scan.{Analysis, analysis}
 use Rattle.scheme.specs.Reach.{Tile, wholeAt}
 use Rattle.scheme.specs.Readings.{reading, kindOf, valueOf, summary}
+use Rattle.scheme.specs.Text.{answerText}
 
 -- the six columns and the request, from the arguments of a call
 abbrev pub sixColumns : (x y value : List ℤ) (observed from until : List ℕ) → Columns
@@ -96,3 +97,19 @@ ReadsValue nx ny field support x y answer = Answers (valueOf (reading nx ny fiel
 
 abbrev pub Summarises : (nx ny : ℕ) → List ℤ → Summary → Type 0
 Summarises nx ny field answer = Answers (summary nx ny field) answer
+
+-- ---- the program
+
+-- a text at the start of bytes that were lent, and after it what stood there
+pub record Stands (text found : List ℕ) (bytes : ℕ) (left : List ℕ) : Type 0 where
+  pub answers : bytes ≡ length text
+  pub leaves : left ≡ text ++ drop (length text) found
+
+-- it admits one outcome
+pub one-text : {text found left left' : List ℕ} {bytes bytes' : ℕ}
+    → Stands text found bytes left → Stands text found bytes' left' → (bytes ≡ bytes') × (left ≡ left')
+one-text p p' = (p .answers ∙ sym (p' .answers), p .leaves ∙ sym (p' .leaves))
+
+-- the answer to standard input, byte for byte
+abbrev pub Replies : (input found : List ℕ) → ℕ → List ℕ → Type 0
+Replies input found bytes left = Stands (answerText input) found bytes left

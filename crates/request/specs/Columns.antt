@@ -1,0 +1,91 @@
+-- What a turn stores in the columns, one line after the other.
+use Prim.Native.Nat.{ℕ, zero, suc, _+_, _≤_, _<_}
+use native.Mathlib.Omega.{arith}
+use native.Mathlib.Numerals.{add-one}
+use mathlib.Core.Path.{_≡_, refl, sym, ap, _∙_}
+use mathlib.Core.List.{List, [], _∷_, _++_}
+use lib.ListN.{length, getD, set, length-set}
+use lib.Seq.{getD-set-same, getD-set-other}
+use lib.IntN.{ℤ, pos}
+use Rattle.lists.specs.Tab.{tab, tab-same}
+use Rattle.scheme.specs.Units.{Columns, Station, stationAt}
+use Rattle.scheme.specs.Text.Lines.{Entry}
+use Rattle.scheme.specs.Promises.{sixColumns}
+use Rattle.request.specs.Told.{entryAt, Room}
+
+-- a table grows at its end
+tab-last : {A : Type 0} (n : ℕ) (f : ℕ → A) → tab (suc n) f ≡ tab n f ++ (f n ∷ [])
+unfolding tab
+tab-last zero f = refl
+tab-last {A = A} (suc n) f = ap (λ (l : List A). f 0 ∷ l) (tab-last n (λ k. f (suc k)))
+
+tab-grows : {A : Type 0} (n : ℕ) (f g : ℕ → A) (a : A) → ((k : ℕ) → k < n → g k ≡ f k) → g n ≡ a → tab (n + 1) g ≡ tab n f ++ (a ∷ [])
+tab-grows {A = A} n f g a h e = ap (λ (m : ℕ). tab m g) (add-one n) ∙ tab-last n g ∙ ap (λ (l : List A). l ++ (g n ∷ [])) (tab-same n g f h) ∙ ap (λ (b : A). tab n f ++ (b ∷ [])) e
+
+-- ---- a plan
+
+module _ (n : ℕ) (rs es : List ℤ) (r e : ℤ) (hr : n < length rs) (he : n < length es) where
+  pub entry-stored : tab (n + 1) (entryAt (set rs n r) (set es n e)) ≡ tab n (entryAt rs es) ++ (record { radius = r; limit = e } ∷ [])
+  entry-stored =
+      tab-grows n (entryAt rs es) (entryAt (set rs n r) (set es n e)) (record { radius = r; limit = e })
+      (λ k h. let ne : k ≡ n → ⊥ = λ q. omega arith in rw (getD-set-other rs n k r (pos 0) ne, getD-set-other es n k e (pos 0) ne))
+      (rw (getD-set-same rs n r (pos 0) hr, getD-set-same es n e (pos 0) he))
+
+-- ---- a station list
+
+abbrev pub stored : ℕ → Station → Columns → Columns
+stored n t c =
+    sixColumns (set (c .x) n (t .x)) (set (c .y) n (t .y)) (set (c .value) n (t .value)) (set (c .observed) n (t .observed))
+    (set (c .from) n (t .from)) (set (c .until) n (t .until))
+
+-- columns as long as they were
+pub record Kept (c₀ c : Columns) : Type 0 where
+  pub x : length (c .x) ≡ length (c₀ .x)
+  pub y : length (c .y) ≡ length (c₀ .y)
+  pub value : length (c .value) ≡ length (c₀ .value)
+  pub observed : length (c .observed) ≡ length (c₀ .observed)
+  pub from : length (c .from) ≡ length (c₀ .from)
+  pub until : length (c .until) ≡ length (c₀ .until)
+
+pub kept-none : (c : Columns) → Kept c c
+kept-none c = record { x = refl; y = refl; value = refl; observed = refl; from = refl; until = refl }
+
+pub kept-stored : (n : ℕ) (t : Station) (c₀ c : Columns) → Kept c₀ c → Kept c₀ (stored n t c)
+kept-stored n t c₀ c k =
+    record {
+      x = length-set (c .x) n (t .x) ∙ k .x;
+      y = length-set (c .y) n (t .y) ∙ k .y;
+      value = length-set (c .value) n (t .value) ∙ k .value;
+      observed = length-set (c .observed) n (t .observed) ∙ k .observed;
+      from = length-set (c .from) n (t .from) ∙ k .from;
+      until = length-set (c .until) n (t .until) ∙ k .until;
+    }
+
+module _ (m n : ℕ) (t : Station) (c₀ c : Columns) (room : Room m c₀) (k : Kept c₀ c) (h : n < m) where
+  before : (i : ℕ) → i < n → stationAt (stored n t c) i ≡ stationAt c i
+  unfolding stationAt
+  before i l =
+      let ne : i ≡ n → ⊥ = λ q. omega arith in
+      rw (
+        getD-set-other (c .x) n i (t .x) (pos 0) ne,
+        getD-set-other (c .y) n i (t .y) (pos 0) ne,
+        getD-set-other (c .value) n i (t .value) (pos 0) ne,
+        getD-set-other (c .observed) n i (t .observed) 0 ne,
+        getD-set-other (c .from) n i (t .from) 0 ne,
+        getD-set-other (c .until) n i (t .until) 0 ne,
+      )
+
+  here : stationAt (stored n t c) n ≡ t
+  unfolding stationAt
+  here =
+      rw (
+        getD-set-same (c .x) n (t .x) (pos 0) (omega (arith, room .x, k .x)),
+        getD-set-same (c .y) n (t .y) (pos 0) (omega (arith, room .y, k .y)),
+        getD-set-same (c .value) n (t .value) (pos 0) (omega (arith, room .value, k .value)),
+        getD-set-same (c .observed) n (t .observed) 0 (omega (arith, room .observed, k .observed)),
+        getD-set-same (c .from) n (t .from) 0 (omega (arith, room .from, k .from)),
+        getD-set-same (c .until) n (t .until) 0 (omega (arith, room .until, k .until)),
+      )
+
+  pub station-stored : tab (n + 1) (stationAt (stored n t c)) ≡ tab n (stationAt c) ++ (t ∷ [])
+  station-stored = tab-grows n (stationAt c) (stationAt (stored n t c)) t before here

@@ -1,0 +1,172 @@
+-- A turn of each reading loop, over plain values: what is read so far, before what the definition still reads from here, is the whole.
+use Prim.Native.Nat.{ℕ, zero, suc, _+_, _-_, _*_, _≤_, _<_}
+use native.Mathlib.Omega.{arith}
+use native.Mathlib.Numerals.{add-one}
+use native.Mathlib.Nat.{mul-le-mul-right}
+use mathlib.Core.Path.{_≡_, refl, sym, ap, _∙_}
+use mathlib.Core.List.{List, [], _∷_, _++_, append-assoc, append-nil}
+use lib.ListN.{length, take, drop, set, length-append, length-take, length-drop}
+use lib.Seq.{take-suc-set, take-all, take-at, length-take-le}
+use lib.IntN.{ℤ, pos}
+use Rattle.scheme.specs.Text.Pieces.{Parsed, fails, reads, Piece, onward, gives, signed, following, values, _before_}
+use Rattle.scheme.specs.Text.Order.{Read, notInForm, read, Text, lines, rows, onward as linesOnward, gives as linesGive}
+
+-- ---- the values of a row
+
+-- values that were read before others
+abbrev pub prefixed : List ℤ → Parsed (List ℤ) → Parsed (List ℤ)
+prefixed l fails = fails
+prefixed l (reads vs rest) = reads (l ++ vs) rest
+
+prefixed-twice : (l m : List ℤ) (p : Parsed (List ℤ)) → prefixed l (prefixed m p) ≡ prefixed (l ++ m) p
+prefixed-twice l m fails = refl
+prefixed-twice l m (reads vs rest) = ap (λ (k : List ℤ). reads k rest) (sym (append-assoc l m vs))
+
+values-more : (more : ℕ) (bs rest : List ℕ) (v : ℤ) → (signed before following more) bs ≡ reads v rest → values (suc more) bs ≡ prefixed (v ∷ []) (values more rest)
+unfolding values
+values-more more bs rest v e = rw e (go (values more rest))
+  where
+    go : (p : Parsed (List ℤ)) → onward p (λ vs. gives (v ∷ vs)) ≡ prefixed (v ∷ []) p
+    go fails = refl
+    go (reads vs r) = refl
+
+values-stop : (more : ℕ) (bs : List ℕ) → (signed before following more) bs ≡ fails → values (suc more) bs ≡ fails
+unfolding values
+values-stop more bs e = rw e
+
+module _ (s whole : List ℕ) (n i p : ℕ) (z : List ℤ) (long : length z ≡ n) (h : i < length z)
+    (inv : values n whole ≡ prefixed (take i z) (values (n - i) (drop p s))) where
+  next-value : values n whole ≡ prefixed (take i z) (values (suc (n - (i + 1))) (drop p s))
+  next-value =
+      let e : n - i ≡ suc (n - (i + 1)) = omega arith in
+      inv ∙ ap (λ (k : ℕ). prefixed (take i z) (values k (drop p s))) e
+
+  cell-of : (signed before following (n - (i + 1))) (drop p s) ≡ (signed before following (length z - 1 - i)) (drop p s)
+  cell-of =
+      let e : n - (i + 1) ≡ length z - 1 - i = omega arith in
+      ap (λ (k : ℕ). (signed before following k) (drop p s)) e
+
+  pub values-turn : (q : ℕ) (v : ℤ) → (signed before following (length z - 1 - i)) (drop p s) ≡ reads v (drop q s)
+      → values n whole ≡ prefixed (take (i + 1) (set z i v)) (values (n - (i + 1)) (drop q s))
+  values-turn q v e =
+      next-value
+      ∙ ap (prefixed (take i z)) (values-more (n - (i + 1)) (drop p s) (drop q s) v (cell-of ∙ e))
+      ∙ prefixed-twice (take i z) (v ∷ []) (values (n - (i + 1)) (drop q s))
+      ∙ ap (λ (l : List ℤ). prefixed l (values (n - (i + 1)) (drop q s))) (sym (ap (λ (j : ℕ). take j (set z i v)) (add-one i) ∙ take-suc-set z i v h))
+
+  pub values-off : (signed before following (length z - 1 - i)) (drop p s) ≡ fails → values n whole ≡ fails
+  values-off e = next-value ∙ ap (prefixed (take i z)) (values-stop (n - (i + 1)) (drop p s) (cell-of ∙ e))
+
+pub values-begin : (n : ℕ) (whole : List ℕ) (z : List ℤ) → values n whole ≡ prefixed (take 0 z) (values (n - 0) whole)
+values-begin n whole z = let e : n ≡ n - 0 = omega arith in ap (λ (k : ℕ). values k whole) e ∙ go (values (n - 0) whole)
+  where
+    go : (p : Parsed (List ℤ)) → p ≡ prefixed [] p
+    go fails = refl
+    go (reads vs r) = refl
+
+pub values-done : (s whole : List ℕ) (n i p : ℕ) (z : List ℤ) → n ≤ i → length z ≡ n → values n whole ≡ prefixed (take i z) (values (n - i) (drop p s)) → values n whole ≡ reads z (drop p s)
+unfolding values
+values-done s whole n i p z h l inv =
+    let e : n - i ≡ 0 = omega arith in
+    inv ∙ ap (λ (k : ℕ). prefixed (take i z) (values k (drop p s))) e ∙ ap (λ (k : List ℤ). reads k (drop p s)) (append-nil (take i z) ∙ take-all i z (omega arith))
+
+-- ---- lines of a kind: F n reads n of them
+
+-- lines that were read before others
+abbrev pub led : {A : Type 0} → List A → Read (List A) → Read (List A)
+led l (notInForm k) = notInForm k
+led l (read vs k rest) = read (l ++ vs) k rest
+
+led-none : {A : Type 0} (r : Read (List A)) → r ≡ led [] r
+led-none (notInForm k) = refl
+led-none (read vs k rest) = refl
+
+led-twice : {A : Type 0} (l m : List A) (r : Read (List A)) → led l (led m r) ≡ led (l ++ m) r
+led-twice l m (notInForm k) = refl
+led-twice {A = A} l m (read vs k rest) = ap (λ (w : List A). read w k rest) (sym (append-assoc l m vs))
+
+module _ {A : Type 0} (F : ℕ → Text (List A)) (s whole : List ℕ) (n line : ℕ) where
+  -- i lines read, which said l, up to place p
+  abbrev pub Reached : ℕ → ℕ → List A → Type 0
+  Reached i p l = F n line whole ≡ led l (F (n - i) (line + i) (drop p s))
+
+  pub begin : (p : ℕ) → whole ≡ drop p s → Reached 0 p []
+  begin p e =
+      let a : n ≡ n - 0 = omega arith in
+      let b : line ≡ line + 0 = omega arith in
+      led-none (F n line whole) ∙ ap (λ (k : ℕ). led [] (F k line whole)) a ∙ ap (λ (k : ℕ). led [] (F (n - 0) k whole)) b
+      ∙ ap (λ (bs : List ℕ). led [] (F (n - 0) (line + 0) bs)) e
+
+  module _ (i p : ℕ) (l : List A) (h : i < n) (inv : Reached i p l) where
+    next : F n line whole ≡ led l (F (suc (n - (i + 1))) (line + i) (drop p s))
+    next =
+        let e : n - i ≡ suc (n - (i + 1)) = omega arith in
+        inv ∙ ap (λ (k : ℕ). led l (F k (line + i) (drop p s))) e
+
+    pub turn : (q : ℕ) (vs l' : List A) → ((m k : ℕ) → F (suc m) k (drop p s) ≡ led vs (F m (suc k) (drop q s))) → l' ≡ l ++ vs → Reached (i + 1) q l'
+    turn q vs l' more e =
+        let k : suc (line + i) ≡ line + (i + 1) = omega arith in
+        next
+        ∙ ap (led l) (more (n - (i + 1)) (line + i))
+        ∙ led-twice l vs (F (n - (i + 1)) (suc (line + i)) (drop q s))
+        ∙ ap (λ (w : List A). led w (F (n - (i + 1)) (suc (line + i)) (drop q s))) (sym e)
+        ∙ ap (λ (j : ℕ). led l' (F (n - (i + 1)) j (drop q s))) k
+
+    pub stop : ((m k : ℕ) → F (suc m) k (drop p s) ≡ notInForm k) → F n line whole ≡ notInForm (line + i)
+    stop off = next ∙ ap (led l) (off (n - (i + 1)) (line + i))
+
+  pub done : (i p : ℕ) (l : List A) → i ≡ n → ((k : ℕ) (bs : List ℕ) → F 0 k bs ≡ read [] k bs) → Reached i p l → F n line whole ≡ read l (line + n) (drop p s)
+  done i p l e none inv =
+      let a : n - i ≡ 0 = omega arith in
+      inv ∙ ap (λ (k : ℕ). led l (F k (line + i) (drop p s))) a ∙ ap (led l) (none (line + i) (drop p s))
+      ∙ ap (λ (k : ℕ). read (l ++ []) (line + k) (drop p s)) e ∙ ap (λ (w : List A). read w (line + n) (drop p s)) (append-nil l)
+
+-- lines that say one thing each
+module _ {A : Type 0} (f : Piece A) where
+  pub lines-more : (bs rest : List ℕ) (a : A) → f bs ≡ reads a rest → (m k : ℕ) → lines (suc m) f k bs ≡ led (a ∷ []) (lines m f (suc k) rest)
+  unfolding lines
+  lines-more bs rest a e m k = rw e (go (lines m f (suc k) rest))
+    where
+      go : (r : Read (List A)) → linesOnward r (λ ws. linesGive (a ∷ ws)) ≡ led (a ∷ []) r
+      go (notInForm n) = refl
+      go (read vs n more) = refl
+
+  pub lines-stop : (bs : List ℕ) → f bs ≡ fails → (m k : ℕ) → lines (suc m) f k bs ≡ notInForm k
+  unfolding lines
+  lines-stop bs e m k = rw e
+
+  pub lines-none : (k : ℕ) (bs : List ℕ) → lines 0 f k bs ≡ read [] k bs
+  unfolding lines
+  lines-none k bs = refl
+
+-- lines of values
+module _ {A : Type 0} (f : Piece (List A)) where
+  pub rows-more : (bs rest : List ℕ) (vs : List A) → f bs ≡ reads vs rest → (m k : ℕ) → rows (suc m) f k bs ≡ led vs (rows m f (suc k) rest)
+  unfolding rows
+  rows-more bs rest vs e m k = rw e (go (rows m f (suc k) rest))
+    where
+      go : (r : Read (List A)) → linesOnward r (λ ws. linesGive (vs ++ ws)) ≡ led vs r
+      go (notInForm n) = refl
+      go (read ws n more) = refl
+
+  pub rows-stop : (bs : List ℕ) → f bs ≡ fails → (m k : ℕ) → rows (suc m) f k bs ≡ notInForm k
+  unfolding rows
+  rows-stop bs e m k = rw e
+
+  pub rows-none : (k : ℕ) (bs : List ℕ) → rows 0 f k bs ≡ read [] k bs
+  unfolding rows
+  rows-none k bs = refl
+
+-- ---- a grid row put into its place of the grid
+
+pub row-in : (nx ny j : ℕ) → j < ny → j * nx + nx ≤ ny * nx
+row-in nx ny j h = omega (arith, mul-le-mul-right nx h)
+
+pub part-long : (nx j : ℕ) (z : List ℤ) → j * nx + nx ≤ length z → length (take (j * nx + nx - j * nx) (drop (j * nx) z)) ≡ nx
+part-long nx j z h = simp (length-take, length-drop) (omega arith)
+
+pub put-row : (nx j : ℕ) (z ys rest : List ℤ) → j * nx ≤ length z → length ys ≡ nx → take ((j + 1) * nx) (take (j * nx) z ++ (ys ++ rest)) ≡ take (j * nx) z ++ ys
+put-row nx j z ys rest h l =
+    let e : length (take (j * nx) z ++ ys) ≡ (j + 1) * nx = length-append (take (j * nx) z) ys ∙ omega (arith, length-take-le (j * nx) z h) in
+    ap (λ (w : List ℤ). take ((j + 1) * nx) w) (sym (append-assoc (take (j * nx) z) ys rest))
+    ∙ take-at (take (j * nx) z ++ ys) rest ((j + 1) * nx) e
