@@ -68,10 +68,11 @@ static struct output ours, plain, part;
 static uint32_t left, right, top, bottom;
 
 static void complain(const char *what, const char *word) {
-    fprintf(stderr,
-            "bench: %s '%s': use bench a|b|c|w ours|plain|both REPEAT, window SIDE, one reading|summary, or stack "
-            "[SIDE|reading|summary]\n",
-            what, word);
+    fprintf(
+        stderr,
+        "bench: %s '%s': use bench a|b|c|w ours|plain|both REPEAT, window SIDE, one reading|summary, text, or stack "
+        "[SIDE|reading|summary]\n",
+        what, word);
     exit(2);
 }
 
@@ -231,6 +232,24 @@ static void run_summary(void) {
     read_here = sosnyavik_summarise(evening->nx, evening->ny, input.first_guess, points).units.span;
 }
 
+/* The case as a request text (document 01), for the program. */
+static void print_text(void) {
+    const struct evening *evening = input.evening;
+    printf("grid=%u,%u\ntime=%d\nage=%d\nsmooth=%d\nscans=%u\n", evening->nx, evening->ny, MINUTE, AGE, evening->smooth,
+           evening->scans);
+    for (uint32_t m = 0; m < evening->scans; m++)
+        printf("scan=%d,%d\n", evening->radius[m], evening->limit[m]);
+    for (uint32_t j = 0; j < evening->ny; j++) {
+        for (uint32_t i = 0; i < evening->nx; i++)
+            printf("%s%d", i == 0 ? "row=" : ",", input.first_guess[j * evening->nx + i]);
+        printf("\n");
+    }
+    printf("stations=%zu\n", evening->stations);
+    for (size_t row = 0; row < evening->stations; row++)
+        printf("st=%d,%d,%d,%u,%u,open\n", input.x[row], input.y[row], input.value[row], input.observed[row],
+               input.from[row]);
+}
+
 static void run_nothing(void) {}
 static void run_analysis(void) { run(sosnyavik_analyse, &ours); }
 
@@ -304,6 +323,8 @@ int main(int argc, char **argv) {
     make_input(argv[1]);
     if (argc == 3 && strcmp(what, "stack") == 0)
         measure_stack(run_analysis, SOSNYAVIK_STACK_ANALYSE);
+    else if (argc == 3 && strcmp(what, "text") == 0)
+        print_text();
     else if (argc == 3)
         complain("a number is needed after", what);
     else if (strcmp(what, "stack") == 0 && strcmp(argv[3], "reading") == 0)
