@@ -27,5 +27,6 @@ pub mod Stored
 pub mod Bounds
 pub mod Support
 pub mod AnswerSize
+pub mod RoundTrip
 pub mod DeadMasts
 pub mod Table
