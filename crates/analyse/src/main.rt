@@ -22,7 +22,7 @@ fn analysed(
     observed: &[u32],
     from: &[u32],
     until: &[u32],
-    scans: u32,
+    count: u32,
     radius: &[i32],
     limit: &[i32],
     smooth: bool,
@@ -34,7 +34,7 @@ fn analysed(
     out: &mut [u8],
 ) -> usize
     requires { ⌜ Measured nx ny (length (now x)) (lengthsOf (slices (now grid) (now support) (now verdict))) × (length (now out) ≡ 65536) ⌝ }
-    ensures { λ r. ⌜ Stands (replyText (requestOf nx ny (now (guess .entry)) (now (x .entry)) (now (y .entry)) (now (value .entry)) (now (observed .entry)) (now (from .entry)) (now (until .entry)) scans (now (radius .entry)) (now (limit .entry)) smooth time age)) (now (out .entry)) r (now (out .exit)) ⌝ }
+    ensures { λ r. ⌜ Stands (replyText (requestOf nx ny (now (guess .entry)) (now (x .entry)) (now (y .entry)) (now (value .entry)) (now (observed .entry)) (now (from .entry)) (now (until .entry)) count (now (radius .entry)) (now (limit .entry)) smooth time age)) (now (out .entry)) r (now (out .exit)) ⌝ }
 {
     let refused = analysis::analyse(
         nx,
@@ -46,7 +46,7 @@ fn analysed(
         observed,
         from,
         until,
-        scans,
+        count,
         radius,
         limit,
         smooth,

@@ -10,7 +10,7 @@ use lib.ListN.{length, take, drop, length-append, length-take, length-map}
 use lib.IntN.{ℤ, natAbs}
 use Rattle.lists.specs.Tests.{cond-both}
 use Rattle.lists.specs.Tab.{tab, length-tab}
-use Rattle.lists.specs.Members.{All, none, more, all-map, all-of, all-also}
+use Rattle.lists.specs.Members.{All, none, more, all-map, all-of, all-take, all-drop, all-tab}
 use Rattle.scheme.specs.Units.{Request, Station, stored, stationAt, stations, E}
 use Rattle.scheme.specs.Refusals.{accepted, Lengths, analysisRefusal}
 use Rattle.scheme.specs.Verdicts.{isAccepted, firstThatFits, beforeScans}
@@ -70,21 +70,6 @@ module _ (q : Request) where
   rows-many (suc m) = scan-rows m (after q m) ∙ rows-many m
 
 -- ---- the lengths of lines
-
-all-take : {A : Type 0} (P : A → Type 0) (n : ℕ) {vs : List A} → All P vs → All P (take n vs)
-all-take P zero h = none
-all-take P (suc n) none = none
-all-take P (suc n) (more h r) = more h (all-take P n r)
-
-all-drop : {A : Type 0} (P : A → Type 0) (n : ℕ) {vs : List A} → All P vs → All P (drop n vs)
-all-drop P zero h = h
-all-drop P (suc n) none = none
-all-drop P (suc n) (more h r) = all-drop P n r
-
-all-tab : {A : Type 0} (P : A → Type 0) (n : ℕ) (f : ℕ → A) → ((k : ℕ) → P (f k)) → All P (tab n f)
-unfolding tab
-all-tab P zero f h = none
-all-tab P (suc n) f h = more (h 0) (all-tab P n (λ k. f (suc k)) (λ k. h (suc k)))
 
 module _ {A : Type 0} (shown : A → List ℕ) (digits : ℕ) where
   abbrev Shows : A → Type 0

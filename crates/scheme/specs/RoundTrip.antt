@@ -11,7 +11,7 @@ use lib.ListN.{length, take, drop, getD, length-take, length-drop, take-append-d
 use lib.IntN.{ℤ, pos, negsuc}
 use lib.Signed.{mag}
 use Rattle.lists.specs.Tests.{cond-both}
-use Rattle.lists.specs.Members.{All, none, more}
+use Rattle.lists.specs.Members.{All, none, more, all-take, all-drop}
 use Rattle.lists.specs.Tab.{tab, map-tab, tab-getD, length-tab}
 use Rattle.scheme.specs.Units.{Request, Columns, Station, stationAt, stations, columnsOf, mostScans, mostStations}
 use Rattle.scheme.specs.Text.{defaultAge, requestLines}
@@ -188,7 +188,7 @@ natural-decimal (suc n) rest h =
     let w : word (48 ∷ []) (decimal (suc n) ++ rest) ≡ fails = rw (f .is, ne-eqb (f .first) 48 (λ e. omega (arith, f .some (omega arith))), word) in
     rw w (positive-decimal (suc n) rest h (omega arith))
 
-between-reads : (low high n : ℕ) (rest : List ℕ) → low ≤ n → n ≤ high → between low high (reads n rest) ≡ reads n rest
+pub between-reads : (low high n : ℕ) (rest : List ℕ) → low ≤ n → n ≤ high → between low high (reads n rest) ≡ reads n rest
 unfolding between
 between-reads low high n rest l h = rw (le-leb low n l, le-leb n high h, between)
 
@@ -292,16 +292,6 @@ row-keyed : (n : ℕ) {zs : List ℤ} → All Signed zs → length zs ≡ suc n 
 unfolding rowLine keyed word
 row-keyed n none e rest = absurd (omega arith)
 row-keyed n (more {a = z} {xs = zs} h r) e rest = ap (λ (k : ℕ). values k (cells integer (z ∷ zs) ++ rest)) (sym e) ∙ values-cells (more {a = z} {xs = zs} h r) rest
-
-all-take : {A : Type 0} (P : A → Type 0) (n : ℕ) {vs : List A} → All P vs → All P (take n vs)
-all-take P zero h = none
-all-take P (suc n) none = none
-all-take P (suc n) (more h r) = more h (all-take P n r)
-
-all-drop : {A : Type 0} (P : A → Type 0) (n : ℕ) {vs : List A} → All P vs → All P (drop n vs)
-all-drop P zero h = h
-all-drop P (suc n) none = none
-all-drop P (suc n) (more h r) = all-drop P n r
 
 rows-read : (nx ny : ℕ) {vs : List ℤ} → All Signed vs → length vs ≡ ny * suc nx → (k : ℕ) (rest : List ℕ)
     → rows ny (rowLine (suc nx)) k (gridLines (ascii "row=") integer (suc nx) ny vs ++ rest) ≡ read vs (k + ny) rest

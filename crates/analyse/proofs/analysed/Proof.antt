@@ -19,7 +19,7 @@ module _ (c : tie.After-analyse) where
   abbrev request : Request
   request =
       requestOf (start .args .nx) (start .args .ny) (start .args .guess .now) (start .args .x .now) (start .args .y .now) (start .args .value .now) (start .args .observed .now) (start .args .from .now) (start .args .until .now)
-      (start .args .scans) (start .args .radius .now) (start .args .limit .now) (start .args .smooth) (start .args .time) (start .args .age)
+      (start .args .count) (start .args .radius .now) (start .args .limit .now) (start .args .smooth) (start .args .time) (start .args .age)
 
   abbrev found : Analysis
   found = slices (start .args .grid .now) (start .args .support .now) (start .args .verdict .now)
