@@ -59,15 +59,7 @@ fn analysed(
     if refused != 0 {
         return answer::first_two(out, 0, refused / 65536, refused % 65536);
     }
-    answer::analysis_text(
-        out,
-        0,
-        nx as usize,
-        ny as usize,
-        grid,
-        support,
-        verdict,
-    )
+    answer::analysis_text(out, 0, nx as usize, ny as usize, grid, support, verdict)
 }
 
 // The answer to a request in form, whose columns are the fronts of those that were lent.
@@ -252,6 +244,9 @@ fn main() {
     let mut out = [0u8; 65536];
     let length = reply(&text[..n], &mut out);
     if !io::write_all(STDOUT_FILENO, &out[..length]) {
-        io::write_all(STDERR_FILENO, b"analyse: standard output cannot be written\n");
+        io::write_all(
+            STDERR_FILENO,
+            b"analyse: standard output cannot be written\n",
+        );
     }
 }

@@ -3,13 +3,13 @@ use Prim.Native.Nat.{ℕ, zero, suc, _+_, _-_, _*_, _^_, _≤_, _<_, min}
 use native.Mathlib.Omega.{arith}
 use native.Mathlib.Numerals.{add-one}
 use mathlib.Core.Path.{_≡_, refl, sym, ap, _∙_}
-use mathlib.Core.Bool.{Bool, true, false, _&&_, and-false}
+use mathlib.Core.Bool.{Bool, true, false, and-false}
 use mathlib.Core.Logic.{_⊎_, inl, inr}
 use mathlib.Core.List.{List, [], _∷_}
 use borrow.Author.Tests.{ne-eqb, le-leb, lt-leb, leb-true}
 use lib.Dec.{leb, lit<}
 use lib.Pow.{pow-pos}
-use lib.IntN.{ℤ, pos, negℤ, _-ℤ_, +ℤ-idl}
+use lib.IntN.{pos, negℤ, _-ℤ_, +ℤ-idl}
 use lib.ListN.{length, drop, getD, drop-of-length-le}
 use lib.Seq.{drop-cons}
 use mir.Syntax.{Width, w32, w64}
@@ -23,7 +23,7 @@ use Rattle.pieces.specs.declared.NaturalRead.the-variants.{Value as Natu
 use Rattle.pieces.specs.declared.UnsignedRead.{UnsignedRead}
 use Rattle.pieces.specs.declared.UnsignedRead.the-variants.{Value as Unsigned, NotInForm as NotUnsigned}
 use Rattle.pieces.specs.Words.{word-other}
-use Rattle.pieces.specs.Told.{naturalTold, unsignedTold, Within, Lies, most, capped}
+use Rattle.pieces.specs.Told.{naturalTold, unsignedTold, Lies, most, capped}
 
 -- ---- digits
 

@@ -3,12 +3,11 @@ use Prim.Native.Nat.{ℕ, _+_, _<_}
 use native.Mathlib.Omega.{arith}
 use mathlib.Core.Path.{_≡_, refl, _∙_}
 use mathlib.Core.List.{List, [], _∷_, _++_}
-use lib.ListN.{length, getD, set, length-set}
+use lib.ListN.{length, set, length-set}
 use lib.Seq.{getD-set-same, getD-set-other}
 use lib.IntN.{ℤ, pos}
 use Rattle.lists.specs.Tab.{tab, tab-grows}
 use Rattle.scheme.specs.Units.{Columns, Station, stationAt}
-use Rattle.scheme.specs.Text.Lines.{Entry}
 use Rattle.scheme.specs.Promises.{sixColumns}
 use Rattle.request.specs.Told.{entryAt, Room}
 

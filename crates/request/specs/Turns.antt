@@ -1,12 +1,12 @@
 -- A turn of each reading loop, over plain values: what is read so far, before what the definition still reads from here, is the whole.
-use Prim.Native.Nat.{ℕ, zero, suc, _+_, _-_, _*_, _≤_, _<_}
+use Prim.Native.Nat.{ℕ, suc, _+_, _-_, _*_, _≤_, _<_}
 use native.Mathlib.Omega.{arith}
 use native.Mathlib.Numerals.{add-one}
 use mathlib.Core.Path.{_≡_, refl, sym, ap, _∙_}
 use mathlib.Core.List.{List, [], _∷_, _++_, append-assoc, append-nil}
 use lib.ListN.{length, take, drop, set, length-append, length-take, length-drop}
 use lib.Seq.{take-suc-set, take-all, take-at, length-take-le}
-use lib.IntN.{ℤ, pos}
+use lib.IntN.{ℤ}
 use Rattle.scheme.specs.Text.Pieces.{Parsed, fails, reads, Piece, onward, gives, signed, following, values, _before_}
 use Rattle.scheme.specs.Text.Order.{Read, notInForm, read, Text, lines, rows, onward as linesOnward, gives as linesGive}
 

@@ -4,7 +4,7 @@ use native.Mathlib.Omega.{arith}
 use native.Mathlib.Nat.{suc-mul}
 use mathlib.Core.Path.{_≡_, refl, sym, ap, _∙_}
 use mathlib.Core.Bool.{Bool, true, false, cond}
-use mathlib.Core.List.{List, [], _∷_, _++_, append-assoc, append-nil, map}
+use mathlib.Core.List.{List, [], _∷_, _++_, append-assoc, map}
 use borrow.Author.Tests.{le-leb, ne-eqb}
 use lib.Dec.{eqb}
 use lib.ListN.{length, take, drop, getD, length-take, length-drop, take-append-drop}
@@ -13,12 +13,12 @@ use lib.Signed.{mag}
 use Rattle.lists.specs.Tests.{cond-both}
 use Rattle.lists.specs.Members.{All, none, more, all-take, all-drop}
 use Rattle.lists.specs.Tab.{tab, map-tab, tab-getD, length-tab}
-use Rattle.scheme.specs.Units.{Request, Columns, Station, stationAt, stations, columnsOf, mostScans, mostStations}
-use Rattle.scheme.specs.Text.{defaultAge, requestLines}
-use Rattle.scheme.specs.Text.Pieces.{ascii, Parsed, fails, reads, Piece, onward, word, comma, lineFeed, isDigit, digits, positive, natural, between, count, greatest, unsigned, minus, negative, signed, following, values, _before_}
+use Rattle.scheme.specs.Units.{Request, Station, stationAt, stations, columnsOf, mostScans, mostStations}
+use Rattle.scheme.specs.Text.{requestLines}
+use Rattle.scheme.specs.Text.Pieces.{ascii, fails, reads, Piece, word, isDigit, digits, positive, natural, between, count, greatest, unsigned, minus, negative, signed, following, values}
 use Rattle.scheme.specs.Text.Lines.{Entry, number, gridLine, timeLine, ageLine, smoothLine, scansLine, scanLine, rowLine, stationsLine, observation, end, stationLine}
-use Rattle.scheme.specs.Text.Order.{Read, read, lines, rows, nothingAfter}
-use Rattle.scheme.specs.Text.Printed.{digit, decimal, integer, mark, cells, listed, keyed, gridLines}
+use Rattle.scheme.specs.Text.Order.{read, lines, rows, nothingAfter}
+use Rattle.scheme.specs.Text.Printed.{digit, decimal, integer, mark, cells, keyed, gridLines}
 use Rattle.scheme.specs.Decimals.{decimal-one, decimal-more, digit-ind}
 
 -- ---- the printed form of a request; marks are written as digits
@@ -232,14 +232,22 @@ grid-keyed : (nx ny : ℕ) (rest : List ℕ) → 2 ≤ nx → nx ≤ 64 → 2 �
     → gridLine (keyed (ascii "grid=") decimal (nx ∷ ny ∷ []) ++ rest) ≡ reads (record { nx = nx; ny = ny }) rest
 unfolding gridLine keyed cells word
 grid-keyed nx ny rest a b c d =
-    rw (append-assoc (decimal nx) (44 ∷ (decimal ny ++ (10 ∷ []))) rest, append-assoc (decimal ny) (10 ∷ []) rest,
-      count-decimal 2 64 nx (44 ∷ (decimal ny ++ (10 ∷ rest))) a b refl, count-decimal 2 64 ny (10 ∷ rest) c d refl)
+    rw (
+      append-assoc (decimal nx) (44 ∷ (decimal ny ++ (10 ∷ []))) rest,
+      append-assoc (decimal ny) (10 ∷ []) rest,
+      count-decimal 2 64 nx (44 ∷ (decimal ny ++ (10 ∷ rest))) a b refl,
+      count-decimal 2 64 ny (10 ∷ rest) c d refl,
+    )
 
 scan-keyed : (t : Entry) (rest : List ℕ) → EntryInRange t → scanLine (entryText t ++ rest) ≡ reads t rest
 unfolding scanLine keyed cells word
 scan-keyed t rest r =
-    rw (append-assoc (integer (t .radius)) (44 ∷ (integer (t .limit) ++ (10 ∷ []))) rest, append-assoc (integer (t .limit)) (10 ∷ []) rest,
-      signed-integer (t .radius) (44 ∷ (integer (t .limit) ++ (10 ∷ rest))) (r .radius) refl, signed-integer (t .limit) (10 ∷ rest) (r .limit) refl)
+    rw (
+      append-assoc (integer (t .radius)) (44 ∷ (integer (t .limit) ++ (10 ∷ []))) rest,
+      append-assoc (integer (t .limit)) (10 ∷ []) rest,
+      signed-integer (t .radius) (44 ∷ (integer (t .limit) ++ (10 ∷ rest))) (r .radius) refl,
+      signed-integer (t .limit) (10 ∷ rest) (r .limit) refl,
+    )
 
 -- six numbers, each before its mark
 station-keyed : (s : Station) (rest : List ℕ) → StationInRange s → stationLine (stationText s ++ rest) ≡ reads s rest
@@ -283,10 +291,12 @@ values-cells : {zs : List ℤ} → All Signed zs → (rest : List ℕ) → value
 unfolding values cells
 values-cells none rest = refl
 values-cells (more {a = z} {xs = zs} h r) rest =
-    rw (append-assoc (integer z) (mark (length zs) ∷ cells integer zs) rest,
+    rw (
+      append-assoc (integer z) (mark (length zs) ∷ cells integer zs) rest,
       signed-integer z (mark (length zs) ∷ (cells integer zs ++ rest)) h (mark-stops (length zs) (cells integer zs ++ rest)),
       mark-after (length zs) (cells integer zs ++ rest),
-      values-cells r rest)
+      values-cells r rest,
+    )
 
 row-keyed : (n : ℕ) {zs : List ℤ} → All Signed zs → length zs ≡ suc n → (rest : List ℕ) → rowLine (suc n) (keyed (ascii "row=") integer zs ++ rest) ≡ reads zs rest
 unfolding rowLine keyed word
@@ -302,11 +312,13 @@ rows-read nx (suc ny) {vs = vs} h l k rest =
     let e : suc k + ny ≡ k + suc ny = omega arith in
     let a : length (take (suc nx) vs) ≡ suc nx = length-take (suc nx) vs ∙ omega (arith, suc-mul ny (suc nx)) in
     let b : length (drop (suc nx) vs) ≡ ny * suc nx = length-drop (suc nx) vs ∙ omega (arith, suc-mul ny (suc nx)) in
-    rw (append-assoc (keyed (ascii "row=") integer (take (suc nx) vs)) (gridLines (ascii "row=") integer (suc nx) ny (drop (suc nx) vs)) rest,
+    rw (
+      append-assoc (keyed (ascii "row=") integer (take (suc nx) vs)) (gridLines (ascii "row=") integer (suc nx) ny (drop (suc nx) vs)) rest,
       row-keyed nx (all-take Signed (suc nx) h) a (gridLines (ascii "row=") integer (suc nx) ny (drop (suc nx) vs) ++ rest),
       rows-read nx ny (all-drop Signed (suc nx) h) b (suc k) rest,
       take-append-drop (suc nx) vs,
-      e)
+      e,
+    )
 
 -- ---- the whole
 
