@@ -2,13 +2,13 @@
 use Prim.Native.Nat.{ℕ, _+_, _*_, _/_, _%_, _^_, _≤_, _<_}
 use native.Mathlib.Omega.{arith}
 use native.Mathlib.Nat.{mul-comm}
-use mathlib.Core.Path.{_≡_, refl, sym, ap, subst, _∙_}
+use mathlib.Core.Path.{_≡_, refl, sym, ap, _∙_}
 use mathlib.Core.Bool.{Bool, true, false}
 use mathlib.Core.List.{List, [], _∷_, _++_}
 use borrow.Author.Tests.{lt-ltb, le-ltb}
-use lib.ListN.{length, take, drop, length-append, length-take}
+use lib.ListN.{length, drop, length-append}
 use lib.IntN.{ℤ}
-use lib.Seq.{sets, sets-eq, take-at}
+use lib.Seq.{sets-eq}
 use Rattle.lists.specs.First.{Found, nowhere, at}
 use Rattle.lists.specs.Members.{All, none, more}
 use Rattle.scheme.specs.Units.{Request}
@@ -18,9 +18,9 @@ use Rattle.scheme.specs.Text.{requestLines, outcome, tested, printed, firstTwo,
 use Rattle.scheme.specs.Text.Pieces.{ascii}
 use Rattle.scheme.specs.Text.Printed.{decimal, keyed}
 use Rattle.scheme.specs.Text.Order.{notInForm, read}
-use Rattle.scheme.specs.Promises.{Promised, lengthsOf, Analyses, Stands}
+use Rattle.scheme.specs.Promises.{lengthsOf, Analyses, Stands}
 use Rattle.scheme.specs.Accepted.{analysis-sound}
-use Rattle.scheme.specs.Places.{place-is-small, answer-tells-refusal-and-place}
+use Rattle.scheme.specs.Places.{answer-tells-refusal-and-place}
 use Rattle.scheme.specs.Decimals.{decimal-length}
 use Rattle.scheme.specs.AnswerSize.{accepted-answer-is-short}
 use Rattle.answer.specs.Written.{Written}

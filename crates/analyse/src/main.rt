@@ -22,7 +22,7 @@ fn analysed(
     observed: &[u32],
     from: &[u32],
     until: &[u32],
-    scans: u32,
+    count: u32,
     radius: &[i32],
     limit: &[i32],
     smooth: bool,
@@ -34,7 +34,7 @@ fn analysed(
     out: &mut [u8],
 ) -> usize
     requires { ⌜ Measured nx ny (length (now x)) (lengthsOf (slices (now grid) (now support) (now verdict))) × (length (now out) ≡ 65536) ⌝ }
-    ensures { λ r. ⌜ Stands (replyText (requestOf nx ny (now (guess .entry)) (now (x .entry)) (now (y .entry)) (now (value .entry)) (now (observed .entry)) (now (from .entry)) (now (until .entry)) scans (now (radius .entry)) (now (limit .entry)) smooth time age)) (now (out .entry)) r (now (out .exit)) ⌝ }
+    ensures { λ r. ⌜ Stands (replyText (requestOf nx ny (now (guess .entry)) (now (x .entry)) (now (y .entry)) (now (value .entry)) (now (observed .entry)) (now (from .entry)) (now (until .entry)) count (now (radius .entry)) (now (limit .entry)) smooth time age)) (now (out .entry)) r (now (out .exit)) ⌝ }
 {
     let refused = analysis::analyse(
         nx,
@@ -46,7 +46,7 @@ fn analysed(
         observed,
         from,
         until,
-        scans,
+        count,
         radius,
         limit,
         smooth,
@@ -59,15 +59,7 @@ fn analysed(
     if refused != 0 {
         return answer::first_two(out, 0, refused / 65536, refused % 65536);
     }
-    answer::analysis_text(
-        out,
-        0,
-        nx as usize,
-        ny as usize,
-        grid,
-        support,
-        verdict,
-    )
+    answer::analysis_text(out, 0, nx as usize, ny as usize, grid, support, verdict)
 }
 
 // The answer to a request in form, whose columns are the fronts of those that were lent.
@@ -252,6 +244,9 @@ fn main() {
     let mut out = [0u8; 65536];
     let length = reply(&text[..n], &mut out);
     if !io::write_all(STDOUT_FILENO, &out[..length]) {
-        io::write_all(STDERR_FILENO, b"analyse: standard output cannot be written\n");
+        io::write_all(
+            STDERR_FILENO,
+            b"analyse: standard output cannot be written\n",
+        );
     }
 }

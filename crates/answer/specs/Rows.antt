@@ -2,7 +2,6 @@
 use Prim.Native.Nat.{ℕ, zero, suc, _+_, _-_, _*_, _≤_, _<_}
 use native.Mathlib.Omega.{arith}
 use native.Mathlib.Numerals.{add-one}
-use native.Mathlib.Nat.{mul-le-mul-right}
 use mathlib.Core.Path.{_≡_, refl, sym, ap, _∙_}
 use mathlib.Core.List.{List, [], _∷_, _++_, append-assoc}
 use lib.ListN.{length, take, drop, set, getD, length-append, length-take, length-drop, drop-of-length-le}
@@ -67,9 +66,6 @@ module _ {A : Type 0} (shown : A → List ℕ) where
 -- row j, as code takes its part of the slice
 abbrev pub rowPart : {A : Type 0} → ℕ → List A → ℕ → List A
 rowPart nx zs j = take (j * nx + nx - j * nx) (drop (j * nx) zs)
-
-pub row-in : (nx ny j : ℕ) → j < ny → j * nx + nx ≤ ny * nx
-row-in nx ny j h = omega (arith, mul-le-mul-right nx h)
 
 pub row-long : {A : Type 0} (nx j : ℕ) (zs : List A) → j * nx + nx ≤ length zs → length (rowPart nx zs j) ≡ nx
 row-long nx j zs h = simp (length-take, length-drop) (omega arith)

@@ -5,8 +5,9 @@ use mathlib.Core.Path.{_≡_}
 use mathlib.Core.Logic.{_⊎_, inl, inr}
 use mathlib.Core.Bool.{Bool, true, _&&_}
 use mathlib.Core.List.{List, [], _∷_, map}
-use lib.ListN.{getD}
+use lib.ListN.{take, drop, getD}
 use Rattle.lists.specs.Tests.{lt-or-le, and-true}
+use Rattle.lists.specs.Tab.{tab}
 use Rattle.lists.specs.Sums.{total}
 
 -- P holds of each
@@ -44,6 +45,22 @@ all-also P Q f (more {a = a} h r) = more (f a h) (all-also P Q f r)
 pub all-of : {A : Type 0} (P : A → Type 0) → ((a : A) → P a) → (xs : List A) → All P xs
 all-of P f [] = none
 all-of P f (a ∷ xs) = more (f a) (all-of P f xs)
+
+-- of a part, and of a table
+pub all-take : {A : Type 0} (P : A → Type 0) (n : ℕ) {xs : List A} → All P xs → All P (take n xs)
+all-take P zero r = none
+all-take P (suc n) none = none
+all-take P (suc n) (more h r) = more h (all-take P n r)
+
+pub all-drop : {A : Type 0} (P : A → Type 0) (n : ℕ) {xs : List A} → All P xs → All P (drop n xs)
+all-drop P zero r = r
+all-drop P (suc n) none = none
+all-drop P (suc n) (more h r) = all-drop P n r
+
+pub all-tab : {A : Type 0} (P : A → Type 0) (n : ℕ) (f : ℕ → A) → ((k : ℕ) → P (f k)) → All P (tab n f)
+unfolding tab
+all-tab P zero f h = none
+all-tab P (suc n) f h = more (h 0) (all-tab P n (λ k. f (suc k)) (λ k. h (suc k)))
 
 pub some-also : {A : Type 0} (P Q : A → Type 0) → ((a : A) → P a → Q a) → {xs : List A} → Some P xs → Some Q xs
 some-also P Q f (here {a = a} h) = here (f a h)

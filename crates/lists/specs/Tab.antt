@@ -1,9 +1,10 @@
 -- A list by a function of the index.
-use Prim.Native.Nat.{ℕ, zero, suc, _<_}
+use Prim.Native.Nat.{ℕ, zero, suc, _+_, _<_}
 use native.Mathlib.Omega.{arith}
+use native.Mathlib.Numerals.{add-one}
 use native.Mathlib.Nat.{le-of-suc-le-suc}
 use mathlib.Core.Path.{_≡_, refl, sym, ap, _∙_}
-use mathlib.Core.List.{List, [], _∷_, map}
+use mathlib.Core.List.{List, [], _∷_, _++_, map}
 use lib.ListN.{length, getD}
 use lib.Seq.{ext-getD}
 
@@ -41,6 +42,17 @@ module _ {A : Type 0} where
 
   pub tab-same : (n : ℕ) (f g : ℕ → A) → ((k : ℕ) → k < n → f k ≡ g k) → tab n f ≡ tab n g
   tab-same n f g h = is-tab (f 0) n g (tab n f) (length-tab n f) (λ k p. getD-tab n f k (f 0) p ∙ h k p)
+
+-- a table grows at its end, as a loop fills it
+tab-last : {A : Type 0} (n : ℕ) (f : ℕ → A) → tab (suc n) f ≡ tab n f ++ (f n ∷ [])
+unfolding tab
+tab-last zero f = refl
+tab-last {A = A} (suc n) f = ap (λ (l : List A). f 0 ∷ l) (tab-last n (λ k. f (suc k)))
+
+pub tab-grows : {A : Type 0} (n : ℕ) (f g : ℕ → A) (a : A) → ((k : ℕ) → k < n → g k ≡ f k) → g n ≡ a → tab (n + 1) g ≡ tab n f ++ (a ∷ [])
+tab-grows {A = A} n f g a h e =
+    ap (λ (m : ℕ). tab m g) (add-one n) ∙ tab-last n g ∙ ap (λ (l : List A). l ++ (g n ∷ [])) (tab-same n g f h)
+    ∙ ap (λ (b : A). tab n f ++ (b ∷ [])) e
 
 pub map-tab : {A B : Type 0} (g : A → B) (n : ℕ) (f : ℕ → A) → map g (tab n f) ≡ tab n (λ k. g (f k))
 unfolding tab

@@ -3,13 +3,13 @@ use Prim.Native.Nat.{ℕ, zero, suc, _+_, _-_, _*_, _^_, _≤_, _<_, min}
 use native.Mathlib.Omega.{arith}
 use native.Mathlib.Numerals.{add-one}
 use mathlib.Core.Path.{_≡_, refl, sym, ap, _∙_}
-use mathlib.Core.Bool.{Bool, true, false, _&&_, and-false}
+use mathlib.Core.Bool.{Bool, true, false, and-false}
 use mathlib.Core.Logic.{_⊎_, inl, inr}
 use mathlib.Core.List.{List, [], _∷_}
 use borrow.Author.Tests.{ne-eqb, le-leb, lt-leb, leb-true}
 use lib.Dec.{leb, lit<}
 use lib.Pow.{pow-pos}
-use lib.IntN.{ℤ, pos, negℤ, _-ℤ_, +ℤ-idl}
+use lib.IntN.{pos, negℤ, _-ℤ_, +ℤ-idl}
 use lib.ListN.{length, drop, getD, drop-of-length-le}
 use lib.Seq.{drop-cons}
 use mir.Syntax.{Width, w32, w64}
@@ -17,12 +17,13 @@ use mir.Val.{SFits, toZ, ofZ, hbits}
 use mir.Facts.{toZ-ofZ, toZ-pos}
 use Rattle.lists.specs.Tests.{lt-or-le, and-true}
 use Rattle.scheme.specs.Text.Pieces.{Parsed, fails, reads, word, isDigit, digits, positive, natural, between, count, minus, negative, signed}
+use Rattle.scheme.specs.RoundTrip.{between-reads}
 use Rattle.pieces.specs.declared.NaturalRead.{NaturalRead}
 use Rattle.pieces.specs.declared.NaturalRead.the-variants.{Value as Natural, NotInForm as NotNatural}
 use Rattle.pieces.specs.declared.UnsignedRead.{UnsignedRead}
 use Rattle.pieces.specs.declared.UnsignedRead.the-variants.{Value as Unsigned, NotInForm as NotUnsigned}
 use Rattle.pieces.specs.Words.{word-other}
-use Rattle.pieces.specs.Told.{naturalTold, unsignedTold, Within, Lies, most, capped}
+use Rattle.pieces.specs.Told.{naturalTold, unsignedTold, Lies, most, capped}
 
 -- ---- digits
 
@@ -95,10 +96,6 @@ module _ (s : List ℕ) (at : ℕ) where
 
 -- ---- its range
 
-between-in : (low high n : ℕ) (rest : List ℕ) → low ≤ n → n ≤ high → between low high (reads n rest) ≡ reads n rest
-unfolding between
-between-in low high n rest l h = rw (le-leb low n l, le-leb n high h, between)
-
 between-under : (low high n : ℕ) (rest : List ℕ) → n < low → between low high (reads n rest) ≡ fails
 unfolding between
 between-under low high n rest h = rw (lt-leb low n h, between)
@@ -126,7 +123,7 @@ module _ {low high v next : ℕ} {n : NaturalRead} (e : n ≡ Natural v next) wh
   lies-over h = record { said = λ s. rw e (between-over low high v (drop next s) h); within = tt }
 
   pub lies-in : low ≤ v → v ≤ high → Lies n low high (Unsigned v next)
-  lies-in l h = record { said = λ s. rw e (between-in low high v (drop next s) l h); within = (l, h) }
+  lies-in l h = record { said = λ s. rw e (between-reads low high v (drop next s) l h); within = (l, h) }
 
 pub lies-nowhere : {low high : ℕ} {n : NaturalRead} → n ≡ NotNatural → Lies n low high NotUnsigned
 unfolding between

@@ -1,9 +1,8 @@
 // Pieces of a line of the request text (document 01): a word and the numbers of each type, read at a place of the text.
 ghost use mathlib.Core.Path.{_≡_};
-ghost use mathlib.Core.List.{List};
 ghost use Prim.Native.Nat.{ℕ, _+_, _-_, _*_, _≤_, min};
 ghost use lib.ListN.{drop};
-ghost use Rattle.scheme.specs.Text.Pieces.{isDigit, word, digits, positive, natural, between, count, negative, signed, reads};
+ghost use Rattle.scheme.specs.Text.Pieces.{isDigit, word, digits, positive, natural, count, negative, signed, reads};
 ghost use Rattle.pieces.specs.Told.{wordTold, naturalTold, unsignedTold, signedTold, follows, Within, Lies, most, capped};
 
 // What reading a piece gives: what it says with the place after it, or that it is not in form.

@@ -1,26 +1,15 @@
 -- What a turn stores in the columns, one line after the other.
-use Prim.Native.Nat.{ℕ, zero, suc, _+_, _≤_, _<_}
+use Prim.Native.Nat.{ℕ, _+_, _<_}
 use native.Mathlib.Omega.{arith}
-use native.Mathlib.Numerals.{add-one}
-use mathlib.Core.Path.{_≡_, refl, sym, ap, _∙_}
+use mathlib.Core.Path.{_≡_, refl, _∙_}
 use mathlib.Core.List.{List, [], _∷_, _++_}
-use lib.ListN.{length, getD, set, length-set}
+use lib.ListN.{length, set, length-set}
 use lib.Seq.{getD-set-same, getD-set-other}
 use lib.IntN.{ℤ, pos}
-use Rattle.lists.specs.Tab.{tab, tab-same}
+use Rattle.lists.specs.Tab.{tab, tab-grows}
 use Rattle.scheme.specs.Units.{Columns, Station, stationAt}
-use Rattle.scheme.specs.Text.Lines.{Entry}
 use Rattle.scheme.specs.Promises.{sixColumns}
 use Rattle.request.specs.Told.{entryAt, Room}
-
--- a table grows at its end
-tab-last : {A : Type 0} (n : ℕ) (f : ℕ → A) → tab (suc n) f ≡ tab n f ++ (f n ∷ [])
-unfolding tab
-tab-last zero f = refl
-tab-last {A = A} (suc n) f = ap (λ (l : List A). f 0 ∷ l) (tab-last n (λ k. f (suc k)))
-
-tab-grows : {A : Type 0} (n : ℕ) (f g : ℕ → A) (a : A) → ((k : ℕ) → k < n → g k ≡ f k) → g n ≡ a → tab (n + 1) g ≡ tab n f ++ (a ∷ [])
-tab-grows {A = A} n f g a h e = ap (λ (m : ℕ). tab m g) (add-one n) ∙ tab-last n g ∙ ap (λ (l : List A). l ++ (g n ∷ [])) (tab-same n g f h) ∙ ap (λ (b : A). tab n f ++ (b ∷ [])) e
 
 -- ---- a plan
 

@@ -1,13 +1,12 @@
 -- A turn of each reading loop, over plain values: what is read so far, before what the definition still reads from here, is the whole.
-use Prim.Native.Nat.{ℕ, zero, suc, _+_, _-_, _*_, _≤_, _<_}
+use Prim.Native.Nat.{ℕ, suc, _+_, _-_, _*_, _≤_, _<_}
 use native.Mathlib.Omega.{arith}
 use native.Mathlib.Numerals.{add-one}
-use native.Mathlib.Nat.{mul-le-mul-right}
 use mathlib.Core.Path.{_≡_, refl, sym, ap, _∙_}
 use mathlib.Core.List.{List, [], _∷_, _++_, append-assoc, append-nil}
 use lib.ListN.{length, take, drop, set, length-append, length-take, length-drop}
 use lib.Seq.{take-suc-set, take-all, take-at, length-take-le}
-use lib.IntN.{ℤ, pos}
+use lib.IntN.{ℤ}
 use Rattle.scheme.specs.Text.Pieces.{Parsed, fails, reads, Piece, onward, gives, signed, following, values, _before_}
 use Rattle.scheme.specs.Text.Order.{Read, notInForm, read, Text, lines, rows, onward as linesOnward, gives as linesGive}
 
@@ -158,9 +157,6 @@ module _ {A : Type 0} (f : Piece (List A)) where
   rows-none k bs = refl
 
 -- ---- a grid row put into its place of the grid
-
-pub row-in : (nx ny j : ℕ) → j < ny → j * nx + nx ≤ ny * nx
-row-in nx ny j h = omega (arith, mul-le-mul-right nx h)
 
 pub part-long : (nx j : ℕ) (z : List ℤ) → j * nx + nx ≤ length z → length (take (j * nx + nx - j * nx) (drop (j * nx) z)) ≡ nx
 part-long nx j z h = simp (length-take, length-drop) (omega arith)

@@ -1,9 +1,9 @@
 -- The whole request: the lines before the scans, those after, and the request that the caller's columns hold.
-use Prim.Native.Nat.{ℕ, zero, suc, _+_, _*_, _≤_, _<_}
+use Prim.Native.Nat.{ℕ, suc, _+_, _*_, _≤_, _<_}
 use native.Mathlib.Numerals.{add-one}
 use mathlib.Core.Path.{_≡_, refl, sym, ap, _∙_}
 use mathlib.Core.Bool.{Bool}
-use mathlib.Core.List.{List, [], _∷_, map}
+use mathlib.Core.List.{List, [], map}
 use lib.Dec.{eqb}
 use lib.ListN.{length, take, drop, getD, drop-of-length-le}
 use lib.Seq.{drop-cons, length-take-le, getD-take}
@@ -44,23 +44,27 @@ lastThen next = do
   nothingAfter
   next stations
 
+-- what all lines say
+abbrev pub gathered : (nx ny time age : ℕ) → Bool → (scans : ℕ) → List Entry → List ℤ → List Station → Request
+gathered nx ny time age smooth scans plan guess stations =
+    record {
+      nx = nx;
+      ny = ny;
+      firstGuess = guess;
+      columns = columnsOf stations;
+      scans = scans;
+      radius = map (λ t. t .radius) plan;
+      limit = map (λ t. t .limit) plan;
+      smooth = smooth;
+      T = time;
+      A = age;
+    }
+
 abbrev pub middle : (nx ny time age : ℕ) → Bool → (scans : ℕ) → Text Request
 middle nx ny time age smooth scans = do
   plan ← lines scans scanLine
   guess ← rows ny (rowLine nx)
-  lastThen (λ stations. gives
-      (record {
-        nx = nx;
-        ny = ny;
-        firstGuess = guess;
-        columns = columnsOf stations;
-        scans = scans;
-        radius = map (λ t. t .radius) plan;
-        limit = map (λ t. t .limit) plan;
-        smooth = smooth;
-        T = time;
-        A = age;
-      }))
+  lastThen (λ stations. gives (gathered nx ny time age smooth scans plan guess stations))
 
 pub cut : (k : ℕ) (bs : List ℕ) → requestLines k bs ≡ headThen middle k bs
 unfolding requestLines
@@ -211,36 +215,15 @@ module _ (h : Head) (s : List ℕ) (rs es : List ℤ) (p : ℕ)
 
   module _ (zs : List ℤ) (q : ℕ)
       (guess : rows (h .ny) (rowLine (h .nx)) (h .line + h .scans) (drop p s) ≡ read (take (h .ny * h .nx) zs) (h .line + h .scans + h .ny) (drop q s)) where
+    abbrev held : List Station → Request
+    held = gathered (h .nx) (h .ny) (h .time) (h .age) (h .smooth) (h .scans) (tab (h .scans) (entryAt rs es)) (take (h .ny * h .nx) zs)
+
     pub after-guess : (k : ℕ) → ((next : List Station → Text Request) → lastThen next (h .line + h .scans + h .ny) (drop q s) ≡ notInForm k)
         → afterHead h (h .line) (drop (h .next) s) ≡ notInForm k
-    after-guess k e = rw (plan, guess, e (λ stations. gives
-      (record {
-        nx = h .nx;
-        ny = h .ny;
-        firstGuess = take (h .ny * h .nx) zs;
-        columns = columnsOf stations;
-        scans = h .scans;
-        radius = map (λ t. t .radius) (tab (h .scans) (entryAt rs es));
-        limit = map (λ t. t .limit) (tab (h .scans) (entryAt rs es));
-        smooth = h .smooth;
-        T = h .time;
-        A = h .age;
-      })))
+    after-guess k e = rw (plan, guess, e (λ stations. gives (held stations)))
 
     pub after-all : (c : Columns) (n : ℕ) → RowsAre (h .line + h .scans + h .ny) (drop q s) c n → h .scans ≤ length rs → h .scans ≤ length es
         → afterHead h (h .line) (drop (h .next) s) ≡ read (requestRead zs rs es c (askedOf h n)) (h .line + h .scans + h .ny + 1 + n) []
     after-all c n last hr he =
         let (radii, limits) = plan-front (h .scans) rs es hr he in
-        rw (plan, guess, last .said (λ stations. gives
-          (record {
-            nx = h .nx;
-            ny = h .ny;
-            firstGuess = take (h .ny * h .nx) zs;
-            columns = columnsOf stations;
-            scans = h .scans;
-            radius = map (λ t. t .radius) (tab (h .scans) (entryAt rs es));
-            limit = map (λ t. t .limit) (tab (h .scans) (entryAt rs es));
-            smooth = h .smooth;
-            T = h .time;
-            A = h .age;
-          })), stations-front n c (last .room), radii, limits)
+        rw (plan, guess, last .said (λ stations. gives (held stations)), stations-front n c (last .room), radii, limits)

@@ -121,10 +121,15 @@ fn grid_line(s: &[u8], at: usize) -> SizeRead
     let WordRead::At(p) = pieces::word_at(s, at, b"grid=") else {
         return SizeRead::NotInForm;
     };
-    let UnsignedRead::Value(nx, q) = pieces::unsigned_before(s, pieces::count_at(s, p, 2, 64), b",") else {
+    let UnsignedRead::Value(nx, q) = pieces::unsigned_before(s, pieces::count_at(s, p, 2, 64), b",")
+    else {
         return SizeRead::NotInForm;
     };
-    let UnsignedRead::Value(ny, next) = pieces::unsigned_before(s, pieces::count_at(s, q, 2, 64), b"\n") else {
+    let UnsignedRead::Value(ny, next) = pieces::unsigned_before(
+        s,
+        pieces::count_at(s, q, 2, 64),
+        b"\n",
+    ) else {
         return SizeRead::NotInForm;
     };
     SizeRead::Value(nx, ny, next)
@@ -136,10 +141,12 @@ fn scan_line(s: &[u8], at: usize) -> EntryRead
     let WordRead::At(p) = pieces::word_at(s, at, b"scan=") else {
         return EntryRead::NotInForm;
     };
-    let SignedRead::Value(radius, q) = pieces::signed_before(s, pieces::signed_at(s, p), b",") else {
+    let SignedRead::Value(radius, q) = pieces::signed_before(s, pieces::signed_at(s, p), b",")
+    else {
         return EntryRead::NotInForm;
     };
-    let SignedRead::Value(limit, next) = pieces::signed_before(s, pieces::signed_at(s, q), b"\n") else {
+    let SignedRead::Value(limit, next) = pieces::signed_before(s, pieces::signed_at(s, q), b"\n")
+    else {
         return EntryRead::NotInForm;
     };
     EntryRead::Value(radius, limit, next)
@@ -180,10 +187,18 @@ fn station_line(s: &[u8], at: usize) -> StationRead
     let SignedRead::Value(value, e) = pieces::signed_before(s, observation_at(s, d), b",") else {
         return StationRead::NotInForm;
     };
-    let UnsignedRead::Value(observed, f) = pieces::unsigned_before(s, pieces::count_at(s, e, 0, 4294967295), b",") else {
+    let UnsignedRead::Value(observed, f) = pieces::unsigned_before(
+        s,
+        pieces::count_at(s, e, 0, 4294967295),
+        b",",
+    ) else {
         return StationRead::NotInForm;
     };
-    let UnsignedRead::Value(from, g) = pieces::unsigned_before(s, pieces::count_at(s, f, 0, 4294967295), b",") else {
+    let UnsignedRead::Value(from, g) = pieces::unsigned_before(
+        s,
+        pieces::count_at(s, f, 0, 4294967295),
+        b",",
+    ) else {
         return StationRead::NotInForm;
     };
     let UnsignedRead::Value(until, next) = pieces::unsigned_before(s, end_at(s, g), b"\n") else {
@@ -239,7 +254,14 @@ fn row_line(s: &[u8], at: usize, z: &mut [i32]) -> WordRead
 
 // ---- lines of a kind, the first of which is line number line, into the front of the caller's columns
 
-fn scan_lines(s: &[u8], at: usize, line: u32, n: usize, radius: &mut [i32], limit: &mut [i32]) -> LinesRead
+fn scan_lines(
+    s: &[u8],
+    at: usize,
+    line: u32,
+    n: usize,
+    radius: &mut [i32],
+    limit: &mut [i32],
+) -> LinesRead
     requires { ⌜ (line + n < 2 ^ 32) × (n ≤ length (now radius)) × (n ≤ length (now limit)) ⌝ }
     ensures { λ r. ⌜ lines n scanLine line (drop at (now (s .entry))) ≡ linesTold (now (s .entry)) (tab n (entryAt (now (radius .exit)) (now (limit .exit)))) (line + n) r ⌝ }
 {

@@ -1,24 +1,24 @@
 -- The answer to an accepted request is below 56,000 bytes: its values have at most 8 digits and a sign, support and verdicts at most 2 digits.
-use Prim.Native.Nat.{ℕ, zero, suc, _+_, _*_, _/_, _%_, _^_, _≤_, _<_}
+use Prim.Native.Nat.{ℕ, zero, suc, _+_, _*_, _/_, _%_, _≤_, _<_}
 use native.Mathlib.Omega.{arith}
-use native.Mathlib.Nat.{mul-le-mul, mul-le-mul-left, mul-le-mul-right, suc-mul, pow-le-pow-right}
-use mathlib.Core.Path.{_≡_, refl, sym, ap, _∙_}
-use mathlib.Core.Bool.{Bool, true, false, cond}
-use mathlib.Core.List.{List, [], _∷_, _++_, map}
+use native.Mathlib.Nat.{mul-le-mul, mul-le-mul-right, suc-mul, pow-le-pow-right}
+use mathlib.Core.Path.{_≡_, refl, _∙_}
+use mathlib.Core.Bool.{Bool}
+use mathlib.Core.List.{List, [], _∷_, _++_}
 use lib.Dec.{ltb}
 use lib.ListN.{length, take, drop, length-append, length-take, length-map}
 use lib.IntN.{ℤ, natAbs}
 use Rattle.lists.specs.Tests.{cond-both}
-use Rattle.lists.specs.Tab.{tab, length-tab}
-use Rattle.lists.specs.Members.{All, none, more, all-map, all-of, all-also}
+use Rattle.lists.specs.Tab.{length-tab}
+use Rattle.lists.specs.Members.{All, none, more, all-map, all-of, all-take, all-drop, all-tab}
 use Rattle.scheme.specs.Units.{Request, Station, stored, stationAt, stations, E}
 use Rattle.scheme.specs.Refusals.{accepted, Lengths, analysisRefusal}
 use Rattle.scheme.specs.Verdicts.{isAccepted, firstThatFits, beforeScans}
-use Rattle.scheme.specs.Difference.{Row, difference, afterTest, judged}
-use Rattle.scheme.specs.Scan.{State, start, rowsJudged, scan, after, Analysis, analysis}
+use Rattle.scheme.specs.Difference.{Row, afterTest, judged}
+use Rattle.scheme.specs.Scan.{State, start, rowsJudged, scan, after, analysis}
 use Rattle.scheme.specs.Text.{firstTwo, analysisText}
 use Rattle.scheme.specs.Text.Pieces.{ascii}
-use Rattle.scheme.specs.Text.Printed.{spelled, decimal, integer, mark, cells, listed, keyed, gridLines}
+use Rattle.scheme.specs.Text.Printed.{spelled, decimal, integer, mark, cells, keyed, gridLines}
 use Rattle.scheme.specs.Accepted.{Sound, analysis-sound}
 use Rattle.scheme.specs.Bounds.{fields-stay-within}
 use Rattle.scheme.specs.Support.{support-small}
@@ -70,21 +70,6 @@ module _ (q : Request) where
   rows-many (suc m) = scan-rows m (after q m) ∙ rows-many m
 
 -- ---- the lengths of lines
-
-all-take : {A : Type 0} (P : A → Type 0) (n : ℕ) {vs : List A} → All P vs → All P (take n vs)
-all-take P zero h = none
-all-take P (suc n) none = none
-all-take P (suc n) (more h r) = more h (all-take P n r)
-
-all-drop : {A : Type 0} (P : A → Type 0) (n : ℕ) {vs : List A} → All P vs → All P (drop n vs)
-all-drop P zero h = h
-all-drop P (suc n) none = none
-all-drop P (suc n) (more h r) = all-drop P n r
-
-all-tab : {A : Type 0} (P : A → Type 0) (n : ℕ) (f : ℕ → A) → ((k : ℕ) → P (f k)) → All P (tab n f)
-unfolding tab
-all-tab P zero f h = none
-all-tab P (suc n) f h = more (h 0) (all-tab P n (λ k. f (suc k)) (λ k. h (suc k)))
 
 module _ {A : Type 0} (shown : A → List ℕ) (digits : ℕ) where
   abbrev Shows : A → Type 0

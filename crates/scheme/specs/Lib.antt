@@ -28,6 +28,7 @@ pub mod Bounds
 pub mod Exact
 pub mod Support
 pub mod AnswerSize
+pub mod RoundTrip
 pub mod DeadMasts
 pub mod Axes
 pub mod Laws

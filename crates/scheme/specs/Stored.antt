@@ -27,6 +27,10 @@ Same nx ny f g = (i j : ℕ) → i < nx → j < ny → f i j ≡ g i j
 pub place-in : (nx ny i j : ℕ) → i < nx → j < ny → j * nx + i < nx * ny
 place-in nx ny i j hi hj = omega (arith, mul-le-mul-right nx hj)
 
+-- row j lies inside the list
+pub row-in : (nx ny j : ℕ) → j < ny → j * nx + nx ≤ ny * nx
+row-in nx ny j h = omega (arith, mul-le-mul-right nx h)
+
 module _ {A : Type 0} (nx ny : ℕ) where
   pub length-stored : (f : Field A) → length (stored nx ny f) ≡ nx * ny
   unfolding stored

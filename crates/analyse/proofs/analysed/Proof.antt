@@ -1,8 +1,8 @@
 -- `analyse::analysed` meets its contract: a refusal as two lines, or the analysis as text. Assumes nothing.
 use borrow.Author.Needs.{needs}
-use Prim.Native.Nat.{ℕ, _/_, _%_, _^_, _<_, _≤_}
+use Prim.Native.Nat.{_/_, _%_, _≤_}
 use native.Mathlib.Omega.{arith}
-use mathlib.Core.Path.{_≡_, sym, _∙_}
+use mathlib.Core.Path.{sym, _∙_}
 use lib.ListN.{length}
 use Rattle.scheme.specs.Units.{Request}
 use Rattle.scheme.specs.Scan.{Analysis}
@@ -19,7 +19,7 @@ module _ (c : tie.After-analyse) where
   abbrev request : Request
   request =
       requestOf (start .args .nx) (start .args .ny) (start .args .guess .now) (start .args .x .now) (start .args .y .now) (start .args .value .now) (start .args .observed .now) (start .args .from .now) (start .args .until .now)
-      (start .args .scans) (start .args .radius .now) (start .args .limit .now) (start .args .smooth) (start .args .time) (start .args .age)
+      (start .args .count) (start .args .radius .now) (start .args .limit .now) (start .args .smooth) (start .args .time) (start .args .age)
 
   abbrev found : Analysis
   found = slices (start .args .grid .now) (start .args .support .now) (start .args .verdict .now)
@@ -65,10 +65,12 @@ analysis-text-requires c κs =
     let k = c .before .before .before .before .before .before .before .before .before .before in
     let s = start k in
     let zero = c .before .before .before .before .if1 .left in
-    let kept = k .analyse .kept .1 .1 .1 .1 .1 .1 .1 .1 .1 .1 .1 .1 .1 .1 .1 in
-    (some-columns (request k) (found k) (left k) (k .analyse .result) (s .pre .0) (answered k) zero,
-      sym (kept .0 ∙ s .pre .0 .grid), sym (kept .1 .0 ∙ s .pre .0 .support),
-      omega (arith, accepted-short (request k) (found k) (left k) (k .analyse .result) (s .pre .0) (answered k) zero, s .pre .1))
+    let kept = k .analyse .kept .1 .1 .1 .1 .1 .1 .1 .1 .1 .1 .1 .1 .1 .1 .1 in (
+      some-columns (request k) (found k) (left k) (k .analyse .result) (s .pre .0) (answered k) zero,
+      sym (kept .0 ∙ s .pre .0 .grid),
+      sym (kept .1 .0 ∙ s .pre .0 .support),
+      omega (arith, accepted-short (request k) (found k) (left k) (k .analyse .result) (s .pre .0) (answered k) zero, s .pre .1),
+    )
 
 same-length-5 : tie.Need-same-length-5
 same-length-5 c = search needs

@@ -73,12 +73,14 @@ slice-aggregate-analysed-12 c = let s = c .before .before .before .before .befor
 
 analysed-requires : tie.Need-analysed-requires
 analysed-requires c κs =
-    let s = c .before .before .before .before .before .before .before .before .before .before .before .before .before .before .before .before .before .before .before .before .before .before .before in
-    (record {
-      grid = length-take-le _ (s .args .grid .now) (omega (arith, few-points s, s .pre .2 .points));
-      support = length-take-le _ (s .args .support .now) (omega (arith, few-points s, s .pre .2 .supports));
-      verdict = length-take-le (s .args .q .stations) (s .args .verdict .now) (omega (arith, s .pre .0 .stations, s .pre .2 .verdicts)) ∙ sym (length-take-le (s .args .q .stations) (s .args .x .now) (omega (arith, s .pre .0 .stations, s .pre .1 .columns .x)));
-    }, s .pre .3)
+    let s = c .before .before .before .before .before .before .before .before .before .before .before .before .before .before .before .before .before .before .before .before .before .before .before in (
+      record {
+        grid = length-take-le _ (s .args .grid .now) (omega (arith, few-points s, s .pre .2 .points));
+        support = length-take-le _ (s .args .support .now) (omega (arith, few-points s, s .pre .2 .supports));
+        verdict = length-take-le (s .args .q .stations) (s .args .verdict .now) (omega (arith, s .pre .0 .stations, s .pre .2 .verdicts)) ∙ sym (length-take-le (s .args .q .stations) (s .args .x .now) (omega (arith, s .pre .0 .stations, s .pre .1 .columns .x)));
+      },
+      s .pre .3,
+    )
 
 same-length : tie.Need-same-length
 same-length c = search needs

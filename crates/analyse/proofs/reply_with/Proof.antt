@@ -7,7 +7,6 @@ use lib.IntN.{ℤ}
 use Rattle.scheme.specs.Units.{Columns}
 use Rattle.scheme.specs.Text.{requestLines}
 use Rattle.scheme.specs.Promises.{sixColumns}
-use Rattle.request.specs.Told.{Room}
 use Rattle.request.specs.Whole.{Lent, requestTold, Fits}
 use Rattle.analyse.specs.Reply.{stands, stands-as, two-short, not-in-form, in-form}
 use Rattle.analyse.proofs.reply_with.Statement.{statement}

@@ -2,7 +2,7 @@
 use borrow.Author.Needs.{needs}
 use native.Mathlib.Omega.{arith}
 use mathlib.Core.List.{[], _∷_}
-use lib.ListN.{length, length-append}
+use lib.ListN.{length-append}
 use Rattle.scheme.specs.Text.{firstTwo}
 use Rattle.scheme.specs.Text.Pieces.{ascii}
 use Rattle.scheme.specs.Text.Printed.{decimal, keyed}

@@ -1,13 +1,14 @@
 -- `answer::row_lines` meets its contract. The invariant: the lines that are left, put from the place reached, complete the text. Assumes nothing.
 use borrow.Author.Needs.{needs}
-use Prim.Native.Nat.{ℕ, _+_, _-_, _*_, _≤_}
+use Prim.Native.Nat.{_+_, _-_, _*_, _≤_}
 use native.Mathlib.Omega.{arith}
 use mathlib.Core.Path.{_≡_}
 use lib.ListN.{length}
+use Rattle.scheme.specs.Stored.{row-in}
 use Rattle.scheme.specs.Text.Pieces.{ascii}
 use Rattle.scheme.specs.Text.Printed.{integer, keyed, gridLines}
 use Rattle.answer.specs.Written.{Left, all-left, none-left, room-next, put-next}
-use Rattle.answer.specs.Rows.{rowPart, row-in, row-long, linesFrom, lines-begin, lines-next, lines-done}
+use Rattle.answer.specs.Rows.{rowPart, row-long, linesFrom, lines-begin, lines-next, lines-done}
 use Rattle.answer.proofs.row_lines.Statement.{statement}
 use Rattle.answer.proofs.row_lines.Tie as tie
 

@@ -1,12 +1,13 @@
 -- `answer::sup_lines` meets its contract. The invariant: the lines that are left, put from the place reached, complete the text. Assumes nothing.
 use borrow.Author.Needs.{needs}
-use Prim.Native.Nat.{ℕ, _+_, _-_, _*_, _≤_}
+use Prim.Native.Nat.{_+_, _-_, _*_, _≤_}
 use native.Mathlib.Omega.{arith}
 use lib.ListN.{length}
+use Rattle.scheme.specs.Stored.{row-in}
 use Rattle.scheme.specs.Text.Pieces.{ascii}
 use Rattle.scheme.specs.Text.Printed.{decimal, keyed, gridLines}
 use Rattle.answer.specs.Written.{Left, all-left, none-left, room-next, put-next}
-use Rattle.answer.specs.Rows.{rowPart, row-in, linesFrom, lines-begin, lines-next, lines-done}
+use Rattle.answer.specs.Rows.{rowPart, linesFrom, lines-begin, lines-next, lines-done}
 use Rattle.answer.proofs.sup_lines.Statement.{statement}
 use Rattle.answer.proofs.sup_lines.Tie as tie
 

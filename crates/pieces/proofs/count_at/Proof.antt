@@ -1,7 +1,7 @@
 -- `pieces::count_at` meets its contract: a number, and then its range. Assumes nothing.
 use borrow.Author.Needs.{needs}
 use native.Mathlib.Omega.{arith}
-use Rattle.scheme.specs.Text.Pieces.{natural, count}
+use Rattle.scheme.specs.Text.Pieces.{count}
 use Rattle.pieces.specs.Numbers.{ranged}
 use Rattle.pieces.proofs.count_at.Statement.{statement}
 use Rattle.pieces.proofs.count_at.Tie as tie

@@ -1,9 +1,7 @@
 -- `pieces::negative_at` meets its contract. Assumes nothing.
 use borrow.Author.Needs.{needs}
 use native.Mathlib.Omega.{arith}
-use mathlib.Core.Path.{_≡_, ap, subst, _∙_}
-use lib.ListN.{drop}
-use Rattle.scheme.specs.Text.Pieces.{reads, between, positive}
+use mathlib.Core.Path.{ap, subst, _∙_}
 use Rattle.pieces.specs.Told.{unsignedTold, Within}
 use Rattle.pieces.specs.Numbers.{ranged, negative-count, negative-none, neg-wide, neg-narrow, negated}
 use Rattle.pieces.proofs.negative_at.Statement.{statement}

@@ -180,9 +180,11 @@ returns-3 : tie.Need-returns-3
 returns-3 c =
     let q = c .before .before .before .before .before .before .before .before .before .before .before .before .before .before .before .before .before .before .before .before in
     let p = after-plan-lines q in
-    let l = c .before .before .before .before .before .before .before .before .before .before .before .before in
-    (after-guess (head p) (text p) (radius p) (limit p) (p .p .given .0 .0) (plan-read p) (guess q) (q .q .given .0 .0) (guess-read q) _
-      (subst (Ends (head p .line + head p .scans + head p .ny) (drop (q .q .given .0 .0) (text p)) (columns l)) (c .before .k3 .given .1) (l .last-lines .ensures)), tt)
+    let l = c .before .before .before .before .before .before .before .before .before .before .before .before in (
+      after-guess (head p) (text p) (radius p) (limit p) (p .p .given .0 .0) (plan-read p) (guess q) (q .q .given .0 .0) (guess-read q) _
+          (subst (Ends (head p .line + head p .scans + head p .ny) (drop (q .q .given .0 .0) (text p)) (columns l)) (c .before .k3 .given .1) (l .last-lines .ensures)),
+      tt,
+    )
 
 same-length-15 : tie.Need-same-length-15
 same-length-15 c = search needs
@@ -216,9 +218,10 @@ returns-4 c =
     let n = c .before in
     let q = c .before .before .before .before .before .before .before .before .before .before .before .before .before .before .before .before .before .before .before .before in
     let p = after-plan-lines q in
-    let l = start p .pre .0 in
-    (after-all (head p) (text p) (radius p) (limit p) (p .p .given .0 .0) (plan-read p) (guess q) (q .q .given .0 .0) (guess-read q) (columns (c .before .before .before .before .before .before .before .before .before .before .before .before)) (n .n .given .0 .0) (rows-are n) (radii p) (limits p),
-      record { columns = l .columns; rows = l .rows; scans = l .scans; stations = rows-are n .few })
+    let l = start p .pre .0 in (
+      after-all (head p) (text p) (radius p) (limit p) (p .p .given .0 .0) (plan-read p) (guess q) (q .q .given .0 .0) (guess-read q) (columns (c .before .before .before .before .before .before .before .before .before .before .before .before)) (n .n .given .0 .0) (rows-are n) (radii p) (limits p),
+      record { columns = l .columns; rows = l .rows; scans = l .scans; stations = rows-are n .few },
+    )
 
 pub after-head-spec : {M : Type 1} → statement M
 after-head-spec =

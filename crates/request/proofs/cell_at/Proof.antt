@@ -1,8 +1,8 @@
 -- `request::cell_at` meets its contract: what follows depends on how many are left. Assumes nothing.
 use borrow.Author.Needs.{needs}
 use Prim.Native.Nat.{ℕ, zero, suc}
-use mathlib.Core.Path.{_≡_, refl, ap, _∙_}
-use Rattle.scheme.specs.Text.Pieces.{Piece, comma, lineFeed, following}
+use mathlib.Core.Path.{_≡_, refl}
+use Rattle.scheme.specs.Text.Pieces.{comma, lineFeed, following}
 use Rattle.pieces.specs.Told.{before-told}
 use Rattle.request.proofs.cell_at.Statement.{statement}
 use Rattle.request.proofs.cell_at.Tie as tie

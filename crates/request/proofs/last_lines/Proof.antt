@@ -79,8 +79,8 @@ station-lines-requires : tie.Need-station-lines-requires
 station-lines-requires c κs =
     let m = c .before .before .before .before .before .before .before in
     let r = start m .pre .1 in
-    let f = few m in
-    (omega (arith, f, start m .pre .0),
+    let f = few m in (
+      omega (arith, f, start m .pre .0),
       record {
         x = omega (arith, r .x, f);
         y = omega (arith, r .y, f);
@@ -88,7 +88,8 @@ station-lines-requires c κs =
         observed = omega (arith, r .observed, f);
         from = omega (arith, r .from, f);
         until = omega (arith, r .until, f);
-      })
+      },
+    )
 
 enum-known-k : tie.Need-enum-known-k
 enum-known-k c = search needs

@@ -1,6 +1,6 @@
 -- `request::read_request` meets its contract: the head, and then what it calls for. Assumes nothing.
 use borrow.Author.Needs.{needs}
-use mathlib.Core.Path.{ap, subst, _∙_}
+use mathlib.Core.Path.{subst, _∙_}
 use Rattle.request.specs.Whole.{Heads, middle, cut}
 use Rattle.request.proofs.read_request.Statement.{statement}
 use Rattle.request.proofs.read_request.Tie as tie

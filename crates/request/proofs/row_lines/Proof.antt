@@ -7,10 +7,11 @@ use mathlib.Core.List.{List, _++_}
 use borrow.Rule.Slice.PartMut.{midOf, putMid, same-len-mid}
 use lib.ListN.{length, take, drop}
 use lib.IntN.{ℤ}
+use Rattle.scheme.specs.Stored.{row-in}
 use Rattle.scheme.specs.Text.Lines.{rowLine}
 use Rattle.scheme.specs.Text.Order.{Text, rows}
 use Rattle.request.specs.Told.{valuesTold}
-use Rattle.request.specs.Turns.{Reached, begin, turn, stop, done, rows-more, rows-stop, rows-none, row-in, part-long, put-row}
+use Rattle.request.specs.Turns.{Reached, begin, turn, stop, done, rows-more, rows-stop, rows-none, part-long, put-row}
 use Rattle.request.proofs.row_lines.Statement.{statement}
 use Rattle.request.proofs.row_lines.Tie as tie
 
@@ -127,11 +128,13 @@ loop-again c =
     let k = c .before .before .before .before in
     let l = at-row (turning k) in
     let a = l .before .before .args in
-    let next = c .before .next .given in
-    (omega arith, same k,
+    let next = c .before .next .given in (
+      omega arith,
+      same k,
       turn (gridRows (a .nx)) (a .s .now) (drop (a .at) (a .s .now)) (a .ny) (a .line) (l .loop .j) (l .loop .p) _ (omega arith) (l .loop .inv .2) (next .0 .0) _ _
-      (rows-more (rowLine (a .nx)) (drop (l .loop .p) (a .s .now)) (drop (next .0 .0) (a .s .now)) _ (row-said k ∙ ap (valuesTold (a .s .now) _) (next .1)))
-      (put k))
+          (rows-more (rowLine (a .nx)) (drop (l .loop .p) (a .s .now)) (drop (next .0 .0) (a .s .now)) _ (row-said k ∙ ap (valuesTold (a .s .now) _) (next .1)))
+          (put k),
+    )
 
 same-length-2 : tie.Need-same-length-2 Inv-loop μ-loop
 same-length-2 c = c .before .loop .inv .1

@@ -1,6 +1,6 @@
 -- `request::scan_lines` meets its contract. The invariant: what is read so far, before what is still to read, is the whole. Assumes nothing.
 use borrow.Author.Needs.{needs}
-use Prim.Native.Nat.{_-_, _+_, _≤_}
+use Prim.Native.Nat.{ℕ, _-_, _≤_}
 use native.Mathlib.Omega.{arith}
 use mathlib.Core.Path.{_≡_, refl, ap, _∙_}
 use lib.ListN.{length, drop, length-set}
@@ -11,7 +11,6 @@ use Rattle.lists.specs.Tab.{tab}
 use Rattle.scheme.specs.Text.Lines.{Entry, scanLine}
 use Rattle.scheme.specs.Text.Order.{Text, lines}
 use mathlib.Core.List.{List}
-use Prim.Native.Nat.{ℕ}
 use Rattle.request.specs.Told.{entryAt, entryTold}
 use Rattle.request.specs.Turns.{Reached, begin, turn, stop, done, lines-more, lines-stop, lines-none}
 use Rattle.request.specs.Columns.{entry-stored}
@@ -84,11 +83,14 @@ loop-again c =
     let v = c .before .r .given in
     let f : SFits w32 (v .0 .0) = record { sfits = c .known-told .given .0 .1 } in
     let g : SFits w32 (v .0 .1 .0) = record { sfits = c .known-told .given .1 .0 .1 } in
-    simp toZ-ofZ
-    (omega arith, length-set (l .loop .radius) (l .loop .i) (v .0 .0) ∙ l .loop .inv .1, length-set (l .loop .limit) (l .loop .i) (v .0 .1 .0) ∙ l .loop .inv .2,
+    simp toZ-ofZ (
+      omega arith,
+      length-set (l .loop .radius) (l .loop .i) (v .0 .0) ∙ l .loop .inv .1,
+      length-set (l .loop .limit) (l .loop .i) (v .0 .1 .0) ∙ l .loop .inv .2,
       turn scans (a .s .now) (drop (a .at) (a .s .now)) (a .n) (a .line) (l .loop .i) (l .loop .p) _ (omega arith) (l .loop .inv .3) (v .0 .1 .1 .0) _ _
-      (lines-more scanLine (drop (l .loop .p) (a .s .now)) (drop (v .0 .1 .1 .0) (a .s .now)) _ (c .before .before .before .scan-line .ensures ∙ ap (entryTold (a .s .now)) (v .1)))
-      (entry-stored (l .loop .i) (l .loop .radius) (l .loop .limit) (v .0 .0) (v .0 .1 .0) (omega arith) (omega arith)))
+          (lines-more scanLine (drop (l .loop .p) (a .s .now)) (drop (v .0 .1 .1 .0) (a .s .now)) _ (c .before .before .before .scan-line .ensures ∙ ap (entryTold (a .s .now)) (v .1)))
+          (entry-stored (l .loop .i) (l .loop .radius) (l .loop .limit) (v .0 .0) (v .0 .1 .0) (omega arith) (omega arith)),
+    )
 
 same-length-3 : tie.Need-same-length-3 Inv-loop μ-loop
 same-length-3 c = c .before .loop .inv .1

@@ -9,7 +9,7 @@ use mir.Syntax.{w32}
 use mir.Val.{SFits}
 use mir.Facts.{toZ-ofZ}
 use Rattle.lists.specs.Tab.{tab}
-use Rattle.scheme.specs.Units.{Columns, Station, stationAt}
+use Rattle.scheme.specs.Units.{Station, stationAt}
 use Rattle.scheme.specs.Text.Lines.{stationLine}
 use Rattle.scheme.specs.Text.Order.{Text, lines}
 use Rattle.scheme.specs.Promises.{sixColumns}
@@ -126,11 +126,13 @@ loop-again c =
     let h : SFits w32 (row .value) = record { sfits = c .struct-told3 .given .1 .1 .0 .1 } in
     let columns = sixColumns (l .loop .x) (l .loop .y) (l .loop .value) (l .loop .observed) (l .loop .from) (l .loop .until) in
     let i : l .loop .i < a .n = c .before .before .before .before .before .before .before .loop-test .taken in
-    simp toZ-ofZ
-    (omega (arith, i), kept-stored (l .loop .i) (stationOf row) _ columns (l .loop .inv .1),
+    simp toZ-ofZ (
+      omega (arith, i),
+      kept-stored (l .loop .i) (stationOf row) _ columns (l .loop .inv .1),
       turn stations (a .s .now) (drop (a .at) (a .s .now)) (a .n) (a .line) (l .loop .i) (l .loop .p) _ i (l .loop .inv .2) (v .0 .1 .0) _ _
-      (lines-more stationLine (drop (l .loop .p) (a .s .now)) (drop (v .0 .1 .0) (a .s .now)) _ (c .before .before .before .before .before .before .station-line .ensures ∙ ap (stationTold (a .s .now)) (v .1)))
-      (station-stored (a .n) (l .loop .i) (stationOf row) _ columns (st .pre .1) (l .loop .inv .1) i))
+          (lines-more stationLine (drop (l .loop .p) (a .s .now)) (drop (v .0 .1 .0) (a .s .now)) _ (c .before .before .before .before .before .before .station-line .ensures ∙ ap (stationTold (a .s .now)) (v .1)))
+          (station-stored (a .n) (l .loop .i) (stationOf row) _ columns (st .pre .1) (l .loop .inv .1) i),
+    )
 
 same-length-7 : tie.Need-same-length-7 Inv-loop μ-loop
 same-length-7 c = c .before .loop .inv .1 .x

@@ -66,10 +66,12 @@ loop-again c =
     let v = c .before .v .given in
     let f : SFits w32 (v .0 .0) = record { sfits = c .known-told .given .0 .1 } in
     let e = length-set (l .loop .z) (l .loop .i) (v .0 .0) in
-    simp toZ-ofZ
-    (omega (arith, e), e ∙ l .loop .inv .1,
+    simp toZ-ofZ (
+      omega (arith, e),
+      e ∙ l .loop .inv .1,
       values-turn (a .s .now) (drop (a .at) (a .s .now)) (length (a .z .now)) (l .loop .i) (l .loop .p) (l .loop .z) (l .loop .inv .1) (omega arith) (l .loop .inv .2)
-      (v .0 .1 .0) (v .0 .0) (c .before .before .before .cell-at .ensures ∙ ap (signedTold (a .s .now)) (v .1)))
+          (v .0 .1 .0) (v .0 .0) (c .before .before .before .cell-at .ensures ∙ ap (signedTold (a .s .now)) (v .1)),
+    )
 
 same-length-2 : tie.Need-same-length-2 Inv-loop μ-loop
 same-length-2 c = c .before .loop .inv .1

@@ -1,0 +1,441 @@
+-- A printed request reads back: to print a request in range and to read the text gives the request again, so that no two print alike.
+use Prim.Native.Nat.{ℕ, zero, suc, _+_, _-_, _*_, _/_, _%_, _^_, _≤_, _<_}
+use native.Mathlib.Omega.{arith}
+use native.Mathlib.Nat.{suc-mul}
+use mathlib.Core.Path.{_≡_, refl, sym, ap, _∙_}
+use mathlib.Core.Bool.{Bool, true, false, cond}
+use mathlib.Core.List.{List, [], _∷_, _++_, append-assoc, map}
+use borrow.Author.Tests.{le-leb, ne-eqb}
+use lib.Dec.{eqb}
+use lib.ListN.{length, take, drop, getD, length-take, length-drop, take-append-drop}
+use lib.IntN.{ℤ, pos, negsuc}
+use lib.Signed.{mag}
+use Rattle.lists.specs.Tests.{cond-both}
+use Rattle.lists.specs.Members.{All, none, more, all-take, all-drop}
+use Rattle.lists.specs.Tab.{tab, map-tab, tab-getD, length-tab}
+use Rattle.scheme.specs.Units.{Request, Station, stationAt, stations, columnsOf, mostScans, mostStations}
+use Rattle.scheme.specs.Text.{requestLines}
+use Rattle.scheme.specs.Text.Pieces.{ascii, fails, reads, Piece, word, isDigit, digits, positive, natural, between, count, greatest, unsigned, minus, negative, signed, following, values}
+use Rattle.scheme.specs.Text.Lines.{Entry, number, gridLine, timeLine, ageLine, smoothLine, scansLine, scanLine, rowLine, stationsLine, observation, end, stationLine}
+use Rattle.scheme.specs.Text.Order.{read, lines, rows, nothingAfter}
+use Rattle.scheme.specs.Text.Printed.{digit, decimal, integer, mark, cells, keyed, gridLines}
+use Rattle.scheme.specs.Decimals.{decimal-one, decimal-more, digit-ind}
+
+-- ---- the printed form of a request; marks are written as digits
+
+abbrev pub entryText : Entry → List ℕ
+entryText t = keyed (ascii "scan=") integer (t .radius ∷ t .limit ∷ [])
+
+abbrev pub stationText : Station → List ℕ
+stationText s =
+    ascii "st=" ++ (integer (s .x) ++ (44 ∷ (integer (s .y) ++ (44 ∷ (integer (s .value) ++ (44 ∷ (decimal (s .observed) ++ (44 ∷ (decimal (s .from) ++ (44 ∷ (decimal (s .until) ++ (10 ∷ []))))))))))))
+
+-- a line for each
+unfoldable pub linesText : {A : Type 0} → (A → List ℕ) → List A → List ℕ
+linesText shown [] = []
+linesText shown (a ∷ rest) = shown a ++ linesText shown rest
+
+-- the entries of its plan
+abbrev pub plan : Request → List Entry
+plan q = tab (q .scans) (λ m. record { radius = getD (q .radius) m (pos 0); limit = getD (q .limit) m (pos 0) })
+
+unfoldable pub requestText : Request → List ℕ
+requestText q =
+    keyed (ascii "grid=") decimal (q .nx ∷ q .ny ∷ [])
+    ++ (keyed (ascii "time=") decimal (q .T ∷ [])
+    ++ (keyed (ascii "age=") decimal (q .A ∷ [])
+    ++ (keyed (ascii "smooth=") decimal (cond (q .smooth) 1 0 ∷ [])
+    ++ (keyed (ascii "scans=") decimal (q .scans ∷ [])
+    ++ (linesText entryText (plan q)
+    ++ (gridLines (ascii "row=") integer (q .nx) (q .ny) (q .firstGuess)
+    ++ (keyed (ascii "stations=") decimal (length (stations q) ∷ [])
+    ++ (linesText stationText (stations q) ++ []))))))))
+
+-- ---- a request whose numbers are those of a text
+
+-- an i32
+abbrev pub Signed : ℤ → Type 0
+Signed z = mag z < 2 ^ 31
+
+abbrev pub Unsigned : ℕ → Type 0
+Unsigned n = n ≤ greatest
+
+pub record StationInRange (s : Station) : Type 0 where
+  pub x : Signed (s .x)
+  pub y : Signed (s .y)
+  pub value : Signed (s .value)
+  pub observed : Unsigned (s .observed)
+  pub from : Unsigned (s .from)
+  pub until : Unsigned (s .until)
+
+pub record EntryInRange (t : Entry) : Type 0 where
+  pub radius : Signed (t .radius)
+  pub limit : Signed (t .limit)
+
+pub record InRange (q : Request) : Type 0 where
+  pub two-columns : 2 ≤ q .nx
+  pub few-columns : q .nx ≤ 64
+  pub two-rows : 2 ≤ q .ny
+  pub few-rows : q .ny ≤ 64
+  pub time : Unsigned (q .T)
+  pub age : Unsigned (q .A)
+  pub some-scans : 1 ≤ q .scans
+  pub few-scans : q .scans ≤ mostScans
+  pub radii : length (q .radius) ≡ q .scans
+  pub limits : length (q .limit) ≡ q .scans
+  pub entries : All EntryInRange (plan q)
+  pub whole : length (q .firstGuess) ≡ q .ny * q .nx
+  pub first-guess : All Signed (q .firstGuess)
+  pub few-stations : length (q .columns .x) ≤ mostStations
+  pub y : length (q .columns .y) ≡ length (q .columns .x)
+  pub value : length (q .columns .value) ≡ length (q .columns .x)
+  pub observed : length (q .columns .observed) ≡ length (q .columns .x)
+  pub from : length (q .columns .from) ≡ length (q .columns .x)
+  pub until : length (q .columns .until) ≡ length (q .columns .x)
+  pub rows : All StationInRange (stations q)
+
+-- ---- numbers read back
+
+-- the number that bytes say, digit after digit
+unfoldable value : ℕ → List ℕ → ℕ
+value a [] = a
+value a (b ∷ bs) = value (10 * a + (b - 48)) bs
+
+value-last : (a : ℕ) (bs : List ℕ) (b : ℕ) → value a (bs ++ (b ∷ [])) ≡ 10 * value a bs + (b - 48)
+unfolding value
+value-last a [] b = refl
+value-last a (x ∷ bs) b = value-last (10 * a + (x - 48)) bs b
+
+value-decimal : (n : ℕ) → value 0 (decimal n) ≡ n
+unfolding value
+value-decimal = digit-ind (λ n. value 0 (decimal n) ≡ n) one next
+  where
+    one : (n : ℕ) → n < 10 → value 0 (decimal n) ≡ n
+    one n h = ap (value 0) (decimal-one n h) ∙ omega arith
+
+    next : (n : ℕ) → 10 ≤ n → value 0 (decimal (n / 10)) ≡ n / 10 → value 0 (decimal n) ≡ n
+    next n h r = ap (value 0) (decimal-more n h) ∙ value-last 0 (decimal (n / 10)) (digit (n % 10)) ∙ omega arith
+
+abbrev Digits : List ℕ → Type 0
+Digits bs = All (λ b. isDigit b ≡ true) bs
+
+-- no digit stands in front
+abbrev Stops : List ℕ → Type 0
+Stops [] = Unit {0}
+Stops (b ∷ bs) = isDigit b ≡ false
+
+digits-over : (a : ℕ) {ds : List ℕ} (rest : List ℕ) → Digits ds → Stops rest → digits a (ds ++ rest) ≡ reads (value a ds) rest
+unfolding digits value
+digits-over a [] none h = refl
+digits-over a (b ∷ rest) none h = rw (h, digits)
+digits-over a rest (more {a = x} {xs = ds} d r) h = rw (d, digits) (digits-over (10 * a + (x - 48)) rest r h)
+
+is-digit : (d : ℕ) → d < 10 → isDigit (digit d) ≡ true
+is-digit d h = rw (le-leb 48 (48 + d) (omega arith), le-leb (48 + d) 57 (omega arith))
+
+digits-last : {ds : List ℕ} (b : ℕ) → Digits ds → isDigit b ≡ true → Digits (ds ++ (b ∷ []))
+digits-last b none h = more h none
+digits-last b (more d r) h = more d (digits-last b r h)
+
+-- a number begins with a digit, from 1 on with a digit from 1 to 9
+record Front (n : ℕ) : Type 0 where
+  first : ℕ
+  later : List ℕ
+  is : decimal n ≡ first ∷ later
+  low : 48 ≤ first
+  some : 1 ≤ n → 49 ≤ first
+  high : first ≤ 57
+  all : Digits later
+
+front : (n : ℕ) → Front n
+front = digit-ind Front one next
+  where
+    one : (n : ℕ) → n < 10 → Front n
+    one n h = record { first = digit n; later = []; is = decimal-one n h; low = omega arith; some = λ k. omega arith; high = omega arith; all = none }
+
+    next : (n : ℕ) → 10 ≤ n → Front (n / 10) → Front n
+    next n h f =
+        record {
+          first = f .first;
+          later = f .later ++ (digit (n % 10) ∷ []);
+          is = decimal-more n h ∙ ap (λ (ds : List ℕ). ds ++ (digit (n % 10) ∷ [])) (f .is);
+          low = f .low;
+          some = λ k. f .some (omega arith);
+          high = f .high;
+          all = digits-last (digit (n % 10)) (f .all) (is-digit (n % 10) (omega arith));
+        }
+
+module _ (n : ℕ) (rest : List ℕ) (h : Stops rest) where
+  positive-decimal : 1 ≤ n → positive (decimal n ++ rest) ≡ reads n rest
+  unfolding positive value
+  positive-decimal k =
+      let f = front n in
+      let z : f .first - 48 ≡ 10 * 0 + (f .first - 48) = omega arith in
+      let e : value (f .first - 48) (f .later) ≡ n = ap (λ (a : ℕ). value a (f .later)) z ∙ sym (ap (value 0) (f .is)) ∙ value-decimal n in
+      rw (f .is, le-leb 49 (f .first) (f .some k), le-leb (f .first) 57 (f .high), positive)
+      (digits-over (f .first - 48) rest (f .all) h ∙ ap (λ (a : ℕ). reads a rest) e)
+
+  -- a word that begins with no digit does not stand there
+  not-word : (b : ℕ) (key : List ℕ) → 57 < b → word (b ∷ key) (decimal n ++ rest) ≡ fails
+  unfolding word
+  not-word b key k = let f = front n in rw (f .is, ne-eqb (f .first) b (λ e. omega (arith, f .high)), word)
+
+natural-decimal : (n : ℕ) (rest : List ℕ) → Stops rest → natural (decimal n ++ rest) ≡ reads n rest
+unfolding natural word
+natural-decimal zero rest h = rw (decimal-one 0 (omega arith))
+natural-decimal (suc n) rest h =
+    let f = front (suc n) in
+    let w : word (48 ∷ []) (decimal (suc n) ++ rest) ≡ fails = rw (f .is, ne-eqb (f .first) 48 (λ e. omega (arith, f .some (omega arith))), word) in
+    rw w (positive-decimal (suc n) rest h (omega arith))
+
+pub between-reads : (low high n : ℕ) (rest : List ℕ) → low ≤ n → n ≤ high → between low high (reads n rest) ≡ reads n rest
+unfolding between
+between-reads low high n rest l h = rw (le-leb low n l, le-leb n high h, between)
+
+count-decimal : (low high n : ℕ) (rest : List ℕ) → low ≤ n → n ≤ high → Stops rest → count low high (decimal n ++ rest) ≡ reads n rest
+unfolding count
+count-decimal low high n rest l h s = rw (natural-decimal n rest s) (between-reads low high n rest l h)
+
+negative-decimal : (n : ℕ) (rest : List ℕ) → n < 2 ^ 31 → Stops rest → negative (decimal (suc n) ++ rest) ≡ reads (negsuc n) rest
+unfolding negative minus
+negative-decimal n rest h s = rw (positive-decimal (suc n) rest s (omega arith), between-reads 0 (2 ^ 31) (suc n) rest (omega arith) h)
+
+signed-minus : (bs : List ℕ) → signed (45 ∷ bs) ≡ negative bs
+unfolding signed count between natural positive word
+signed-minus bs = refl
+
+signed-integer : (z : ℤ) (rest : List ℕ) → Signed z → Stops rest → signed (integer z ++ rest) ≡ reads z rest
+unfolding signed integer
+signed-integer (pos n) rest h s = rw (count-decimal 0 (2 ^ 31 - 1) n rest (omega arith) (omega arith) s)
+signed-integer (negsuc n) rest h s = signed-minus (decimal (suc n) ++ rest) ∙ negative-decimal n rest h s
+
+-- `M` and `open` do not stand where digits do
+observation-integer : (z : ℤ) (rest : List ℕ) → Signed z → Stops rest → observation (integer z ++ rest) ≡ reads z rest
+unfolding observation integer word
+observation-integer (pos n) rest h s = rw (not-word n rest s 77 [] (omega arith)) (signed-integer (pos n) rest h s)
+observation-integer (negsuc n) rest h s = signed-integer (negsuc n) rest h s
+
+end-decimal : (n : ℕ) (rest : List ℕ) → Unsigned n → Stops rest → end (decimal n ++ rest) ≡ reads n rest
+unfolding end unsigned
+end-decimal n rest h s = rw (not-word n rest s 111 (112 ∷ 101 ∷ 110 ∷ []) (omega arith)) (count-decimal 0 greatest n rest (omega arith) h s)
+
+-- ---- lines read back
+
+-- a line that says one number
+number-keyed : (key : List ℕ) (low high n : ℕ) (rest : List ℕ) → ((bs : List ℕ) → word key (key ++ bs) ≡ reads tt bs) → low ≤ n → n ≤ high
+    → number key (count low high) (keyed key decimal (n ∷ []) ++ rest) ≡ reads n rest
+unfolding number keyed cells word
+number-keyed key low high n rest w l h =
+    rw (append-assoc key (decimal n ++ (10 ∷ [])) rest, append-assoc (decimal n) (10 ∷ []) rest, w (decimal n ++ (10 ∷ rest)), count-decimal low high n (10 ∷ rest) l h refl)
+
+grid-keyed : (nx ny : ℕ) (rest : List ℕ) → 2 ≤ nx → nx ≤ 64 → 2 ≤ ny → ny ≤ 64
+    → gridLine (keyed (ascii "grid=") decimal (nx ∷ ny ∷ []) ++ rest) ≡ reads (record { nx = nx; ny = ny }) rest
+unfolding gridLine keyed cells word
+grid-keyed nx ny rest a b c d =
+    rw (
+      append-assoc (decimal nx) (44 ∷ (decimal ny ++ (10 ∷ []))) rest,
+      append-assoc (decimal ny) (10 ∷ []) rest,
+      count-decimal 2 64 nx (44 ∷ (decimal ny ++ (10 ∷ rest))) a b refl,
+      count-decimal 2 64 ny (10 ∷ rest) c d refl,
+    )
+
+scan-keyed : (t : Entry) (rest : List ℕ) → EntryInRange t → scanLine (entryText t ++ rest) ≡ reads t rest
+unfolding scanLine keyed cells word
+scan-keyed t rest r =
+    rw (
+      append-assoc (integer (t .radius)) (44 ∷ (integer (t .limit) ++ (10 ∷ []))) rest,
+      append-assoc (integer (t .limit)) (10 ∷ []) rest,
+      signed-integer (t .radius) (44 ∷ (integer (t .limit) ++ (10 ∷ rest))) (r .radius) refl,
+      signed-integer (t .limit) (10 ∷ rest) (r .limit) refl,
+    )
+
+-- six numbers, each before its mark
+station-keyed : (s : Station) (rest : List ℕ) → StationInRange s → stationLine (stationText s ++ rest) ≡ reads s rest
+unfolding stationLine unsigned word
+station-keyed s rest r =
+    let after-from : List ℕ = 44 ∷ (decimal (s .until) ++ (10 ∷ rest)) in
+    let after-observed : List ℕ = 44 ∷ (decimal (s .from) ++ after-from) in
+    let after-value : List ℕ = 44 ∷ (decimal (s .observed) ++ after-observed) in
+    let after-y : List ℕ = 44 ∷ (integer (s .value) ++ after-value) in
+    let after-x : List ℕ = 44 ∷ (integer (s .y) ++ after-y) in
+    simp append-assoc
+    (rw (
+      signed-integer (s .x) after-x (r .x) refl,
+      signed-integer (s .y) after-y (r .y) refl,
+      observation-integer (s .value) after-value (r .value) refl,
+      count-decimal 0 greatest (s .observed) after-observed (omega arith) (r .observed) refl,
+      count-decimal 0 greatest (s .from) after-from (omega arith) (r .from) refl,
+      end-decimal (s .until) (10 ∷ rest) (r .until) refl,
+    ))
+
+-- lines of a kind
+lines-read : {A : Type 0} (P : A → Type 0) (f : Piece A) (shown : A → List ℕ) → ((a : A) (rest : List ℕ) → P a → f (shown a ++ rest) ≡ reads a rest)
+    → {l : List A} → All P l → (k : ℕ) (rest : List ℕ) → lines (length l) f k (linesText shown l ++ rest) ≡ read l (k + length l) rest
+unfolding lines linesText
+lines-read P f shown h none k rest = let e : k ≡ k + 0 = omega arith in ap (λ (n : ℕ). read [] n rest) e
+lines-read P f shown h (more {a = a} {xs = l} p r) k rest =
+    let e : suc k + length l ≡ k + suc (length l) = omega arith in
+    rw (append-assoc (shown a) (linesText shown l) rest, h a (linesText shown l ++ rest) p, lines-read P f shown h r (suc k) rest, e)
+
+-- the rows of a grid
+mark-after : (n : ℕ) (bs : List ℕ) → following n (mark n ∷ bs) ≡ reads tt bs
+unfolding word
+mark-after zero bs = refl
+mark-after (suc n) bs = refl
+
+mark-stops : (n : ℕ) (bs : List ℕ) → Stops (mark n ∷ bs)
+mark-stops zero bs = refl
+mark-stops (suc n) bs = refl
+
+values-cells : {zs : List ℤ} → All Signed zs → (rest : List ℕ) → values (length zs) (cells integer zs ++ rest) ≡ reads zs rest
+unfolding values cells
+values-cells none rest = refl
+values-cells (more {a = z} {xs = zs} h r) rest =
+    rw (
+      append-assoc (integer z) (mark (length zs) ∷ cells integer zs) rest,
+      signed-integer z (mark (length zs) ∷ (cells integer zs ++ rest)) h (mark-stops (length zs) (cells integer zs ++ rest)),
+      mark-after (length zs) (cells integer zs ++ rest),
+      values-cells r rest,
+    )
+
+row-keyed : (n : ℕ) {zs : List ℤ} → All Signed zs → length zs ≡ suc n → (rest : List ℕ) → rowLine (suc n) (keyed (ascii "row=") integer zs ++ rest) ≡ reads zs rest
+unfolding rowLine keyed word
+row-keyed n none e rest = absurd (omega arith)
+row-keyed n (more {a = z} {xs = zs} h r) e rest = ap (λ (k : ℕ). values k (cells integer (z ∷ zs) ++ rest)) (sym e) ∙ values-cells (more {a = z} {xs = zs} h r) rest
+
+rows-read : (nx ny : ℕ) {vs : List ℤ} → All Signed vs → length vs ≡ ny * suc nx → (k : ℕ) (rest : List ℕ)
+    → rows ny (rowLine (suc nx)) k (gridLines (ascii "row=") integer (suc nx) ny vs ++ rest) ≡ read vs (k + ny) rest
+unfolding rows gridLines
+rows-read nx zero none l k rest = let e : k ≡ k + 0 = omega arith in ap (λ (n : ℕ). read [] n rest) e
+rows-read nx zero (more h r) l k rest = absurd (omega arith)
+rows-read nx (suc ny) {vs = vs} h l k rest =
+    let e : suc k + ny ≡ k + suc ny = omega arith in
+    let a : length (take (suc nx) vs) ≡ suc nx = length-take (suc nx) vs ∙ omega (arith, suc-mul ny (suc nx)) in
+    let b : length (drop (suc nx) vs) ≡ ny * suc nx = length-drop (suc nx) vs ∙ omega (arith, suc-mul ny (suc nx)) in
+    rw (
+      append-assoc (keyed (ascii "row=") integer (take (suc nx) vs)) (gridLines (ascii "row=") integer (suc nx) ny (drop (suc nx) vs)) rest,
+      row-keyed nx (all-take Signed (suc nx) h) a (gridLines (ascii "row=") integer (suc nx) ny (drop (suc nx) vs) ++ rest),
+      rows-read nx ny (all-drop Signed (suc nx) h) b (suc k) rest,
+      take-append-drop (suc nx) vs,
+      e,
+    )
+
+-- ---- the whole
+
+-- what stands in a column, from the stations
+column : {A : Type 0} (o : A) (l : List A) (n : ℕ) → length l ≡ n → tab n (λ k. getD l k o) ≡ l
+column o l n e = ap (λ (m : ℕ). tab m (λ k. getD l k o)) (sym e) ∙ tab-getD l o
+
+module _ (q : Request) (r : InRange q) where
+  stations-back : columnsOf (stations q) ≡ q .columns
+  unfolding stations stationAt
+  stations-back =
+      let n = length (q .columns .x) in
+      let c = q .columns in
+      rw (
+        map-tab (λ (s : Station). s .x) n (stationAt c) ∙ column (pos 0) (c .x) n refl,
+        map-tab (λ (s : Station). s .y) n (stationAt c) ∙ column (pos 0) (c .y) n (r .y),
+        map-tab (λ (s : Station). s .value) n (stationAt c) ∙ column (pos 0) (c .value) n (r .value),
+        map-tab (λ (s : Station). s .observed) n (stationAt c) ∙ column 0 (c .observed) n (r .observed),
+        map-tab (λ (s : Station). s .from) n (stationAt c) ∙ column 0 (c .from) n (r .from),
+        map-tab (λ (s : Station). s .until) n (stationAt c) ∙ column 0 (c .until) n (r .until),
+      )
+
+  radius-back : map (λ (t : Entry). t .radius) (plan q) ≡ q .radius
+  radius-back = map-tab (λ (t : Entry). t .radius) (q .scans) _ ∙ column (pos 0) (q .radius) (q .scans) (r .radii)
+
+  limit-back : map (λ (t : Entry). t .limit) (plan q) ≡ q .limit
+  limit-back = map-tab (λ (t : Entry). t .limit) (q .scans) _ ∙ column (pos 0) (q .limit) (q .scans) (r .limits)
+
+  smooth-back : eqb (cond (q .smooth) 1 0) 1 ≡ q .smooth
+  smooth-back = go (q .smooth)
+    where
+      go : (b : Bool) → eqb (cond b 1 0) 1 ≡ b
+      go true = refl
+      go false = refl
+
+  -- the bytes after each line
+  abbrev afterCount : List ℕ
+  afterCount = linesText stationText (stations q) ++ []
+
+  abbrev afterRows : List ℕ
+  afterRows = keyed (ascii "stations=") decimal (length (stations q) ∷ []) ++ afterCount
+
+  abbrev afterPlan : List ℕ
+  afterPlan = gridLines (ascii "row=") integer (q .nx) (q .ny) (q .firstGuess) ++ afterRows
+
+  abbrev afterScans : List ℕ
+  afterScans = linesText entryText (plan q) ++ afterPlan
+
+  abbrev afterSmooth : List ℕ
+  afterSmooth = keyed (ascii "scans=") decimal (q .scans ∷ []) ++ afterScans
+
+  abbrev afterAge : List ℕ
+  afterAge = keyed (ascii "smooth=") decimal (cond (q .smooth) 1 0 ∷ []) ++ afterSmooth
+
+  abbrev afterTime : List ℕ
+  afterTime = keyed (ascii "age=") decimal (q .A ∷ []) ++ afterAge
+
+  abbrev afterGrid : List ℕ
+  afterGrid = keyed (ascii "time=") decimal (q .T ∷ []) ++ afterTime
+
+  time-read : timeLine afterGrid ≡ reads (q .T) afterTime
+  unfolding timeLine unsigned word
+  time-read = number-keyed (ascii "time=") 0 greatest (q .T) afterTime (λ bs. refl) (omega arith) (r .time)
+
+  age-read : ageLine afterTime ≡ reads (q .A) afterAge
+  unfolding ageLine unsigned word
+  age-read = number-keyed (ascii "age=") 0 greatest (q .A) afterAge (λ bs. refl) (omega arith) (r .age)
+
+  smooth-read : smoothLine afterAge ≡ reads (cond (q .smooth) 1 0) afterSmooth
+  unfolding smoothLine word
+  smooth-read = number-keyed (ascii "smooth=") 0 1 (cond (q .smooth) 1 0) afterSmooth (λ bs. refl) (omega arith) (cond-both (λ n. n ≤ 1) (q .smooth) 1 0 (λ e. omega arith) (λ e. omega arith))
+
+  scans-read : scansLine afterSmooth ≡ reads (q .scans) afterScans
+  unfolding scansLine word
+  scans-read = number-keyed (ascii "scans=") 1 mostScans (q .scans) afterScans (λ bs. refl) (r .some-scans) (r .few-scans)
+
+  plan-read : lines (q .scans) scanLine 6 afterScans ≡ read (plan q) (6 + q .scans) afterPlan
+  plan-read =
+      let e = length-tab (q .scans) (λ m. entry m) in
+      rw e at (lines-read EntryInRange scanLine entryText scan-keyed (r .entries) 6 afterPlan)
+    where
+      entry : ℕ → Entry
+      entry m = record { radius = getD (q .radius) m (pos 0); limit = getD (q .limit) m (pos 0) }
+
+  rows-back : (nx : ℕ) → 1 ≤ nx → length (q .firstGuess) ≡ q .ny * nx → (k : ℕ) (rest : List ℕ)
+      → rows (q .ny) (rowLine nx) k (gridLines (ascii "row=") integer nx (q .ny) (q .firstGuess) ++ rest) ≡ read (q .firstGuess) (k + q .ny) rest
+  rows-back zero h l k rest = absurd (omega arith)
+  rows-back (suc nx) h l k rest = rows-read nx (q .ny) (r .first-guess) l k rest
+
+  count-read : stationsLine afterRows ≡ reads (length (stations q)) afterCount
+  unfolding stationsLine word stations
+  count-read =
+      number-keyed (ascii "stations=") 0 mostStations (length (stations q)) afterCount (λ bs. refl) (omega arith)
+      (omega (arith, length-tab (length (q .columns .x)) (stationAt (q .columns)), r .few-stations))
+
+  pub printed-reads-back : requestLines 1 (requestText q) ≡ read q (suc (6 + q .scans + q .ny) + length (stations q)) []
+  unfolding requestLines requestText nothingAfter
+  printed-reads-back =
+      rw (
+        grid-keyed (q .nx) (q .ny) afterGrid (r .two-columns) (r .few-columns) (r .two-rows) (r .few-rows),
+        time-read,
+        age-read,
+        smooth-read,
+        scans-read,
+        plan-read,
+        rows-back (q .nx) (omega (arith, r .two-columns)) (r .whole) (6 + q .scans) afterRows,
+        count-read,
+        lines-read StationInRange stationLine stationText station-keyed (r .rows) (suc (6 + q .scans + q .ny)) [],
+        stations-back,
+        radius-back,
+        limit-back,
+        smooth-back,
+      )
+
+-- no two requests print alike
+same-read : {A : Type 0} {a b : A} {k m : ℕ} {l n : List ℕ} → read a k l ≡ read b m n → a ≡ b
+same-read e = cc
+
+pub no-two-print-alike : (p q : Request) → InRange p → InRange q → requestText p ≡ requestText q → p ≡ q
+no-two-print-alike p q a b e = same-read (sym (printed-reads-back p a) ∙ ap (requestLines 1) e ∙ printed-reads-back q b)
