@@ -11,6 +11,8 @@ fn second(arguments: &[&str], environment: &[(&str, &str)], input: &str) -> Outp
         .env_remove("SOSNYAVIK_COUNT")
         .env_remove("SOSNYAVIK_EMPTY")
         .env_remove("SOSNYAVIK_BRIDGE")
+        .env_remove("SOSNYAVIK_ANALYSE")
+        .env_remove("SOSNYAVIK_STRIDE")
         .envs(environment.iter().copied())
         .stdin(Stdio::piped())
         .stdout(Stdio::piped())
@@ -32,7 +34,7 @@ fn text_answers_with_success_also_when_refused() {
 #[test]
 fn generate_prints_lengths_and_texts() {
     let output = second(&["generate", "text", "3", "2"], &[], "");
-    let first = second::generate::text(3, 0);
+    let first = second::generate_text::text(3, 0).0;
     let start = [format!("{}\n", first.len()).as_bytes(), &first].concat();
     assert!(output.status.success() && output.stdout.starts_with(&start));
 }
