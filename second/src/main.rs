@@ -17,7 +17,8 @@ use std::process::ExitCode;
 const SEED: u64 = 20_261_947;
 const COUNT: u64 = 20_000;
 const USAGE: &str = "use: second text | second generate KIND SEED COUNT | \
-    second survey [SEED [COUNT]] | second compare KIND [SEED [COUNT]] | second compare near";
+    second survey [SEED [COUNT]] | second compare KIND [SEED [COUNT]] | \
+    second compare near";
 const BRIDGE: &str = "SOSNYAVIK_BRIDGE";
 const BRIDGE_HELP: &str = "in the repository's root, run second/bridge/build FOLDER \
     build/bridge/bridge with the folder of libclause.a, and set SOSNYAVIK_BRIDGE to \
@@ -43,6 +44,10 @@ fn main() -> ExitCode {
         ["survey", seed] => run_survey(Some(seed), None),
         ["survey", seed, count] => run_survey(Some(seed), Some(count)),
         ["compare", "near"] => compare_near_texts(),
+        ["compare", "near", ..] => {
+            let message = "compare near takes no seed and no count; set SOSNYAVIK_STRIDE instead";
+            Err(Wrong::Asked(message.to_string()))
+        }
         ["compare", kind] => compare(kind, None, None),
         ["compare", kind, seed] => compare(kind, Some(seed), None),
         ["compare", kind, seed, count] => compare(kind, Some(seed), Some(count)),
@@ -90,7 +95,7 @@ fn generate(kind: &str, seed: &str, count: &str) -> Result<(), Wrong> {
 
 fn no_such_kind(kind: &str) -> Wrong {
     let kinds = "analysis, window, reading, summary or text";
-    Wrong::Asked(format!("no such kind: {kind:?}; give {kinds} (and near to compare alone)"))
+    Wrong::Asked(format!("no such kind: {kind:?}; give {kinds}"))
 }
 
 /// Each case is preceded by a line that gives its length in bytes.

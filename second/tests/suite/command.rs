@@ -4,7 +4,7 @@ use crate::{ANSWER, REQUEST};
 use std::io::Write;
 use std::process::{Command, Output, Stdio};
 
-fn second(arguments: &[&str], environment: &[(&str, &str)], input: &str) -> Output {
+pub fn second(arguments: &[&str], environment: &[(&str, &str)], input: &str) -> Output {
     let mut child = Command::new(env!("CARGO_BIN_EXE_second"))
         .args(arguments)
         .env_remove("SOSNYAVIK_SEED")
@@ -63,6 +63,20 @@ fn compare_says_how_to_get_a_bridge() {
 }
 
 #[test]
+fn compare_says_how_to_get_the_program() {
+    let asked = |environment: &[(&str, &str)]| {
+        let output = second(&["compare", "text", "3", "20"], environment, "");
+        let message = String::from_utf8_lossy(&output.stderr).into_owned();
+        assert_eq!((output.status.code(), message.lines().count()), (Some(2), 1), "{message}");
+        assert!(message.contains("set SOSNYAVIK_ANALYSE to the command"), "{message}");
+        message
+    };
+    assert!(asked(&[]).contains("SOSNYAVIK_ANALYSE is not set"));
+    assert!(asked(&[("SOSNYAVIK_ANALYSE", " ")]).contains("an empty command"));
+    assert!(asked(&[("SOSNYAVIK_ANALYSE", "/nowhere/analyse")]).contains("No such file"));
+}
+
+#[test]
 fn compare_reports_a_bridge_that_dies() {
     let environment = [("SOSNYAVIK_BRIDGE", "sh tests/suite/dying_bridge.sh")];
     let output = second(&["compare", "analysis", "3", "20"], &environment, "");
@@ -93,6 +107,10 @@ fn bad_arguments_give_one_line_and_two() {
     wrong(&["compare", "maps"], &[]);
     wrong(&["compare", "window"], &[]);
     wrong(&["compare", "text"], &[]);
+    wrong(&["compare", "near"], &[]);
+    wrong(&["compare", "near", "1"], &[]);
+    wrong(&["compare", "near"], &[("SOSNYAVIK_STRIDE", "0")]);
+    wrong(&["compare", "near"], &[("SOSNYAVIK_STRIDE", "all")]);
     wrong(&["compare", "analysis", "1", "0"], &[]);
     wrong(&["compare", "analysis"], &[("SOSNYAVIK_EMPTY", "nil")]);
     wrong(&["survey"], &[("SOSNYAVIK_COUNT", "1e3")]);

@@ -141,3 +141,12 @@ fn no_stations_leave_the_last_line_empty() {
     let answer = answered(&format!("{head}stations=0\n"));
     assert!(answer.ends_with("sup=0,0,0\nver=\n"));
 }
+
+#[test]
+fn the_examples_have_their_answers() {
+    let evening = include_bytes!("../../../examples/evening.request");
+    assert_eq!(answer(evening), include_bytes!("../../../examples/evening.answer"));
+    assert!(answer(evening).ends_with(b"\nver=0,0,0,0,0,0,2,1,4,3,5,11\n"));
+    let paper = include_bytes!("../../../examples/paper.txt");
+    assert_eq!(answer(paper), include_bytes!("../../../examples/paper.answer"));
+}
