@@ -4,16 +4,19 @@ use crate::call::{Analysis, Call, Query, Refusal, Window};
 use crate::compare::{read, Answer, Case, Results, Subject};
 use crate::generate;
 use crate::generate_query;
+use crate::generate_text;
 use crate::generate_window;
+use crate::harm;
 use crate::patterned::{Patterned, BYTE_PATTERN, GRID_PATTERN};
 use crate::query_sorts;
 use crate::reading::Reading;
 use crate::scheme::analyse;
 use crate::shrink;
-use crate::sorts;
+use crate::sorts::{self, Sort};
 use crate::summary::{summarise, Summary};
 use crate::tally::{Floor, Tally};
 use crate::text;
+use crate::text_sorts;
 use crate::window::{pick, whole};
 use crate::write::{listing, printf_form, rerun_form};
 
@@ -279,18 +282,23 @@ impl Case for SummaryCase {
 }
 
 #[derive(Clone, Debug, PartialEq, Eq)]
-pub struct TextCase(pub Vec<u8>);
+pub struct TextCase {
+    pub text: Vec<u8>,
+    /// What was done to it in turn; a smaller text is counted as nothing.
+    pub harm: Option<Sort>,
+}
 
 impl Case for TextCase {
     const KIND: &'static str = "text";
     type Expected = Result<(Call, Analysis), Refusal>;
 
     fn generate(seed: u64, index: u64) -> Self {
-        TextCase(generate::text(seed, index))
+        let (text, harm) = generate_text::text(seed, index);
+        TextCase { text, harm }
     }
 
     fn expected(&self) -> Self::Expected {
-        text::decide(&self.0)
+        text::decide(&self.text)
     }
 
     fn count(&self, expected: &Self::Expected, tally: &mut Tally) {
@@ -298,10 +306,12 @@ impl Case for TextCase {
             Ok((call, analysis)) => tally.add_analysis(call, analysis),
             Err(refusal) => tally.add_refusal(refusal),
         }
+        tally.add_sorts(&text_sorts::of_text(&self.text, expected.is_ok()));
+        tally.add_sorts(self.harm.as_slice());
     }
 
     fn difference(&self, expected: &Self::Expected, subject: &dyn Subject) -> Option<String> {
-        let given = match subject.text(&self.0) {
+        let given = match subject.text(&self.text) {
             Ok(given) => given,
             Err(wrong) => return Some(wrong),
         };
@@ -319,18 +329,19 @@ impl Case for TextCase {
     }
 
     fn smaller(&self) -> Box<dyn Iterator<Item = Self> + '_> {
-        Box::new(shrink::smaller_texts(&self.0).map(TextCase))
+        Box::new(shrink::smaller_texts(&self.text).map(|text| TextCase { text, harm: None }))
     }
 
     fn rerun_form(&self) -> String {
-        printf_form(&self.0)
+        printf_form(&self.text)
     }
 
     fn plain(&self) -> Vec<u8> {
-        self.0.clone()
+        self.text.clone()
     }
 
     fn floors() -> Vec<Floor> {
-        scheme_floors(6_667, &[6, 7, 8, 9, 10])
+        let scheme = scheme_floors(10_000, &[6, 7, 8, 9, 10]);
+        [scheme, text_sorts::floors(), harm::floors()].concat()
     }
 }

@@ -9,6 +9,8 @@ use crate::summary::{summarise, Summary};
 use crate::tally::{Floor, Tally};
 use crate::text;
 use crate::window::window;
+use std::sync::atomic::{AtomicU64, Ordering};
+use std::thread::scope;
 
 /// The result slices that are lent to a subject. A window query has no
 /// verdicts and is lent none.
@@ -141,19 +143,73 @@ pub struct Run<C> {
     pub failure: Option<Failure<C>>,
 }
 
+/// A case that differs, before it is made small.
+struct Found<C> {
+    index: u64,
+    difference: String,
+    case: C,
+}
+
+/// Counts a case and compares it.
+fn seen<C: Case>(
+    subject: &dyn Subject,
+    index: u64,
+    case: C,
+    tally: &mut Tally,
+) -> Option<Found<C>> {
+    let expected = case.expected();
+    tally.count += 1;
+    case.count(&expected, tally);
+    let difference = case.difference(&expected, subject)?;
+    Some(Found { index, difference, case })
+}
+
+fn made_small<C: Case>(subject: &dyn Subject, found: Found<C>) -> Failure<C> {
+    let Found { index, difference, case } = found;
+    let smallest = smallest(case, &|case: &C| case.differs(subject).is_some());
+    let difference = smallest.differs(subject).unwrap_or(difference);
+    Failure { index, difference, smallest }
+}
+
 /// Compares the cases 0..count of a seed, up to the first that differs.
 pub fn run<C: Case>(subject: &dyn Subject, seed: u64, count: u64) -> Run<C> {
     let mut tally = Tally::default();
-    for index in 0..count {
-        let case = C::generate(seed, index);
-        let expected = case.expected();
-        tally.count += 1;
-        case.count(&expected, &mut tally);
-        if let Some(difference) = case.difference(&expected, subject) {
-            let smallest = smallest(case, &|case: &C| case.differs(subject).is_some());
-            let difference = smallest.differs(subject).unwrap_or(difference);
-            return Run { tally, failure: Some(Failure { index, difference, smallest }) };
+    let found =
+        (0..count).find_map(|index| seen(subject, index, C::generate(seed, index), &mut tally));
+    Run { tally, failure: found.map(|found| made_small(subject, found)) }
+}
+
+/// A subject that answers two calls at a time.
+pub type Shared<'a> = &'a (dyn Subject + Sync);
+
+/// The same over any cases 0..count, two at a time. The first that differs is
+/// found here too: every case before it has been begun, and is finished.
+pub fn run_two_at_a_time<C: Case + Send>(
+    subject: Shared,
+    make: &(dyn Fn(u64) -> C + Sync),
+    count: u64,
+) -> Run<C> {
+    let next = AtomicU64::new(0);
+    let work = || {
+        let mut tally = Tally::default();
+        loop {
+            let index = next.fetch_add(1, Ordering::Relaxed);
+            if index >= count {
+                return (tally, None);
+            }
+            let found = seen(subject, index, make(index), &mut tally);
+            if found.is_some() {
+                next.store(count, Ordering::Relaxed);
+                return (tally, found);
+            }
         }
-    }
-    Run { tally, failure: None }
+    };
+    let ((mut tally, one), (others, other)) = scope(|scope| {
+        let beside = scope.spawn(work);
+        let here = work();
+        (here, beside.join().expect("the other thread compares to its end"))
+    });
+    tally.add_all(&others);
+    let first = one.into_iter().chain(other).min_by_key(|found| found.index);
+    Run { tally, failure: first.map(|found| made_small(subject, found)) }
 }

@@ -1,20 +1,18 @@
-//! The seeded generator: calls and texts, each valid, heavy with bounds, or
-//! damaged by a schedule over the index. `generate_window` places windows on
-//! such calls; `generate_query` makes readings and summaries.
+//! The seeded generator: calls, each valid, heavy with bounds, or damaged by a
+//! schedule over the index. `generate_window` places windows on such calls,
+//! `generate_text` writes them out as texts; `generate_query` makes readings
+//! and summaries.
 
 use crate::call::Call;
 use crate::damage;
 use crate::rng::Rng;
 use crate::scan::difference;
 use crate::scheme::run;
-use crate::units::{rounded, CELL, DEFAULT_AGE, MISSING, MOST_TEXT, NO_END, VALUE};
-use crate::write::{request_text, Style};
+use crate::units::{rounded, CELL, DEFAULT_AGE, MISSING, NO_END, VALUE};
 
 /// Every so many indices a request is big: both sides 48 or more and at least
 /// 300 stations. A little more than the floor asks for, since they are slow.
 const BIG_EVERY: u64 = 55;
-/// Every so many indices a text stands at the length limit or one past it.
-const LIMIT_EVERY: u64 = 97;
 /// The flavours come round in turns of this length.
 pub const TURNS: u64 = 24;
 const BOUNDARY_TURNS: u64 = 5;
@@ -86,7 +84,7 @@ pub fn edge_call(rng: &mut Rng) -> Call {
     call_of(rng, nx, ny, stations)
 }
 
-fn boundary_call(rng: &mut Rng) -> Call {
+pub fn boundary_call(rng: &mut Rng) -> Call {
     let mut call = if rng.one_in(9) {
         // Out of bounds, but with lengths that fit.
         let side = rng.pick(&[0, 1, 65]);
@@ -289,76 +287,4 @@ pub fn tune_limits(rng: &mut Rng, call: &mut Call) {
             call.limit[scan as usize] = (size - rng.pick(&[0, 1])).clamp(0, 2_000_000);
         }
     }
-}
-
-/// A request text.
-pub fn text(seed: u64, index: u64) -> Vec<u8> {
-    let mut rng = Rng::for_case(seed, 5, index);
-    let rng = &mut rng;
-    if index % LIMIT_EVERY == 5 {
-        let past = index / LIMIT_EVERY % 2;
-        return text_of_length(rng, MOST_TEXT + past as usize);
-    }
-    match flavour(index, &[6, 7, 8, 9, 10, 9, 9]) {
-        Flavour::Big => written(rng, big_call),
-        Flavour::Valid => written(rng, small_call),
-        Flavour::Boundary => written(rng, boundary_call),
-        Flavour::Damaged(9) => {
-            let mut text = written(rng, small_call);
-            for _ in 0..rng.pick(&[1, 1, 1, 2]) {
-                damage::break_text(rng, &mut text);
-            }
-            text
-        }
-        Flavour::Damaged(10) => {
-            let mut text = written(rng, small_call);
-            let filler = rng.pick(&[b'\n', b'0', b'x', 0xFF]);
-            let surplus = rng.pick(&[0, 1, 2, 900]);
-            text.resize(MOST_TEXT + surplus, filler);
-            text
-        }
-        Flavour::Damaged(number) => {
-            let mut call = small_call(rng);
-            damage::break_one(rng, &mut call, number);
-            text_form(rng, &call).unwrap_or_default()
-        }
-    }
-}
-
-/// The text of a made call. Where bounds made it unsayable, another is made.
-fn written(rng: &mut Rng, make: fn(&mut Rng) -> Call) -> Vec<u8> {
-    loop {
-        let call = make(rng);
-        if let Some(text) = text_form(rng, &call) {
-            return text;
-        }
-    }
-}
-
-fn text_form(rng: &mut Rng, call: &Call) -> Option<Vec<u8>> {
-    let style = Style { marks_as_digits: rng.one_in(3), age_left_out: rng.one_in(2) };
-    request_text(call, style)
-}
-
-/// A proper request of an exact length near the limit: the longest numbers
-/// that all rows may have, then one byte less in as many points as needed.
-fn text_of_length(rng: &mut Rng, length: usize) -> Vec<u8> {
-    let mut call = call_of(rng, 64, 64, 512);
-    call.time = 4_294_967_000;
-    call.first_guess = vec![-1_000_000; 64 * 64];
-    call.radius.iter_mut().for_each(|radius| *radius = 1 + *radius / 8);
-    for row in 0..call.x.len() {
-        if row % 8 < 6 {
-            (call.x[row], call.y[row]) = (-1_000_000, -1_000_000);
-        }
-        call.value[row] = rng.between(-1_000_000, -999_000);
-        call.observed[row] = call.time - rng.up_to(200);
-        call.from[row] = 1_000_000_000;
-        call.until[row] = NO_END;
-    }
-    let style = Style { marks_as_digits: true, age_left_out: false };
-    let whole = request_text(&call, style).map_or(0, |text| text.len());
-    let surplus = whole.saturating_sub(length).min(call.first_guess.len());
-    call.first_guess[..surplus].fill(-999_999);
-    request_text(&call, style).unwrap_or_default()
 }

@@ -5,8 +5,11 @@
 use second::bridge::{Bridge, Empty};
 use second::cases::{AnalysisCase, ReadingCase, SummaryCase, TextCase, WindowCase};
 use second::compare::{Case, Own};
-use second::survey::{compare_kind, survey};
+use second::near::STRIDE;
+use second::program::Program;
+use second::survey::{compare_kind, compare_near, compare_texts, survey};
 use second::text;
+use second::units::MOST_TEXT;
 use std::env::{args, var_os};
 use std::io::{self, Read, Write};
 use std::process::ExitCode;
@@ -14,11 +17,16 @@ use std::process::ExitCode;
 const SEED: u64 = 20_261_947;
 const COUNT: u64 = 20_000;
 const USAGE: &str = "use: second text | second generate KIND SEED COUNT | \
-    second survey [SEED [COUNT]] | second compare KIND [SEED [COUNT]]";
+    second survey [SEED [COUNT]] | second compare KIND [SEED [COUNT]] | \
+    second compare near";
 const BRIDGE: &str = "SOSNYAVIK_BRIDGE";
 const BRIDGE_HELP: &str = "in the repository's root, run second/bridge/build FOLDER \
     build/bridge/bridge with the folder of libclause.a, and set SOSNYAVIK_BRIDGE to \
     'scripts/x86 run build/bridge/bridge'";
+
+const ANALYSE: &str = "SOSNYAVIK_ANALYSE";
+const ANALYSE_HELP: &str = "build the text program and set SOSNYAVIK_ANALYSE to the command \
+    that runs it, such as 'target/bin/analyse' or 'scripts/x86 run target/bin/analyse'";
 
 /// What went wrong, with the exit code that says whose fault it was.
 enum Wrong {
@@ -35,6 +43,11 @@ fn main() -> ExitCode {
         ["survey"] => run_survey(None, None),
         ["survey", seed] => run_survey(Some(seed), None),
         ["survey", seed, count] => run_survey(Some(seed), Some(count)),
+        ["compare", "near"] => compare_near_texts(),
+        ["compare", "near", ..] => {
+            let message = "compare near takes no seed and no count; set SOSNYAVIK_STRIDE instead";
+            Err(Wrong::Asked(message.to_string()))
+        }
         ["compare", kind] => compare(kind, None, None),
         ["compare", kind, seed] => compare(kind, Some(seed), None),
         ["compare", kind, seed, count] => compare(kind, Some(seed), Some(count)),
@@ -59,7 +72,9 @@ fn main() -> ExitCode {
 
 fn answer_text() -> Result<(), Wrong> {
     let mut request = Vec::new();
+    // One byte past the limit is enough to refuse what is longer.
     io::stdin()
+        .take(MOST_TEXT as u64 + 1)
         .read_to_end(&mut request)
         .map_err(|error| Wrong::Found(format!("the request could not be read: {error}")))?;
     print(&text::answer(&request))
@@ -105,7 +120,8 @@ fn run_survey(seed: Option<&str>, count: Option<&str>) -> Result<(), Wrong> {
     survey(&Own, seed, count, &mut io::stdout()).map_err(Wrong::Found)
 }
 
-/// The archive beside the second program, over the cases of one kind.
+/// The archive beside the second program, over the cases of one kind; for
+/// texts, the text program.
 fn compare(kind: &str, seed: Option<&str>, count: Option<&str>) -> Result<(), Wrong> {
     let compare_kind = match kind {
         "analysis" => compare_kind::<AnalysisCase>,
@@ -113,14 +129,37 @@ fn compare(kind: &str, seed: Option<&str>, count: Option<&str>) -> Result<(), Wr
         "reading" => compare_kind::<ReadingCase>,
         "summary" => compare_kind::<SummaryCase>,
         "text" => {
-            let kinds = "analysis, window, reading or summary";
-            let message = format!("the archive does not offer {kind} yet; give {kinds}");
-            return Err(Wrong::Asked(message));
+            let (seed, count) = seed_and_count(seed, count)?;
+            return compare_texts(&program()?, seed, count, &mut io::stdout())
+                .map_err(Wrong::Found);
         }
         _ => return Err(no_such_kind(kind)),
     };
     let (seed, count) = seed_and_count(seed, count)?;
     compare_kind(&bridge()?, seed, count, &mut io::stdout()).map_err(Wrong::Found)
+}
+
+/// The text program beside the second program, over the texts that are one
+/// byte away from the paper's example.
+fn compare_near_texts() -> Result<(), Wrong> {
+    let name = "SOSNYAVIK_STRIDE";
+    let stride = setting(name, None, STRIDE)?;
+    if stride == 0 {
+        return Err(Wrong::Asked(format!("{name} is 0; give 1 for all texts, or more")));
+    }
+    compare_near(&program()?, stride, &mut io::stdout()).map_err(Wrong::Found)
+}
+
+/// The text program that the environment names.
+fn program() -> Result<Program, Wrong> {
+    let Some(command) = var_os(ANALYSE) else {
+        return Err(Wrong::Asked(format!("{ANALYSE} is not set; {ANALYSE_HELP}")));
+    };
+    let command = command.to_string_lossy();
+    Program::find(&command).map_err(|why| {
+        let wrong = format!("{ANALYSE} is {command:?}, which does not start: {why}");
+        Wrong::Asked(format!("{wrong}; {ANALYSE_HELP}"))
+    })
 }
 
 /// The bridge that the environment names, with the archive behind it.

@@ -2,7 +2,9 @@
 //! floors held.
 
 use crate::cases::{AnalysisCase, ReadingCase, SummaryCase, TextCase, WindowCase};
-use crate::compare::{run, Case, Subject};
+use crate::compare::{run, run_two_at_a_time, Case, Run, Shared, Subject};
+use crate::near::{Edits, PAPER};
+use crate::tally::Floor;
 use std::io::{self, Write};
 
 /// Runs one kind and prints its tally. The error says what was found wrong.
@@ -12,20 +14,37 @@ pub fn survey_kind<C: Case>(
     count: u64,
     out: &mut dyn Write,
 ) -> Result<(), String> {
-    let outcome = run::<C>(subject, seed, count);
-    let kind = C::KIND;
+    report(run::<C>(subject, seed, count), &kind_of_seed::<C>(seed), &C::floors(), out)
+}
+
+fn kind_of_seed<C: Case>(seed: u64) -> Origin {
+    Origin { kind: C::KIND, of: format!("of seed {seed}") }
+}
+
+/// Where the cases of a run come from, for what is said of them.
+struct Origin {
+    kind: &'static str,
+    of: String,
+}
+
+fn report<C: Case>(
+    outcome: Run<C>,
+    Origin { kind, of }: &Origin,
+    floors: &[Floor],
+    out: &mut dyn Write,
+) -> Result<(), String> {
     if let Some(failure) = outcome.failure {
         let (index, difference) = (failure.index, failure.difference);
         let smallest = failure.smallest.rerun_form();
         return Err(format!(
-            "{kind} case {index} of seed {seed}: {difference}\nsmallest failing request:\n{smallest}"
+            "{kind} case {index} {of}: {difference}\nsmallest failing request:\n{smallest}"
         ));
     }
     let tally = &outcome.tally;
     writeln!(out, "{kind}, {} cases", tally.count).map_err(unprinted)?;
     write!(out, "{tally}").map_err(unprinted)?;
-    match tally.missed(&C::floors()) {
-        Some(missed) => Err(format!("{kind} of seed {seed}, {missed}")),
+    match tally.missed(floors) {
+        Some(missed) => Err(format!("{kind} {of}, {missed}")),
         None => Ok(()),
     }
 }
@@ -43,6 +62,28 @@ pub fn compare_kind<C: Case>(
 ) -> Result<(), String> {
     writeln!(out, "seed {seed}, count {count}").map_err(unprinted)?;
     survey_kind::<C>(subject, seed, count, out)
+}
+
+/// Runs the generated texts through a program, two at a time.
+pub fn compare_texts(
+    program: Shared,
+    seed: u64,
+    count: u64,
+    out: &mut dyn Write,
+) -> Result<(), String> {
+    writeln!(out, "seed {seed}, count {count}").map_err(unprinted)?;
+    let outcome = run_two_at_a_time(program, &|index| TextCase::generate(seed, index), count);
+    report(outcome, &kind_of_seed::<TextCase>(seed), &TextCase::floors(), out)
+}
+
+/// Runs the texts that are one byte away from the paper's example through a
+/// program, two at a time: all deletions, and of the others every stride-th.
+pub fn compare_near(program: Shared, stride: u64, out: &mut dyn Write) -> Result<(), String> {
+    let edits = Edits::new(PAPER, stride);
+    writeln!(out, "stride {stride}, {}", edits.counts()).map_err(unprinted)?;
+    let outcome = run_two_at_a_time(program, &|index| edits.case(index), edits.count());
+    let origin = Origin { kind: "near", of: format!("of stride {stride}") };
+    report(outcome, &origin, &edits.floors(), out)
 }
 
 pub fn survey(

@@ -25,28 +25,52 @@ pub struct Floor {
     pub number: u32,
     /// The least in a full run.
     pub least: u64,
-    /// Whether longer runs raise it: a share does, a number of times does not.
-    pub share: bool,
+    pub growth: Growth,
+}
+
+/// What becomes of a floor in a run of another length.
+#[derive(Clone, Copy, Debug, PartialEq, Eq)]
+pub enum Growth {
+    /// Shorter runs lower it and longer runs raise it.
+    Share,
+    /// Shorter runs lower it.
+    Times,
+    Fixed,
 }
 
 impl Floor {
     pub fn times(name: &'static str, number: u32, least: u64) -> Self {
-        Floor { name, number, least, share: false }
+        Floor { name, number, least, growth: Growth::Times }
+    }
+
+    pub fn fixed(name: &'static str, number: u32, least: u64) -> Self {
+        Floor { name, number, least, growth: Growth::Fixed }
     }
 
     pub fn accepted_share(least: u64) -> Self {
-        Floor { name: "accepted", number: 0, least, share: true }
+        Floor { name: "accepted", number: 0, least, growth: Growth::Share }
     }
 
     fn scaled(&self, count: u64) -> u64 {
-        let count = if self.share { count } else { count.min(FULL_RUN) };
-        self.least * count / FULL_RUN
+        match self.growth {
+            Growth::Share => self.least * count / FULL_RUN,
+            Growth::Times => self.least * count.min(FULL_RUN) / FULL_RUN,
+            Growth::Fixed => self.least,
+        }
     }
 }
 
 impl Tally {
     pub fn add(&mut self, name: &'static str, number: u32) {
         *self.seen.entry((name, number)).or_default() += 1;
+    }
+
+    /// Adds what another tally has seen.
+    pub fn add_all(&mut self, other: &Tally) {
+        self.count += other.count;
+        for (sort, seen) in &other.seen {
+            *self.seen.entry(*sort).or_default() += seen;
+        }
     }
 
     pub fn of(&self, name: &'static str, number: u32) -> u64 {

@@ -4,13 +4,15 @@ use crate::{ANSWER, REQUEST};
 use std::io::Write;
 use std::process::{Command, Output, Stdio};
 
-fn second(arguments: &[&str], environment: &[(&str, &str)], input: &str) -> Output {
+pub fn second(arguments: &[&str], environment: &[(&str, &str)], input: &str) -> Output {
     let mut child = Command::new(env!("CARGO_BIN_EXE_second"))
         .args(arguments)
         .env_remove("SOSNYAVIK_SEED")
         .env_remove("SOSNYAVIK_COUNT")
         .env_remove("SOSNYAVIK_EMPTY")
         .env_remove("SOSNYAVIK_BRIDGE")
+        .env_remove("SOSNYAVIK_ANALYSE")
+        .env_remove("SOSNYAVIK_STRIDE")
         .envs(environment.iter().copied())
         .stdin(Stdio::piped())
         .stdout(Stdio::piped())
@@ -32,7 +34,7 @@ fn text_answers_with_success_also_when_refused() {
 #[test]
 fn generate_prints_lengths_and_texts() {
     let output = second(&["generate", "text", "3", "2"], &[], "");
-    let first = second::generate::text(3, 0);
+    let first = second::generate_text::text(3, 0).0;
     let start = [format!("{}\n", first.len()).as_bytes(), &first].concat();
     assert!(output.status.success() && output.stdout.starts_with(&start));
 }
@@ -58,6 +60,20 @@ fn compare_says_how_to_get_a_bridge() {
     assert!(asked(&[("SOSNYAVIK_BRIDGE", "/nowhere/bridge")]).contains("No such file"));
     assert!(asked(&[("SOSNYAVIK_BRIDGE", "false")]).contains("exit status: 1"));
     assert!(asked(&[("SOSNYAVIK_BRIDGE", "cat")]).contains("not as the bridge does"));
+}
+
+#[test]
+fn compare_says_how_to_get_the_program() {
+    let asked = |environment: &[(&str, &str)]| {
+        let output = second(&["compare", "text", "3", "20"], environment, "");
+        let message = String::from_utf8_lossy(&output.stderr).into_owned();
+        assert_eq!((output.status.code(), message.lines().count()), (Some(2), 1), "{message}");
+        assert!(message.contains("set SOSNYAVIK_ANALYSE to the command"), "{message}");
+        message
+    };
+    assert!(asked(&[]).contains("SOSNYAVIK_ANALYSE is not set"));
+    assert!(asked(&[("SOSNYAVIK_ANALYSE", " ")]).contains("an empty command"));
+    assert!(asked(&[("SOSNYAVIK_ANALYSE", "/nowhere/analyse")]).contains("No such file"));
 }
 
 #[test]
@@ -91,6 +107,10 @@ fn bad_arguments_give_one_line_and_two() {
     wrong(&["compare", "maps"], &[]);
     wrong(&["compare", "window"], &[]);
     wrong(&["compare", "text"], &[]);
+    wrong(&["compare", "near"], &[]);
+    wrong(&["compare", "near", "1"], &[]);
+    wrong(&["compare", "near"], &[("SOSNYAVIK_STRIDE", "0")]);
+    wrong(&["compare", "near"], &[("SOSNYAVIK_STRIDE", "all")]);
     wrong(&["compare", "analysis", "1", "0"], &[]);
     wrong(&["compare", "analysis"], &[("SOSNYAVIK_EMPTY", "nil")]);
     wrong(&["survey"], &[("SOSNYAVIK_COUNT", "1e3")]);

@@ -129,7 +129,7 @@ fn refused_cases_of_every_number_are_made_small() {
     }
     for (number, case) in shrink_refused::<TextCase, (Call, Analysis)>(100) {
         let most = if number == 10 { 65_700 } else { 110 };
-        assert!(case.0.len() <= most, "{number}: {}", printf_form(&case.0));
+        assert!(case.text.len() <= most, "{number}: {}", printf_form(&case.text));
     }
 }
 
@@ -178,7 +178,7 @@ fn faults_of_readings_and_summaries_are_seen() {
 
 #[test]
 fn a_fault_of_the_text_is_seen_and_made_small() {
-    let text = failure::<TextCase>(Fault::CarriageReturns).smallest.0;
+    let text = failure::<TextCase>(Fault::CarriageReturns).smallest.text;
     assert!(text.contains(&b'\r') && text.len() < 100, "{}", printf_form(&text));
 }
 

@@ -5,6 +5,7 @@ mod command;
 mod faulty;
 mod harness;
 mod numbers;
+mod program;
 mod readings;
 mod refusals;
 mod sorts;

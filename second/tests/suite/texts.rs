@@ -1,7 +1,7 @@
 //! The rules of the request text, each on case (i) with something replaced.
 
 use crate::{ANSWER, REQUEST};
-use second::generate;
+use second::generate_text;
 use second::text::answer;
 use second::units::MOST_TEXT;
 
@@ -127,10 +127,10 @@ fn ten_then_nine_then_the_rest() {
 
 #[test]
 fn proper_requests_reach_the_limit() {
-    let at_limit = generate::text(1, 5);
+    let at_limit = generate_text::text(1, 5).0;
     assert_eq!(at_limit.len(), MOST_TEXT);
     assert!(answer(&at_limit).starts_with(b"refusal=0\nplace=0\nrow="));
-    let past = generate::text(1, 5 + 97);
+    let past = generate_text::text(1, 5 + 97).0;
     assert_eq!(past.len(), MOST_TEXT + 1);
     assert_eq!(answer(&past), refusal(10, 0).as_bytes());
 }
@@ -140,4 +140,13 @@ fn no_stations_leave_the_last_line_empty() {
     let (head, _) = REQUEST.split_once("stations=3").expect("it has stations");
     let answer = answered(&format!("{head}stations=0\n"));
     assert!(answer.ends_with("sup=0,0,0\nver=\n"));
+}
+
+#[test]
+fn the_examples_have_their_answers() {
+    let evening = include_bytes!("../../../examples/evening.request");
+    assert_eq!(answer(evening), include_bytes!("../../../examples/evening.answer"));
+    assert!(answer(evening).ends_with(b"\nver=0,0,0,0,0,0,2,1,4,3,5,11\n"));
+    let paper = include_bytes!("../../../examples/paper.txt");
+    assert_eq!(answer(paper), include_bytes!("../../../examples/paper.answer"));
 }

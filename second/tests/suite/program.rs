@@ -1,0 +1,216 @@
+//! The text program under comparison: a stand-in with one fault each, the
+//! texts it is handed, and the script that tries its input and output.
+
+use crate::command::second;
+use crate::faulty::{Fault, Faulty};
+use crate::{ANSWER, REQUEST};
+use second::cases::TextCase;
+use second::compare::{run, run_two_at_a_time, Case, Own, Subject};
+use second::harm::{floors, harm};
+use second::near::{Edits, PAPER, STRIDE};
+use second::program::Program;
+use second::rng::Rng;
+use second::survey::compare_near;
+use second::text::decide;
+use std::collections::BTreeSet;
+use std::process::{Command, Output};
+
+const SECOND: &str = env!("CARGO_BIN_EXE_second");
+const SCRIPT: &str = concat!(env!("CARGO_MANIFEST_DIR"), "/tests/suite/analyse.sh");
+
+/// The command of a stand-in; the empty fault is none.
+fn stand_in(fault: &str) -> String {
+    format!("{SCRIPT} {SECOND} {fault}")
+}
+
+fn difference(fault: &str) -> Option<String> {
+    let program = Program::find(&stand_in(fault)).expect("it starts");
+    TextCase { text: REQUEST.into(), harm: None }.differs(&program)
+}
+
+#[test]
+fn every_fault_of_a_program_is_seen() {
+    assert_eq!(difference(""), None);
+    let seen = |fault: &str| difference(fault).unwrap_or_else(|| panic!("{fault} was not seen"));
+    assert_eq!(seen("byte"), "answer line 9 is ver=1,0,2\\n, not ver=0,0,2\\n");
+    assert_eq!(seen("unended"), "answer line 9 is ver=0,0,2, not ver=0,0,2\\n");
+    assert_eq!(seen("status"), "the program ended with exit status: 3");
+    assert_eq!(seen("errors"), "standard error is all is well\\n, not empty");
+}
+
+#[test]
+fn a_long_text_is_written_to_a_program_that_does_not_read() {
+    let deaf = Program::find("echo refusal=10").expect("it starts");
+    assert_eq!(deaf.text(&[b'x'; 300_000]), Ok(b"refusal=10\n".to_vec()));
+    let reads = Program::find("wc -c").expect("it starts");
+    assert_eq!(reads.text(&[b'x'; 300_000]), Ok(b"300000\n".to_vec()));
+}
+
+#[test]
+fn compare_runs_a_program() {
+    let program = stand_in("");
+    let environment = [("SOSNYAVIK_ANALYSE", &program[..]), ("SOSNYAVIK_STRIDE", "2000")];
+    let output = second(&["compare", "text", "3", "60"], &environment, "");
+    let said = String::from_utf8_lossy(&output.stdout).into_owned();
+    assert!(output.status.success(), "{output:?}");
+    assert!(said.starts_with("seed 3, count 60\ntext, 60 cases\n  accepted: "), "{said}");
+    let output = second(&["compare", "near"], &environment, "");
+    let said = String::from_utf8_lossy(&output.stdout).into_owned();
+    assert!(output.status.success(), "{output:?}");
+    let counts = "186 of 186 deletions, 24 of 47872 insertions, 24 of 47430 substitutions";
+    assert!(said.starts_with(&format!("stride 2000, {counts}\nnear, 234 cases\n")), "{said}");
+}
+
+#[test]
+fn compare_fails_on_a_program_with_a_fault() {
+    for kind in ["text", "near"] {
+        let program = stand_in("status");
+        let output = second(&["compare", kind], &[("SOSNYAVIK_ANALYSE", &program)], "");
+        let said = String::from_utf8_lossy(&output.stderr).into_owned();
+        assert_eq!(output.status.code(), Some(1), "{said}");
+        assert!(said.starts_with(&format!("second: {kind} case 0 of ")), "{said}");
+        assert!(said.contains(": the program ended with exit status: 3\n"), "{said}");
+        assert!(said.trim_end().ends_with("printf -- '' | second text"), "made small: {said}");
+    }
+}
+
+#[test]
+fn two_at_a_time_sees_what_one_does() {
+    let make = |index| TextCase::generate(7, index);
+    let one = run::<TextCase>(&Own, 7, 700);
+    let two = run_two_at_a_time(&Own, &make, 700);
+    assert!(one.failure.is_none() && two.failure.is_none());
+    assert_eq!(one.tally, two.tally);
+    let faulty = Faulty(Fault::CarriageReturns);
+    let one = run::<TextCase>(&faulty, 7, 3_000).failure.expect("seen");
+    for _ in 0..5 {
+        let two = run_two_at_a_time(&faulty, &make, 3_000).failure.expect("seen");
+        assert_eq!((two.index, two.smallest.text), (one.index, one.smallest.text.clone()));
+    }
+}
+
+/// The harms by name and number, and the outcome of each: 0 is accepted.
+fn harmed() -> Vec<(&'static str, u32, u32)> {
+    let mut rng = Rng::for_case(1, 2, 3);
+    let turns = floors().len() as u64;
+    let harmed = (0..turns).map(|turn| {
+        let mut text = REQUEST.as_bytes().to_vec();
+        let (name, number) = harm(&mut rng, &mut text, turn);
+        (name, number, decide(&text).err().map_or(0, |refusal| refusal.number))
+    });
+    harmed.collect()
+}
+
+#[test]
+fn every_harm_has_its_turn() {
+    let seen: BTreeSet<_> = harmed().into_iter().map(|(name, number, _)| (name, number)).collect();
+    let asked = floors().into_iter().map(|floor| (floor.name, floor.number)).collect();
+    assert_eq!(seen, asked);
+    assert!(floors().iter().all(|floor| floor.least > 0));
+}
+
+#[test]
+fn harms_do_what_they_say() {
+    let outcomes = |opening: &str| -> Vec<u32> {
+        let named = harmed().into_iter().filter(|(name, ..)| name.starts_with(opening));
+        named.map(|(_, _, refusal)| refusal).collect()
+    };
+    for not_in_form in [
+        "number with a plus",
+        "number with a leading zero",
+        "number as -0",
+        "number left empty",
+        "number one outside its type",
+        "number that wraps to what it was",
+    ] {
+        assert_eq!(outcomes(not_in_form), [9; 16], "{not_in_form}");
+    }
+    // nx, ny, time, age, smooth, scans, R, E, row, stations, x, y, value, and
+    // three minutes.
+    let outside = [9, 9, 9, 9, 9, 9, 6, 6, 7, 9, 8, 8, 8, 9, 9, 9];
+    assert_eq!(outcomes("number one below its range"), outside);
+    assert_eq!(outcomes("number one above its range"), outside);
+    for not_in_form in
+        ["line with", "line joined", "line broken", "text cut inside", "text cut before"]
+    {
+        let outcomes = outcomes(not_in_form);
+        assert!(!outcomes.is_empty() && outcomes.iter().all(|n| *n == 9), "{not_in_form}");
+    }
+    assert_eq!(outcomes("line doubled"), [9; 9]);
+    assert_eq!(outcomes("line dropped"), [9, 9, 0, 9, 9, 9, 9, 9, 9], "age may be left out");
+    assert_eq!(outcomes("text with"), [9; 8]);
+}
+
+#[test]
+fn near_texts_are_all_one_byte_away() {
+    assert_eq!(PAPER, REQUEST.as_bytes());
+    assert_eq!(second::text::answer(PAPER), ANSWER.as_bytes());
+    let whole = Edits::new(PAPER, 1);
+    assert_eq!((whole.whole(), whole.run()), ([186, 187 * 256, 186 * 255], whole.whole()));
+    let texts = |lengths: std::ops::Range<u64>| -> BTreeSet<Vec<u8>> {
+        lengths.map(|index| whole.case(index).text).collect()
+    };
+    let (deleted, inserted) = (186, 186 + 187 * 256);
+    let substitutions = texts(inserted..whole.count());
+    assert_eq!(substitutions.len(), 186 * 255, "no two alike");
+    for text in &substitutions {
+        assert_eq!(text.iter().zip(PAPER).filter(|(new, old)| new != old).count(), 1);
+    }
+    // An insertion beside the same byte gives the same text on either side.
+    let insertions = texts(deleted..inserted);
+    assert_eq!(insertions.len(), 187 * 256 - 186);
+    assert!(insertions.iter().all(|text| text.len() == 187));
+    assert!(texts(0..deleted).iter().all(|text| text.len() == 185));
+}
+
+#[test]
+fn the_sample_of_near_texts_meets_every_byte_and_place() {
+    let sample = Edits::new(PAPER, STRIDE);
+    let [deletions, insertions, substitutions] = sample.run();
+    assert!((3_500..4_500).contains(&sample.count()));
+    let place = |text: &[u8]| text.iter().zip(PAPER).position(|(new, old)| new != old);
+    let cases = |from: u64, count: u64| (from..from + count).map(|index| sample.case(index).text);
+    let bytes: BTreeSet<u8> = cases(deletions, insertions)
+        .map(|text| place(&text).map_or(text[186], |at| text[at]))
+        .collect();
+    assert_eq!(bytes.len(), 256);
+    let places: BTreeSet<_> =
+        cases(deletions + insertions, substitutions).map(|text| place(&text)).collect();
+    assert_eq!(places.len(), 186);
+}
+
+#[test]
+fn near_texts_hold_their_floors() {
+    for stride in [1, STRIDE, 1_000] {
+        assert_eq!(compare_near(&Own, stride, &mut Vec::new()), Ok(()));
+    }
+    let said = compare_near(&Faulty(Fault::CarriageReturns), 1, &mut Vec::new());
+    assert!(said.is_err_and(|said| said.contains("near case ") && said.contains("of stride 1: ")));
+}
+
+fn tried(fault: &str) -> Output {
+    let root = concat!(env!("CARGO_MANIFEST_DIR"), "/..");
+    let stand_in = stand_in(fault);
+    let mut command = Command::new("tests/program");
+    command.args(stand_in.split_whitespace()).current_dir(root);
+    command.output().expect("the script starts")
+}
+
+/// One after the other, because they share a folder.
+#[test]
+fn the_script_sees_faults_of_input_and_output() {
+    let output = tried("");
+    assert!(output.status.success(), "{output:?}");
+    for (fault, seen) in [
+        ("closed", "tests/program: a closed standard input: expected a status of 1 to 123"),
+        ("silent", "tests/program: a full standard output: expected a status of 1 to 123"),
+        ("crash", "expected a status of 1 to 123; came status 139"),
+        ("status", "tests/program: examples/paper.txt from a file: expected status 0"),
+    ] {
+        let output = tried(fault);
+        let said = String::from_utf8_lossy(&output.stderr).into_owned();
+        assert_eq!(output.status.code(), Some(1), "{fault}: {said}");
+        assert!(said.contains(seen), "{fault}: {said}");
+        assert!(said.lines().all(|line| line.starts_with("tests/program: ")), "{fault}: {said}");
+    }
+}
