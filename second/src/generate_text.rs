@@ -17,8 +17,9 @@ use crate::write::{request_text, Style};
 const LIMIT_EVERY: u64 = 97;
 /// Every so many indices a text is a long one of any size.
 const LONG_EVERY: u64 = 23;
-/// The refusals that the damaged turns aim at. Those with 9 are harmed in
-/// turn, but for the last, which is harmed at random.
+/// The refusals that the damaged turns aim at. In the first of them texts are
+/// harmed in turn, whatever else the index would ask for; in the last, at
+/// random.
 const DAMAGES: [u32; 10] = [9, 9, 9, 9, 9, 6, 7, 8, 10, 9];
 const HARMS: u64 = 5;
 
@@ -28,16 +29,16 @@ pub fn text(seed: u64, index: u64) -> (Vec<u8>, Option<Sort>) {
     let rng = &mut rng;
     let turn = index % TURNS;
     match flavour(index, &DAMAGES) {
+        _ if turn < HARMS => {
+            let mut text = harmless(rng);
+            let sort = harm(rng, &mut text, index / TURNS * HARMS + turn);
+            (text, Some(sort))
+        }
         _ if index % LIMIT_EVERY == 5 => {
             let past = index / LIMIT_EVERY % 2;
             (text_of_length(rng, MOST_TEXT + past as usize), None)
         }
         _ if index % LONG_EVERY == 7 => (long_text(rng, index / LONG_EVERY), None),
-        Flavour::Damaged(9) if turn < HARMS => {
-            let mut text = harmless(rng);
-            let sort = harm(rng, &mut text, index / TURNS * HARMS + turn);
-            (text, Some(sort))
-        }
         other => (unharmed(rng, other), None),
     }
 }

@@ -27,9 +27,9 @@ macro_rules! by_field {
     };
 }
 
-const WHOLE: &str = "text with (trailing bytes, a trailing line feed, a trailing line, \
-    no last line feed, CR LF, leading bytes, no lines, half its bytes)";
-const WHOLE_HARMS: usize = 8;
+const WHOLE: &str = "text with (a trailing letter, space, NUL, high byte, line feed, CR LF, \
+    half a line, line, no last line feed, CR LF, leading bytes, no lines, half its bytes)";
+const WHOLE_HARMS: usize = 13;
 
 /// A text as its lines, each with its line feed.
 type Lines = Vec<Vec<u8>>;
@@ -262,13 +262,21 @@ fn harm_number(rng: &mut Rng, text: &mut Vec<u8>, field: &Field, harm: &NumberHa
 
 fn harm_whole(rng: &mut Rng, text: &mut Vec<u8>, way: usize) {
     match way {
-        0 => text.extend(rng.pick(&[&b"x"[..], b" ", b"\r\n", b"\0", b"\xFF", b"age=60"])),
-        1 => text.push(b'\n'),
-        2 => text.extend(rng.pick(&[&b"st=0,0,0,0,0,1\n"[..], b"stations=0\n", b"row=0\n"])),
-        3 => text.truncate(text.len() - 1),
-        4 => *text = text.iter().flat_map(with_carriage_return).copied().collect(),
-        5 => drop(text.splice(..0, rng.pick(&[&b"\xEF\xBB\xBF"[..], b"\n", b" ", b"\0"]).to_vec())),
-        6 => text.clear(),
+        0 => text.push(b'x'),
+        1 => text.push(b' '),
+        2 => text.push(0),
+        3 => text.push(rng.between(128, 255) as u8),
+        4 => text.push(b'\n'),
+        5 => text.extend(b"\r\n"),
+        6 => text.extend(b"st=0,0,0"),
+        7 => text.extend(rng.pick(&[&b"st=0,0,0,0,0,1\n"[..], b"stations=0\n", b"row=0\n"])),
+        8 => text.truncate(text.len() - 1),
+        9 => *text = text.iter().flat_map(with_carriage_return).copied().collect(),
+        10 => {
+            let ahead = rng.pick(&[&b"\xEF\xBB\xBF"[..], b"\n", b" ", b"\0"]);
+            *text = [ahead, text].concat();
+        }
+        11 => text.clear(),
         _ => text.truncate(text.len() / 2),
     }
 }

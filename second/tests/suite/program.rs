@@ -5,13 +5,13 @@ use crate::command::second;
 use crate::faulty::{Fault, Faulty};
 use crate::{ANSWER, REQUEST};
 use second::cases::TextCase;
-use second::compare::{run, run_two_at_a_time, Case, Own, Subject};
+use second::compare::{run, run_two_at_a_time, Answer, Case, Own, Subject};
 use second::harm::{floors, harm};
 use second::near::{Edits, PAPER, STRIDE};
 use second::program::Program;
 use second::rng::Rng;
 use second::survey::compare_near;
-use second::text::decide;
+use second::text::{answer, decide};
 use std::collections::BTreeSet;
 use std::process::{Command, Output};
 
@@ -138,13 +138,13 @@ fn harms_do_what_they_say() {
     }
     assert_eq!(outcomes("line doubled"), [9; 9]);
     assert_eq!(outcomes("line dropped"), [9, 9, 0, 9, 9, 9, 9, 9, 9], "age may be left out");
-    assert_eq!(outcomes("text with"), [9; 8]);
+    assert_eq!(outcomes("text with"), [9; 13]);
 }
 
 #[test]
 fn near_texts_are_all_one_byte_away() {
     assert_eq!(PAPER, REQUEST.as_bytes());
-    assert_eq!(second::text::answer(PAPER), ANSWER.as_bytes());
+    assert_eq!(answer(PAPER), ANSWER.as_bytes());
     let whole = Edits::new(PAPER, 1);
     assert_eq!((whole.whole(), whole.run()), ([186, 187 * 256, 186 * 255], whole.whole()));
     let texts = |lengths: std::ops::Range<u64>| -> BTreeSet<Vec<u8>> {
@@ -212,5 +212,100 @@ fn the_script_sees_faults_of_input_and_output() {
         assert_eq!(output.status.code(), Some(1), "{fault}: {said}");
         assert!(said.contains(seen), "{fault}: {said}");
         assert!(said.lines().all(|line| line.starts_with("tests/program: ")), "{fault}: {said}");
+    }
+}
+
+/// A program that reads a text otherwise than it stands, and answers that.
+struct Misreads(Misreading);
+
+type Misreading = fn(&[u8]) -> Vec<u8>;
+
+impl Subject for Misreads {
+    fn text(&self, request: &[u8]) -> Answer<Vec<u8>> {
+        Ok(answer(&(self.0)(request)))
+    }
+}
+
+fn without(text: &[u8], byte: u8) -> Vec<u8> {
+    text.iter().copied().filter(|other| *other != byte).collect()
+}
+
+/// The text with each field of each line read in another way.
+fn by_fields(text: &[u8], read: fn(&str) -> String) -> Vec<u8> {
+    let text: String = text.iter().map(|byte| char::from(*byte)).collect();
+    let ends_field = |c| ",=\n".contains(c);
+    let read = text.split_inclusive(ends_field).map(|field| match field.strip_suffix(ends_field) {
+        Some(plain) => read(plain) + &field[plain.len()..],
+        None => read(field),
+    });
+    read.collect::<String>().chars().map(|c| c as u8).collect()
+}
+
+fn wrapped(field: &str) -> String {
+    match field.parse::<i128>() {
+        Ok(number) if number.unsigned_abs() > u64::from(u32::MAX).into() => {
+            (number as i32).to_string()
+        }
+        _ => field.to_string(),
+    }
+}
+
+fn default_age_of_an_hour(text: &[u8]) -> Vec<u8> {
+    let lines = text.split_inclusive(|byte| *byte == b'\n').collect::<Vec<_>>();
+    match lines.get(2) {
+        Some(line) if line.starts_with(b"smooth=") => {
+            [&lines[..2].concat(), &b"age=60\n"[..], &lines[2..].concat()].concat()
+        }
+        _ => text.to_vec(),
+    }
+}
+
+#[test]
+fn misreadings_of_a_text_are_seen() {
+    let misreadings: [(&str, Misreading); 15] = [
+        ("plus", |text| without(text, b'+')),
+        ("space", |text| without(text, b' ')),
+        ("carriage return", |text| without(text, b'\r')),
+        ("NUL dropped", |text| without(text, 0)),
+        ("NUL ends it", |text| text.split(|byte| *byte == 0).next().unwrap_or(text).to_vec()),
+        ("seven bits", |text| text.iter().map(|byte| byte & 127).collect()),
+        ("last line feed", |text| [text, if text.ends_with(b"\n") { b"" } else { b"\n" }].concat()),
+        ("trailing line feed", |text| {
+            text.strip_suffix(b"\n\n").map_or(text.to_vec(), |kept| [kept, b"\n"].concat())
+        }),
+        ("limit too low", |text| match text.len() {
+            65_536 => [text, b"x"].concat(),
+            _ => text.to_vec(),
+        }),
+        ("limit too high", |text| match text.len() {
+            65_537 => text[..65_536].to_vec(),
+            _ => text.to_vec(),
+        }),
+        ("default age", default_age_of_an_hour),
+        ("leading zero", |text| {
+            by_fields(text, |field| match field.strip_prefix('0') {
+                Some(rest) if !rest.is_empty() => rest.to_string(),
+                _ => field.to_string(),
+            })
+        }),
+        ("minus zero", |text| by_fields(text, |field| field.replace("-0", "0"))),
+        ("empty is zero", |text| {
+            by_fields(
+                text,
+                |field| {
+                    if field.is_empty() {
+                        "0".to_string()
+                    } else {
+                        field.to_string()
+                    }
+                },
+            )
+        }),
+        ("wraps", |text| by_fields(text, wrapped)),
+    ];
+    for (name, read) in misreadings {
+        let subject = Misreads(read);
+        let seen = (0..3_000).find(|i| TextCase::generate(7, *i).differs(&subject).is_some());
+        assert!(seen.is_some(), "{name}");
     }
 }
