@@ -95,7 +95,7 @@ same-length-4 : tie.Need-same-length-4
 same-length-4 c = search needs
 
 returns : tie.Need-returns
-returns c = search needs
+returns c = c .before .before .before .before .before .before .before .analysed .ensures
 
 pub reply-to-spec : {M : Type 1} → statement M
 reply-to-spec =
