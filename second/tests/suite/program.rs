@@ -202,9 +202,9 @@ fn the_script_sees_faults_of_input_and_output() {
     let output = tried("");
     assert!(output.status.success(), "{output:?}");
     for (fault, seen) in [
-        ("closed", "tests/program: a closed standard input: expected a status of 1 to 123"),
-        ("silent", "tests/program: a full standard output: expected a status of 1 to 123"),
-        ("crash", "expected a status of 1 to 123; came status 139"),
+        ("closed", "tests/program: a closed standard input: expected an end, no standard output"),
+        ("silent", "tests/program: a full standard output: expected an end, no standard output"),
+        ("crash", "expected an end; came status 139"),
         ("status", "tests/program: examples/paper.txt from a file: expected status 0"),
     ] {
         let output = tried(fault);
