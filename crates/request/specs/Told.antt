@@ -28,9 +28,9 @@ pub record SizeIs (s : List ℕ) (p : Parsed Size) (nx ny next : ℕ) : Type 0 w
   pub columns : nx ≤ 64
   pub rows : ny ≤ 64
 
-abbrev pub Sized : List ℕ → Parsed Size → SizeRead → Type 0
-Sized s p (SizeValue nx ny next) = SizeIs s p nx ny next
-Sized s p NotSize = p ≡ fails
+abbrev pub sizeTold : List ℕ → Parsed Size → SizeRead → Type 0
+sizeTold s p (SizeValue nx ny next) = SizeIs s p nx ny next
+sizeTold s p NotSize = p ≡ fails
 
 abbrev pub entryTold : List ℕ → EntryRead → Parsed Entry
 entryTold s (EntryValue radius limit next) = reads (record { radius = radius; limit = limit }) (drop next s)

@@ -11,7 +11,7 @@ ghost use Rattle.scheme.specs.Text.Order.{read, optional, lines, rows};
 ghost use Rattle.scheme.specs.Promises.{sixColumns};
 ghost use Rattle.pieces.specs.Told.{unsignedTold, signedTold, Within};
 ghost use Rattle.request.specs.Whole.{Heads, Limits, Lent, Ends, afterHead, requestTold, Fits};
-ghost use Rattle.request.specs.Told.{Sized, entryTold, stationTold, valuesTold, linesTold, entryAt, Room};
+ghost use Rattle.request.specs.Told.{sizeTold, entryTold, stationTold, valuesTold, linesTold, entryAt, Room};
 use pieces::SignedRead;
 use pieces::UnsignedRead;
 use pieces::WordRead;
@@ -26,62 +26,62 @@ const NO_END: u32 = 4294967295;
 const DEFAULT_AGE: u32 = 120;
 
 // What a line says and the place after it, or that it is not in form.
-enum SizeRead {
+pub enum SizeRead {
     Value(u32, u32, usize),
     NotInForm,
 }
 
-enum EntryRead {
+pub enum EntryRead {
     Value(i32, i32, usize),
     NotInForm,
 }
 
-struct Row {
-    x: i32,
-    y: i32,
-    value: i32,
-    observed: u32,
-    from: u32,
-    until: u32,
+pub struct Row {
+    pub x: i32,
+    pub y: i32,
+    pub value: i32,
+    pub observed: u32,
+    pub from: u32,
+    pub until: u32,
 }
 
-enum StationRead {
+pub enum StationRead {
     Value(Row, usize),
     NotInForm,
 }
 
 // Where lines end, or the first of them that is not in form.
-enum LinesRead {
+pub enum LinesRead {
     Next(usize),
     NotInForm(u32),
 }
 
 // What the age line says, or 120; the number of the line after it, and its place.
-struct Age {
-    age: u32,
-    line: u32,
-    next: usize,
+pub struct Age {
+    pub age: u32,
+    pub line: u32,
+    pub next: usize,
 }
 
 // What the lines before the scans say; the number of the line after them, and its place.
-struct Head {
-    nx: u32,
-    ny: u32,
-    time: u32,
-    age: u32,
-    smooth: bool,
-    scans: u32,
-    line: u32,
-    next: usize,
+pub struct Head {
+    pub nx: u32,
+    pub ny: u32,
+    pub time: u32,
+    pub age: u32,
+    pub smooth: bool,
+    pub scans: u32,
+    pub line: u32,
+    pub next: usize,
 }
 
-enum HeadRead {
+pub enum HeadRead {
     Value(Head),
     NotInForm(u32),
 }
 
 // How many stations there are, or the first line not in form.
-enum StationsRead {
+pub enum StationsRead {
     Rows(u32),
     NotInForm(u32),
 }
@@ -116,7 +116,7 @@ fn number_line(s: &[u8], at: usize, key: &[u8], low: u32, high: u32) -> Unsigned
 }
 
 fn grid_line(s: &[u8], at: usize) -> SizeRead
-    ensures { λ r. ⌜ Sized (now (s .entry)) (gridLine (drop at (now (s .entry)))) r ⌝ }
+    ensures { λ r. ⌜ sizeTold (now (s .entry)) (gridLine (drop at (now (s .entry)))) r ⌝ }
 {
     let WordRead::At(p) = pieces::word_at(s, at, b"grid=") else {
         return SizeRead::NotInForm;

@@ -9,7 +9,7 @@ use lib.ListN.{drop}
 use Rattle.scheme.specs.Text.Pieces.{reads, unsigned}
 use Rattle.scheme.specs.Text.Lines.{gridLine, timeLine, smoothLine, scansLine}
 use Rattle.pieces.specs.Told.{unsignedTold, Within}
-use Rattle.request.specs.Told.{Sized, SizeIs}
+use Rattle.request.specs.Told.{sizeTold, SizeIs}
 use Rattle.request.proofs.head_lines.Statement.{statement}
 use Rattle.request.proofs.head_lines.Tie as tie
 
@@ -18,7 +18,7 @@ module _ (c : tie.After-nx) where
   text = c .before .before .before .before .args .s .now
 
   grid-is : SizeIs text (gridLine text) (c .nx .given .0 .0) (c .nx .given .0 .1 .0) (c .nx .given .0 .1 .1 .0)
-  grid-is = subst (Sized text (gridLine text)) (c .nx .given .1) (c .before .before .grid-line .ensures)
+  grid-is = subst (sizeTold text (gridLine text)) (c .nx .given .1) (c .before .before .grid-line .ensures)
 
 module _ (c : tie.After-time) where
   abbrev after-grid : tie.After-nx
@@ -59,7 +59,7 @@ enum-told c = search needs
 returns : tie.Need-returns
 returns c =
     let s = c .before .before .before .before .args .s .now in
-    λ next. rw (subst (Sized s (gridLine s)) (c .enum-told .given .1) (c .before .before .grid-line .ensures))
+    λ next. rw (subst (sizeTold s (gridLine s)) (c .enum-told .given .1) (c .before .before .grid-line .ensures))
 
 slice-aggregate-number-line : tie.Need-slice-aggregate-number-line
 slice-aggregate-number-line c = search needs
