@@ -16,6 +16,7 @@ run:
 	@scripts/tools rt $(X86_TOOLS)
 	@test -r "$(REQUEST)" || { echo "make run: cannot read '$(REQUEST)': give a request as make run REQUEST=FILE" >&2; exit 1; }
 	@mkdir -p build/run
+	@test -x target/bin/analyse || echo "make run: proving and building the program first, which takes some minutes; its log is build/run/check.log" >&2
 	@rt check analyse > build/run/check.log 2>&1 || { echo "make run: rt check analyse failed: see build/run/check.log" >&2; exit 1; }
 	@scripts/x86 run target/bin/analyse < "$(REQUEST)"
 

@@ -1,4 +1,4 @@
--- The four cheats that document 01 names, refuted on its own example request: each promise with a grid admits none of them.
+-- The four cheats that document 01 names, refuted on its own example request: the promises of analysis and window query admit none of them.
 use Prim.Native.Nat.{ℕ}
 use native.Mathlib.Omega.{arith}
 use mathlib.Core.Path.{_≡_, refl, sym, ap, ap₂, _∙_}
