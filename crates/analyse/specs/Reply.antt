@@ -18,9 +18,9 @@ use Rattle.scheme.specs.Text.{requestLines, outcome, tested, printed, firstTwo,
 use Rattle.scheme.specs.Text.Pieces.{ascii}
 use Rattle.scheme.specs.Text.Printed.{decimal, keyed}
 use Rattle.scheme.specs.Text.Order.{notInForm, read}
-use Rattle.scheme.specs.Promises.{lengthsOf, Analyses, Stands}
+use Rattle.scheme.specs.Promises.{both, lengthsOf, Analyses, putFirst, Stands}
 use Rattle.scheme.specs.Accepted.{analysis-sound}
-use Rattle.scheme.specs.Places.{answer-tells-refusal-and-place}
+use Rattle.scheme.specs.Places.{analysis-tells-refusal-and-place}
 use Rattle.scheme.specs.Decimals.{decimal-length}
 use Rattle.scheme.specs.AnswerSize.{accepted-answer-is-short}
 use Rattle.answer.specs.Written.{Written}
@@ -67,13 +67,15 @@ module _ (text : List ℕ) where
 
 -- ---- a text that was put at the start
 
-pub stands : {l : List ℕ} {t l' : List ℕ} {n : ℕ} → length t ≤ length l → Written l 0 t l' n → Stands t l n l'
-stands {l = l} {t = t} h w =
-    let e : 0 + length t ≡ length t = omega arith in
-    record { answers = w .place ∙ e; leaves = w .bytes ∙ sets-eq t l 0 (omega arith) ∙ ap (λ (n : ℕ). t ++ drop n l) e }
+module _ (l : List ℕ) {t l' : List ℕ} {n : ℕ} where
+  pub stands : length t ≤ length l → Written l 0 t l' n → Stands t l n l'
+  unfolding putFirst
+  stands h w =
+      let e : 0 + length t ≡ length t = omega arith in
+      both (w .place ∙ e) (w .bytes ∙ sets-eq t l 0 (omega arith) ∙ ap (λ (n : ℕ). t ++ drop n l) e)
 
-pub stands-as : {l : List ℕ} {t u l' : List ℕ} {n : ℕ} → t ≡ u → Stands u l n l' → Stands t l n l'
-stands-as e s = rw e s
+  pub stands-as : {u : List ℕ} → t ≡ u → Stands u l n l' → Stands t l n l'
+  stands-as e s = rw e s
 
 -- the first two lines are short
 line-short : (key : List ℕ) (n : ℕ) → n < 2 ^ 32 → length (keyed key decimal (n ∷ [])) ≤ length key + 11
@@ -133,11 +135,11 @@ module _ (q : Request) (found left : Analysis) (r : ℕ) (m : Measured (q .nx) (
   f = analysisRefusal q (rightLengths q)
 
   coded : r ≡ asOne f
-  coded = p .answers ∙ ap (λ (l : Lengths). asOne (analysisRefusal q l)) same
+  coded = ap (λ (o : ℕ × Analysis). o .0) p ∙ ap (λ (l : Lengths). asOne (analysisRefusal q l)) same
 
   pub refused-reply : (r ≡ 0 → ⊥) → replyText q ≡ firstTwo (r / 65536) (r % 65536)
   refused-reply some =
-      let t = answer-tells-refusal-and-place q (rightLengths q) in
+      let t = analysis-tells-refusal-and-place q (rightLengths q) in
       refused-text q f (λ e. some (coded ∙ e)) ∙ rw (coded, t .0, t .1)
 
   module _ (zero : r ≡ 0) where
@@ -145,7 +147,7 @@ module _ (q : Request) (found left : Analysis) (r : ℕ) (m : Measured (q .nx) (
     is-accepted = none-if-zero f (refusal-numbered q (rightLengths q)) (sym coded ∙ zero)
 
     is-analysis : left ≡ analysis q
-    is-analysis = p .leaves ∙ ap (λ (l : Lengths). unlessRefused (analysisRefusal q l) (analysis q) found) same ∙ ap (λ (g : Refusal). unlessRefused g (analysis q) found) is-accepted
+    is-analysis = ap (λ (o : ℕ × Analysis). o .1) p ∙ ap (λ (l : Lengths). unlessRefused (analysisRefusal q l) (analysis q) found) same ∙ ap (λ (g : Refusal). unlessRefused g (analysis q) found) is-accepted
 
     pub accepted-reply : replyText q ≡ analysisText (q .nx) (q .ny) left
     unfolding printed
@@ -159,5 +161,7 @@ module _ (q : Request) (found left : Analysis) (r : ℕ) (m : Measured (q .nx) (
 
 -- ---- a text that stands at the start ends inside
 
-pub stands-inside : {t l : List ℕ} {n : ℕ} {l' : List ℕ} → Stands t l n l' → n ≤ length l'
-stands-inside {t = t} {l = l} s = omega (arith, s .answers, ap length (s .leaves), length-append t (drop (length t) l))
+pub stands-inside : (t l : List ℕ) {n : ℕ} {l' : List ℕ} → Stands t l n l' → n ≤ length l'
+unfolding putFirst
+stands-inside t l s =
+    omega (arith, ap (λ (o : ℕ × List ℕ). o .0) s, ap (λ (o : ℕ × List ℕ). length (o .1)) s, length-append t (drop (length t) l))

@@ -11,7 +11,7 @@ use Rattle.lists.specs.First.{Found, nowhere, at, first, ended}
 use Rattle.scheme.specs.Units.{Request, stationAt}
 use Rattle.scheme.specs.Refusals.{Refusal, accepted, refused, asOne, unlessRefused, inOrder, refusedIf, refusedAt, Window, badWindow, badWindowLengths, badScan, badGuess, badStation, fromFour}
 use Rattle.scheme.specs.Accepted.{Shaped}
-use Rattle.scheme.specs.Promises.{Promised}
+use Rattle.scheme.specs.Promises.{both, Settles}
 
 -- the number says the refusal, and 0 says that there is none
 pub record Coded (r : ℕ) (f : Refusal) : Type 0 where
@@ -20,16 +20,16 @@ pub record Coded (r : ℕ) (f : Refusal) : Type 0 where
 
 -- ---- the two outcomes of a call
 
-module _ {A : Type 0} {result found : A} {r : ℕ} {f : Refusal} (c : Coded r f) where
-  pub refuses : (r ≡ 0 → ⊥) → Promised f result found r found
-  refuses some = record { answers = c .same; leaves = go f (c .same) }
+module _ {A : Type 0} (result found : A) {r : ℕ} {f : Refusal} (c : Coded r f) where
+  pub refuses : (r ≡ 0 → ⊥) → Settles f result found r found
+  refuses some = both (c .same) (go f (c .same))
     where
       go : (f : Refusal) → r ≡ asOne f → found ≡ unlessRefused f result found
       go accepted e = absurd (some e)
       go (refused number place) e = refl
 
-  pub works : {left : A} → r ≡ 0 → left ≡ result → Promised f result found 0 left
-  works none e = record { answers = sym none ∙ c .same; leaves = e ∙ rw (c .only none) }
+  pub works : {left : A} → r ≡ 0 → left ≡ result → Settles f result found 0 left
+  works none e = both (sym none ∙ c .same) (e ∙ rw (c .only none))
 
 -- ---- rows 2 to 8 of the window query
 

@@ -16,6 +16,7 @@ pub mod Readings
 pub mod Text
 pub mod Promises
 -- PROVED: theorems about the definitions above.
+pub mod OneOutcome
 pub mod Accepted
 pub mod Places
 pub mod Nearest
@@ -40,5 +41,6 @@ pub mod Shares
 pub mod Cressman
 pub mod Cut
 pub mod Windows
+pub mod Example
 pub mod Table
 pub mod Cheats

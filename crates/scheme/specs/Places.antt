@@ -9,7 +9,7 @@ use lib.Arith.{digits-div, digits-mod}
 use lib.ListN.{length}
 use Rattle.lists.specs.First.{first, Search, all-good, bad-at, search}
 use Rattle.scheme.specs.Units.{Request}
-use Rattle.scheme.specs.Refusals.{Refusal, numberOf, placeOf, asOne, inOrder, refusedIf, refusedAt, Lengths, badShape, badLengths, badColumns, badScans, fromFour, analysisRefusal}
+use Rattle.scheme.specs.Refusals.{Refusal, numberOf, placeOf, asOne, inOrder, refusedIf, refusedAt, Lengths, badShape, badLengths, badColumns, badScans, fromFour, analysisRefusal, Window, badWindow, badWindowLengths, windowRefusal}
 use Rattle.scheme.specs.Accepted.{Shaped, shaped, equal, scans-fit}
 
 abbrev Small : Refusal → Type 0
@@ -42,12 +42,27 @@ small-from-four q shape =
     (small-at 7 (length (q .firstGuess)) _ _ (omega (arith, shape .whole, mul-le-mul (shape .few-columns) (shape .few-rows)))
     (small-at 8 (length (q .columns .x)) _ [] (omega (arith, equal (q .columns) four .few)) small-none))))
 
-pub place-is-small : (q : Request) (l : Lengths) → placeOf (analysisRefusal q l) < 65536
-unfolding analysisRefusal
-place-is-small q l = small-if 1 (badShape (q .nx) (q .ny) (length (q .firstGuess))) _ (λ one. small-if 3 (badLengths q l) _ (λ three. small-from-four q (shaped _ _ _ one)))
+-- refusal and place, read back from the one number
+abbrev pub Tells : Refusal → Type 0
+Tells r = (asOne r / 65536 ≡ numberOf r) × (asOne r % 65536 ≡ placeOf r)
 
-pub answer-tells-refusal-and-place : (q : Request) (l : Lengths)
-    → (asOne (analysisRefusal q l) / 65536 ≡ numberOf (analysisRefusal q l)) × (asOne (analysisRefusal q l) % 65536 ≡ placeOf (analysisRefusal q l))
-answer-tells-refusal-and-place q l =
-    let h = place-is-small q l in
-    (digits-div (numberOf (analysisRefusal q l)) h, digits-mod (numberOf (analysisRefusal q l)) h)
+told : (r : Refusal) → Small r → Tells r
+told r h = (digits-div (numberOf r) h, digits-mod (numberOf r) h)
+
+analysis-small : (q : Request) (l : Lengths) → Small (analysisRefusal q l)
+unfolding analysisRefusal
+analysis-small q l =
+    small-if 1 (badShape (q .nx) (q .ny) (length (q .firstGuess))) _ (λ one.
+    small-if 3 (badLengths q l) _ (λ three. small-from-four q (shaped _ _ _ one)))
+
+window-small : (q : Request) (w : Window) (grid support : ℕ) → Small (windowRefusal q w grid support)
+unfolding windowRefusal
+window-small q w grid support =
+    small-if 1 (badShape (q .nx) (q .ny) (length (q .firstGuess))) _ (λ one. small-if 2 (badWindow q w) _ (λ two.
+    small-if 3 (badWindowLengths w grid support) _ (λ three. small-from-four q (shaped _ _ _ one))))
+
+pub analysis-tells-refusal-and-place : (q : Request) (l : Lengths) → Tells (analysisRefusal q l)
+analysis-tells-refusal-and-place q l = told (analysisRefusal q l) (analysis-small q l)
+
+pub window-tells-refusal-and-place : (q : Request) (w : Window) (grid support : ℕ) → Tells (windowRefusal q w grid support)
+window-tells-refusal-and-place q w grid support = told (windowRefusal q w grid support) (window-small q w grid support)

@@ -1,6 +1,6 @@
 -- What each public call promises: its answer and what it leaves in the memory it is lent, from what it is handed and what it finds there.
 use Prim.Native.Nat.{ℕ}
-use mathlib.Core.Path.{_≡_, sym, _∙_}
+use mathlib.Core.Path.{_≡_, sym, ap₂, _∙_}
 use mathlib.Core.Bool.{Bool}
 use mathlib.Core.List.{List, _++_}
 use lib.ListN.{length, drop}
@@ -35,17 +35,30 @@ requestOf nx ny firstGuess x y value observed from until scans radius limit smoo
       A = A;
     }
 
--- ---- a call that answers refusal·65,536 + place and leaves its results in memory that it is lent
+-- ---- the shape of every promise: the outcome of the call is the one that document 01 gives
 
--- A refused call writes to none of the caller's memory
-pub record Promised {A : Type 0} (refusal : Refusal) (result found : A) (answer : ℕ) (left : A) : Type 0 where
-  pub answers : answer ≡ asOne refusal
-  pub leaves : left ≡ unlessRefused refusal result found
+abbrev pub Promised : {O : Type 0} → (right outcome : O) → Type 0
+Promised right outcome = outcome ≡ right
 
--- it admits one outcome
-pub one-outcome : {A : Type 0} {refusal : Refusal} {result found : A} {answer answer' : ℕ} {left left' : A}
-    → Promised refusal result found answer left → Promised refusal result found answer' left' → (answer ≡ answer') × (left ≡ left')
-one-outcome p p' = (p .answers ∙ sym (p' .answers), p .leaves ∙ sym (p' .leaves))
+-- so it admits one outcome
+pub one-outcome : {O : Type 0} {right outcome outcome' : O} → Promised right outcome → Promised right outcome' → outcome ≡ outcome'
+one-outcome p p' = p ∙ sym p'
+
+-- an outcome is right if its two parts are
+pub both : {A B : Type 0} {a a' : A} {b b' : B} → a ≡ a' → b ≡ b' → _≡_ {A = A × B} (a, b) (a', b')
+both {A = A} {B = B} e f = ap₂ (λ (a : A) (b : B). (a, b)) e f
+
+-- Of a call that is lent memory the outcome is its answer and what it leaves there. It answers refusal·65,536 + place and leaves its result;
+-- refused, it writes to none of the memory
+abbrev pub Settles : {A : Type 0} → Refusal → (result found : A) → ℕ → A → Type 0
+Settles {A = A} refusal result found answer left = Promised {O = ℕ × A} (asOne refusal, unlessRefused refusal result found) (answer, left)
+
+-- or it answers the length of a text and leaves that at the start, and after it what stood there
+unfoldable pub putFirst : (text found : List ℕ) → ℕ × List ℕ
+putFirst text found = (length text, text ++ drop (length text) found)
+
+abbrev pub Stands : (text found : List ℕ) → ℕ → List ℕ → Type 0
+Stands text found bytes left = Promised (putFirst text found) (bytes, left)
 
 -- ---- the whole analysis
 
@@ -57,7 +70,7 @@ abbrev pub lengthsOf : Analysis → Lengths
 lengthsOf a = record { grid = length (a .grid); support = length (a .support); verdict = length (a .verdict) }
 
 abbrev pub Analyses : Request → Analysis → ℕ → Analysis → Type 0
-Analyses q found answer left = Promised (analysisRefusal q (lengthsOf found)) (analysis q) found answer left
+Analyses q found answer left = Settles (analysisRefusal q (lengthsOf found)) (analysis q) found answer left
 
 -- ---- the window query
 
@@ -71,44 +84,25 @@ tile grid support = record { grid = grid; support = support }
 -- the numbers of the whole grid
 abbrev pub Queries : Request → Window → Tile → ℕ → Tile → Type 0
 Queries q w found answer left =
-    Promised (windowRefusal q w (length (found .grid)) (length (found .support))) (wholeAt q w) found answer left
+    Settles (windowRefusal q w (length (found .grid)) (length (found .support))) (wholeAt q w) found answer left
 
--- ---- a call that is lent no memory to write to, and only answers
-
-abbrev pub Answers : {A : Type 0} → A → A → Type 0
-Answers right answer = answer ≡ right
-
--- it admits one answer
-pub one-answer : {A : Type 0} {right answer answer' : A} → Answers right answer → Answers right answer' → answer ≡ answer'
-one-answer e e' = e ∙ sym e'
-
--- ---- the point reading, and the two calls by which it crosses to C
+-- ---- the point reading, and the two calls by which it crosses to C; they and the summary are lent no memory to write to
 
 abbrev pub Reads : (nx ny : ℕ) → List ℤ → List ℕ → (x y : ℤ) → Reading → Type 0
-Reads nx ny field support x y answer = Answers (reading nx ny field support x y) answer
+Reads nx ny field support x y answer = Promised (reading nx ny field support x y) answer
 
 abbrev pub ReadsKind : (nx ny : ℕ) → List ℤ → List ℕ → (x y : ℤ) → ℕ → Type 0
-ReadsKind nx ny field support x y answer = Answers (kindOf (reading nx ny field support x y)) answer
+ReadsKind nx ny field support x y answer = Promised (kindOf (reading nx ny field support x y)) answer
 
 abbrev pub ReadsValue : (nx ny : ℕ) → List ℤ → List ℕ → (x y : ℤ) → Float → Type 0
-ReadsValue nx ny field support x y answer = Answers (valueOf (reading nx ny field support x y)) answer
+ReadsValue nx ny field support x y answer = Promised (valueOf (reading nx ny field support x y)) answer
 
 -- ---- the summary
 
 abbrev pub Summarises : (nx ny : ℕ) → List ℤ → Summary → Type 0
-Summarises nx ny field answer = Answers (summary nx ny field) answer
+Summarises nx ny field answer = Promised (summary nx ny field) answer
 
 -- ---- the program
-
--- a text at the start of bytes that were lent, and after it what stood there
-pub record Stands (text found : List ℕ) (bytes : ℕ) (left : List ℕ) : Type 0 where
-  pub answers : bytes ≡ length text
-  pub leaves : left ≡ text ++ drop (length text) found
-
--- it admits one outcome
-pub one-text : {text found left left' : List ℕ} {bytes bytes' : ℕ}
-    → Stands text found bytes left → Stands text found bytes' left' → (bytes ≡ bytes') × (left ≡ left')
-one-text p p' = (p .answers ∙ sym (p' .answers), p .leaves ∙ sym (p' .leaves))
 
 -- the answer to standard input, byte for byte
 abbrev pub Replies : (input found : List ℕ) → ℕ → List ℕ → Type 0

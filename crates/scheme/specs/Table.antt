@@ -25,6 +25,7 @@ use Rattle.scheme.specs.Reach.{steps, reach}
 use Rattle.scheme.specs.Readings.{double, readingValue, cornerBacked, isBacked, readingIn, reading}
 use Rattle.scheme.specs.Support.{unsupported-point-keeps-first-guess, no-stations-no-support}
 use Rattle.scheme.specs.Text.{requestLines, outcome, firstTwo, analysisText, printed, answerText}
+use Rattle.scheme.specs.Example.{onceText, onceAnswer, example-text}
 use Rattle.scheme.specs.Text.Pieces.{ascii, word, digits, positive, natural, between, count, unsigned, minus, negative, signed, values}
 use Rattle.scheme.specs.Text.Lines.{number, gridLine, timeLine, ageLine, smoothLine, scansLine, scanLine, rowLine, stationsLine, observation, end, stationLine}
 use Rattle.scheme.specs.Text.Order.{lines, rows, nothingAfter}
@@ -56,18 +57,6 @@ twoScans =
       A = 0;
     }
 
-abbrev requestText : List ℕ
-requestText =
-    ascii "grid=3,3\ntime=1000\nage=60\nsmooth=0\nscans=1\nscan=96,200\n"
-    ++ ascii "row=640,640,640\nrow=640,640,640\nrow=640,640,640\n"
-    ++ ascii "stations=3\nst=64,64,768,990,0,open\nst=0,0,576,1000,0,open\nst=128,128,700,990,0,995\n"
-
-abbrev answer : List ℕ
-answer =
-    ascii "refusal=0\nplace=0\n"
-    ++ ascii "row=585,672,768\nrow=672,759,768\nrow=768,768,768\n"
-    ++ ascii "sup=1,1,1\nsup=1,1,1\nsup=1,1,1\nver=0,0,2\n"
-
 -- ---- the table
 
 pub record Table : Type 0 where
@@ -83,7 +72,7 @@ pub record Table : Type 0 where
   pub g : (q : Request) → stations q ≡ [] → q .smooth ≡ false → (m i j : ℕ)
       → (after q m .field i j ≡ guess q i j) × (after q m .support i j ≡ 0)
   pub h : reach twoScans ≡ 5
-  pub i : answerText requestText ≡ answer
+  pub i : answerText onceText ≡ onceAnswer
 
 -- ---- its proof, by computation but for (g), which holds of every request
 
@@ -130,10 +119,6 @@ case-h : reach twoScans ≡ 5
 unfolding reach upTo steps R
 case-h = refl
 
-case-i : answerText requestText ≡ answer
-unfolding answerText printed outcome requestLines lines rows nothingAfter gridLine timeLine ageLine smoothLine scansLine scanLine rowLine stationsLine stationLine number observation end word digits positive natural between count unsigned minus negative signed values analysisRefusal inOrder fromFour refusedIf refusedAt first orNext badShape badLengths badColumns badScans badScan rising badGuess badStation stationAt isMissing analysisText firstTwo gridLines keyed cells integer decimal spelled analysis stored tab after scan start rowsJudged sumsAt corrected guess fieldOf stations R E beforeScans firstThatFits missing outOfService serves observedAfter tooOld offGrid onAxis judged afterTest difference valueAt place sumAt cell interpolationSum rounded sums total share weightOf weight squaredDistance correction backedBy
-case-i = refl
-
 pub table : Table
 table =
     record {
@@ -147,5 +132,5 @@ table =
       f = case-f;
       g = case-g;
       h = case-h;
-      i = case-i;
+      i = example-text .0;
     }

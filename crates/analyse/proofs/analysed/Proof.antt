@@ -57,8 +57,8 @@ returns : tie.Need-returns
 returns c =
     let k = c .before .before .before .before .before .before .before .before .before .before in
     let s = start k in
-    stands-as (refused-reply (request k) (found k) (left k) (k .analyse .result) (s .pre .0) (answered k) (c .before .before .before .before .if1 .taken))
-    (stands (omega (arith, short k, s .pre .1)) (c .before .before .first-two .ensures))
+    stands-as _ (refused-reply (request k) (found k) (left k) (k .analyse .result) (s .pre .0) (answered k) (c .before .before .before .before .if1 .taken))
+    (stands _ (omega (arith, short k, s .pre .1)) (c .before .before .first-two .ensures))
 
 analysis-text-requires : tie.Need-analysis-text-requires
 analysis-text-requires c κs =
@@ -89,8 +89,8 @@ returns-2 c =
     let k = c .before .before .before .before .before .before .before .before .before .before .before .before .before in
     let s = start k in
     let zero = c .before .before .before .before .before .before .before .if1 .left in
-    stands-as (accepted-reply (request k) (found k) (left k) (k .analyse .result) (s .pre .0) (answered k) zero)
-    (stands (omega (arith, accepted-short (request k) (found k) (left k) (k .analyse .result) (s .pre .0) (answered k) zero, s .pre .1)) (c .before .before .analysis-text .ensures))
+    stands-as _ (accepted-reply (request k) (found k) (left k) (k .analyse .result) (s .pre .0) (answered k) zero)
+    (stands _ (omega (arith, accepted-short (request k) (found k) (left k) (k .analyse .result) (s .pre .0) (answered k) zero, s .pre .1)) (c .before .before .analysis-text .ensures))
 
 pub analysed-spec : {M : Type 1} → statement M
 analysed-spec =

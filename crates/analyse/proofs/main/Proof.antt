@@ -43,10 +43,10 @@ reply-requires : tie.Need-reply-requires
 reply-requires c κs = search needs
 
 array-share-prefix-out : tie.Need-array-share-prefix-out
-array-share-prefix-out c = stands-inside (c .reply .ensures)
+array-share-prefix-out c = stands-inside _ _ (c .reply .ensures)
 
 slice-aggregate-write-all-2 : tie.Need-slice-aggregate-write-all-2
-slice-aggregate-write-all-2 c = sym (length-take-le (c .before .reply .result) (c .before .reply .last .1 .0) (stands-inside (c .before .reply .ensures)))
+slice-aggregate-write-all-2 c = sym (length-take-le (c .before .reply .result) (c .before .reply .last .1 .0) (stands-inside _ _ (c .before .reply .ensures)))
 
 write-all-requires-2 : tie.Need-write-all-requires-2
 write-all-requires-2 c κs = search needs

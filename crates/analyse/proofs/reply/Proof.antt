@@ -11,7 +11,7 @@ first-two-requires c κs = omega (arith, two-short 10 0 (omega arith) (omega ari
 returns : tie.Need-returns
 returns c =
     let s = c .before .before .before .before in
-    stands-as (over (s .args .text .now) (c .before .before .if1 .taken)) (stands (omega (arith, two-short 10 0 (omega arith) (omega arith))) (c .first-two .ensures))
+    stands-as _ (over (s .args .text .now) (c .before .before .if1 .taken)) (stands _ (omega (arith, two-short 10 0 (omega arith) (omega arith))) (c .first-two .ensures))
 
 slice-aggregate-reply-with : tie.Need-slice-aggregate-reply-with
 slice-aggregate-reply-with c = search needs

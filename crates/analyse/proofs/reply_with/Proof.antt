@@ -103,8 +103,8 @@ returns : tie.Need-returns
 returns c =
     let k = c .before .before .before .before .before .before .before .before .before .before .before .before .before .before .before .before .before .before .before in
     let line = c .before .before .before .before .before .line .given in
-    stands-as (not-in-form (start k .args .text .now) (start k .pre .0) (said k ∙ ap (requestTold (guess k) (radius k) (limit k) (columns k)) (line .1)))
-    (stands (omega (arith, two-short 9 (line .0 .0) (omega arith) (omega arith), start k .pre .3)) (c .before .before .first-two .ensures))
+    stands-as _ (not-in-form (start k .args .text .now) (start k .pre .0) (said k ∙ ap (requestTold (guess k) (radius k) (limit k) (columns k)) (line .1)))
+    (stands _ (omega (arith, two-short 9 (line .0 .0) (omega arith) (omega arith), start k .pre .3)) (c .before .before .first-two .ensures))
 
 same-length-11 : tie.Need-same-length-11
 same-length-11 c = c .before .before .before .before .before .before .before .before .before .before .before .before .before .before .before .before .before .before .before .before .before .before .before .before .before .before .before .before .before .before .before .before .before .before .before .before .read-request .kept .1 .0
@@ -148,7 +148,7 @@ same-length-23 c = search needs
 returns-2 : tie.Need-returns-2
 returns-2 c =
     let k = c .before .before .before .before .before .before .before .before .before .before .before .before .before .before .before .before .before .before .before .before .before .before .before .before .before .before .before .before .before .before .before .before .before .before .before .before in
-    stands-as (in-form (start k .args .text .now) (start k .pre .0) (said k ∙ ap (requestTold (guess k) (radius k) (limit k) (columns k)) (c .before .before .before .before .before .before .before .before .before .before .before .before .before .before .before .before .before .before .before .before .before .before .q .given .1))) (c .before .before .before .before .before .before .before .reply-to .ensures)
+    stands-as _ (in-form (start k .args .text .now) (start k .pre .0) (said k ∙ ap (requestTold (guess k) (radius k) (limit k) (columns k)) (c .before .before .before .before .before .before .before .before .before .before .before .before .before .before .before .before .before .before .before .before .before .before .q .given .1))) (c .before .before .before .before .before .before .before .reply-to .ensures)
 
 pub reply-with-spec : {M : Type 1} → statement M
 reply-with-spec =

@@ -9,7 +9,7 @@ of-analysis-requires : tie.Need-of-analysis-requires
 of-analysis-requires c κs = search needs
 
 returns : tie.Need-returns
-returns c = refuses (c .before .of-analysis .ensures _ _ _) (c .if1 .taken)
+returns c = refuses _ _ (c .before .of-analysis .ensures _ _ _) (c .if1 .taken)
 
 work-requires : tie.Need-work-requires
 work-requires c κs = let e = c .before .before .before in ready _ _ (e .before .of-analysis .ensures _ _ _ .only (e .if1 .left))
@@ -24,7 +24,7 @@ same-length-3 : tie.Need-same-length-3
 same-length-3 c = search needs
 
 returns-2 : tie.Need-returns-2
-returns-2 c = let e = c .before .before .before .before .before .before .before .before .before in works (e .before .of-analysis .ensures _ _ _) (e .if1 .left) (c .before .before .before .before .before .work .ensures)
+returns-2 c = let e = c .before .before .before .before .before .before .before .before .before in works _ _ (e .before .of-analysis .ensures _ _ _) (e .if1 .left) (c .before .before .before .before .before .work .ensures)
 
 pub analyse-spec : {M : Type 1} → statement M
 analyse-spec =

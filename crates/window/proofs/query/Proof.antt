@@ -9,7 +9,7 @@ of-window-requires : tie.Need-of-window-requires
 of-window-requires c κs = search needs
 
 returns : tie.Need-returns
-returns c = refuses (c .before .of-window .ensures _ _ _) (c .if1 .taken)
+returns c = refuses _ _ (c .before .of-window .ensures _ _ _) (c .if1 .taken)
 
 work-requires : tie.Need-work-requires
 work-requires c κs = let e = c .before .before in query-ready _ _ _ _ (e .before .of-window .ensures _ _ _ .only (e .if1 .left))
@@ -21,7 +21,7 @@ same-length-2 : tie.Need-same-length-2
 same-length-2 c = search needs
 
 returns-2 : tie.Need-returns-2
-returns-2 c = let e = c .before .before .before .before .before .before in works (e .before .of-window .ensures _ _ _) (e .if1 .left) (c .before .before .before .work .ensures)
+returns-2 c = let e = c .before .before .before .before .before .before in works _ _ (e .before .of-window .ensures _ _ _) (e .if1 .left) (c .before .before .before .work .ensures)
 
 pub query-spec : {M : Type 1} → statement M
 query-spec =

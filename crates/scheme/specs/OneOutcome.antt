@@ -1,0 +1,39 @@
+-- For each public call: any two outcomes that its promise admits are one, the answer and all that is left in the memory it was lent.
+use Prim.Native.Nat.{ℕ}
+use mathlib.Core.Path.{_≡_}
+use mathlib.Core.List.{List}
+use lib.IntN.{ℤ}
+use lib.Ieee.{Float}
+use Rattle.scheme.specs.declared.Reading.{Reading}
+use Rattle.scheme.specs.declared.Summary.{Summary}
+use Rattle.scheme.specs.Units.{Request}
+use Rattle.scheme.specs.Refusals.{Window}
+use Rattle.scheme.specs.Scan.{Analysis}
+use Rattle.scheme.specs.Reach.{Tile}
+use Rattle.scheme.specs.Promises.{one-outcome, Analyses, Queries, Reads, ReadsKind, ReadsValue, Summarises, Replies}
+
+pub analysis-has-one-outcome : (q : Request) (found : Analysis) (answer answer' : ℕ) (left left' : Analysis)
+    → Analyses q found answer left → Analyses q found answer' left' → _≡_ {A = ℕ × Analysis} (answer, left) (answer', left')
+analysis-has-one-outcome q found answer answer' left left' = one-outcome
+
+pub window-has-one-outcome : (q : Request) (w : Window) (found : Tile) (answer answer' : ℕ) (left left' : Tile)
+    → Queries q w found answer left → Queries q w found answer' left' → _≡_ {A = ℕ × Tile} (answer, left) (answer', left')
+window-has-one-outcome q w found answer answer' left left' = one-outcome
+
+module _ (nx ny : ℕ) (field : List ℤ) where
+  module _ (support : List ℕ) (x y : ℤ) where
+    pub reading-has-one-outcome : (answer answer' : Reading) → Reads nx ny field support x y answer → Reads nx ny field support x y answer' → answer ≡ answer'
+    reading-has-one-outcome answer answer' = one-outcome
+
+    pub kind-has-one-outcome : (answer answer' : ℕ) → ReadsKind nx ny field support x y answer → ReadsKind nx ny field support x y answer' → answer ≡ answer'
+    kind-has-one-outcome answer answer' = one-outcome
+
+    pub value-has-one-outcome : (answer answer' : Float) → ReadsValue nx ny field support x y answer → ReadsValue nx ny field support x y answer' → answer ≡ answer'
+    value-has-one-outcome answer answer' = one-outcome
+
+  pub summary-has-one-outcome : (answer answer' : Summary) → Summarises nx ny field answer → Summarises nx ny field answer' → answer ≡ answer'
+  summary-has-one-outcome answer answer' = one-outcome
+
+pub text-has-one-outcome : (input found : List ℕ) (bytes bytes' : ℕ) (left left' : List ℕ)
+    → Replies input found bytes left → Replies input found bytes' left' → _≡_ {A = ℕ × List ℕ} (bytes, left) (bytes', left')
+text-has-one-outcome input found bytes bytes' left left' = one-outcome
