@@ -22,11 +22,6 @@ eq-parts (pos a) (negsuc b) e = absurd (omega arith)
 eq-parts (negsuc a) (pos b) e = absurd (omega arith)
 eq-parts (negsuc a) (negsuc b) e = ap negsuc (omega arith)
 
--- one of the two parts is 0
-pub one-part : (a : ℤ) → up a * dn a ≡ 0
-one-part (pos n) = omega arith
-one-part (negsuc n) = omega arith
-
 cond-ind : (c : Bool) (x y : ℤ) (P : ℤ → Type 0) → (T c → P x) → (T (not c) → P y) → P (cond c x y)
 cond-ind true x y P f g = f tt
 cond-ind false x y P f g = g tt

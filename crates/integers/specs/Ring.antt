@@ -1,22 +1,9 @@
 -- The ring laws that the kit's ℤ lacks, and differences of moved ends.
 use Prim.Native.Nat.{ℕ, _-_, _*_, _≤_}
 use native.Mathlib.Omega.{arith}
-use mathlib.Core.Path.{_≡_, refl, ap}
-use lib.IntN.{ℤ, pos, negsuc, natAbs, _+ℤ_, _-ℤ_, _*ℤ_}
-use Rattle.integers.specs.Parts.{up, dn, eq-parts, add-parts, minus-parts, mul-parts}
-
-pub add-mul : (a b c : ℤ) → (a +ℤ b) *ℤ c ≡ a *ℤ c +ℤ b *ℤ c
-add-mul a b c =
-    eq-parts ((a +ℤ b) *ℤ c) (a *ℤ c +ℤ b *ℤ c)
-    (omega (
-      arith,
-      mul-parts (a +ℤ b) c,
-      mul-parts a c,
-      mul-parts b c,
-      add-parts (a *ℤ c) (b *ℤ c),
-      ap (λ (n : ℕ). n * up c) (add-parts a b),
-      ap (λ (n : ℕ). n * dn c) (add-parts a b),
-    ))
+use mathlib.Core.Path.{_≡_, refl}
+use lib.IntN.{ℤ, pos, negsuc, natAbs, _-ℤ_, _*ℤ_}
+use Rattle.integers.specs.Parts.{eq-parts, minus-parts, mul-parts}
 
 pub one-mul : (a : ℤ) → pos 1 *ℤ a ≡ a
 one-mul a = eq-parts (pos 1 *ℤ a) a (omega (arith, mul-parts (pos 1) a))

@@ -49,9 +49,12 @@ unfolding tab
 tab-last zero f = refl
 tab-last {A = A} (suc n) f = ap (λ (l : List A). f 0 ∷ l) (tab-last n (λ k. f (suc k)))
 
+pub tab-more : {A : Type 0} (n : ℕ) (f : ℕ → A) → tab (n + 1) f ≡ tab n f ++ (f n ∷ [])
+tab-more n f = ap (λ (m : ℕ). tab m f) (add-one n) ∙ tab-last n f
+
 pub tab-grows : {A : Type 0} (n : ℕ) (f g : ℕ → A) (a : A) → ((k : ℕ) → k < n → g k ≡ f k) → g n ≡ a → tab (n + 1) g ≡ tab n f ++ (a ∷ [])
 tab-grows {A = A} n f g a h e =
-    ap (λ (m : ℕ). tab m g) (add-one n) ∙ tab-last n g ∙ ap (λ (l : List A). l ++ (g n ∷ [])) (tab-same n g f h)
+    tab-more n g ∙ ap (λ (l : List A). l ++ (g n ∷ [])) (tab-same n g f h)
     ∙ ap (λ (b : A). tab n f ++ (b ∷ [])) e
 
 pub map-tab : {A B : Type 0} (g : A → B) (n : ℕ) (f : ℕ → A) → map g (tab n f) ≡ tab n (λ k. g (f k))

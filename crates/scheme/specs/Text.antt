@@ -70,9 +70,6 @@ inForm (read q k rest) = tested q (analysisRefusal q (rightLengths q))
 unfoldable pub outcome : List ℕ → Outcome
 outcome text = elim (ltb mostBytes (length text)) [ true ↦ refusedWith 10 0 | false ↦ inForm (requestLines 1 text) ]
 
-unfoldable pub textRefusal : List ℕ → Refusal
-textRefusal text = elim (outcome text) [ refusedWith number place ↦ refused number place | answered q ↦ accepted ]
-
 -- ---- the answer. A refusal prints the first two lines alone
 
 unfoldable pub firstTwo : (number place : ℕ) → List ℕ

@@ -17,8 +17,8 @@ use Rattle.scheme.specs.Promises.{requestOf, windowAt}
 use Rattle.scheme.specs.Stored.{stored-same}
 use Rattle.scheme.specs.Cut.{cut-sound}
 use Rattle.scheme.specs.Windows.{window-value, window-support}
-use Rattle.window.specs.Kept.{Long, KeepReady, Kept}
-use Rattle.window.specs.Part.{partOf, PartReady, part-ready}
+use Rattle.cut.specs.Kept.{Long, KeepReady, Kept}
+use Rattle.cut.specs.Part.{partOf, PartReady, part-ready}
 use Rattle.window.specs.Query.{QueryReady, prefix-long}
 
 -- the window from the cut's lower corner

@@ -13,7 +13,7 @@ use Rattle.scheme.specs.Reach.{windowOf, wholeAt}
 use Rattle.scheme.specs.Accepted.{Shaped, Sound, OnGrid, window-sound, window-on-grid}
 use Rattle.scheme.specs.Promises.{slices, tile}
 use Rattle.scheme.specs.Stored.{length-stored, field-stored, stored-same}
-use Rattle.window.specs.Part.{partOf, PartReady, part-ready}
+use Rattle.cut.specs.Part.{partOf, PartReady, part-ready}
 
 pub record QueryReady (q : Request) (w : Window) (grid support : ℕ) : Type 0 where
   pub sound : Sound q

@@ -19,8 +19,8 @@ use Rattle.window.proofs.whole_at.Tie as tie
 use Rattle.window.proofs.whole_at.Reads as reads
 use Rattle.window.proofs.whole_at.Lts as lts
 use Rattle.analysis.proofs.work.Reads as work-reads
-use Rattle.window.proofs.part_of_bytes.Reads as part-of-bytes-reads
-use Rattle.window.proofs.part_of_values.Reads as part-of-values-reads
+use Rattle.cut.proofs.part_of_bytes.Reads as part-of-bytes-reads
+use Rattle.cut.proofs.part_of_values.Reads as part-of-values-reads
 
 -- the request and the window
 module _ (s : lts.Start (work-reads.Asked, work-reads.Learnt, part-of-values-reads.Asked, part-of-values-reads.Learnt, part-of-bytes-reads.Asked, part-of-bytes-reads.Learnt) reads.Pre reads.Post) where

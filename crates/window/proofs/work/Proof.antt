@@ -12,20 +12,20 @@ use Rattle.scheme.specs.Refusals.{Window}
 use Rattle.scheme.specs.Reach.{reach, Span, pointsAlong, columnsCut, rowsCut, cut, wholeAt}
 use Rattle.scheme.specs.Promises.{sixColumns, requestOf, windowAt}
 use Rattle.scheme.specs.Stored.{length-stored}
-use Rattle.window.specs.Spans.{fromTo, planned}
-use Rattle.window.specs.Kept.{Long, Kept}
-use Rattle.window.specs.Part.{partOf}
+use Rattle.spans.specs.Spans.{fromTo, planned}
+use Rattle.cut.specs.Kept.{Long, Kept}
+use Rattle.cut.specs.Part.{partOf}
 use Rattle.window.specs.Query.{QueryReady, prefix-long, prefix-back, prefix-in}
 use Rattle.window.specs.Cut.{moved, Sides, sides, few-points, guess-part, keep-ready, cut-made, cut-ready, cut-whole}
 use Rattle.window.proofs.work.Statement.{statement}
 use Rattle.window.proofs.work.Tie as tie
 use Rattle.window.proofs.work.Reads as reads
 use Rattle.window.proofs.work.Lts as lts
-use Rattle.window.proofs.keep_stations.Reads as keep-stations-reads
-use Rattle.window.proofs.part_of_values.Reads as part-of-values-reads
-use Rattle.window.proofs.reach.Reads as reach-reads
+use Rattle.cut.proofs.keep_stations.Reads as keep-stations-reads
+use Rattle.cut.proofs.part_of_values.Reads as part-of-values-reads
+use Rattle.spans.proofs.reach.Reads as reach-reads
 use Rattle.window.proofs.whole_at.Reads as whole-at-reads
-use Rattle.window.proofs.widened.Reads as widened-reads
+use Rattle.spans.proofs.widened.Reads as widened-reads
 
 -- the request and the window
 module _ (s : lts.Start (reach-reads.Asked, reach-reads.Learnt, widened-reads.Asked, widened-reads.Learnt, part-of-values-reads.Asked, part-of-values-reads.Learnt, keep-stations-reads.Asked, keep-stations-reads.Learnt, whole-at-reads.Asked, whole-at-reads.Learnt) reads.Pre reads.Post) where

@@ -1,8 +1,8 @@
--- `window::widened` meets its contract. Assumes nothing.
+-- `spans::widened` meets its contract. Assumes nothing.
 use borrow.Author.Needs.{needs}
 use Rattle.scheme.specs.Reach.{widened}
-use Rattle.window.proofs.widened.Statement.{statement}
-use Rattle.window.proofs.widened.Tie as tie
+use Rattle.spans.proofs.widened.Statement.{statement}
+use Rattle.spans.proofs.widened.Tie as tie
 
 less-requires : tie.Need-less-requires
 less-requires c κs = search needs

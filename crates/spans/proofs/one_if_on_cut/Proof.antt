@@ -1,9 +1,9 @@
--- `window::one_if_on_cut` meets its contract: each return knows what the tests found. Assumes nothing.
+-- `spans::one_if_on_cut` meets its contract: each return knows what the tests found. Assumes nothing.
 use borrow.Author.Needs.{needs}
 use mathlib.Core.Path.{sym, _∙_}
 use mir.Facts.{toZ-ofZ}
-use Rattle.window.proofs.one_if_on_cut.Statement.{statement}
-use Rattle.window.proofs.one_if_on_cut.Tie as tie
+use Rattle.spans.proofs.one_if_on_cut.Statement.{statement}
+use Rattle.spans.proofs.one_if_on_cut.Tie as tie
 
 on-span-requires : tie.Need-on-span-requires
 on-span-requires c κs = search needs

@@ -1,13 +1,13 @@
--- `window::part_of_values` meets its contract. The loop's invariant: the rows passed are copied. Assumes nothing.
+-- `cut::part_of_values` meets its contract. The loop's invariant: the rows passed are copied. Assumes nothing.
 use Prim.Native.Nat.{_+_, _-_, _*_, _≤_}
 use native.Mathlib.Omega.{arith}
 use mathlib.Core.Path.{_≡_}
 use lib.ListN.{length}
 use lib.IntN.{pos}
 use Rattle.lists.specs.Filled.{Filled}
-use Rattle.window.specs.Part.{partK, CopyReady, row-ready, part-none, part-next, part-all}
-use Rattle.window.proofs.part_of_values.Statement.{statement}
-use Rattle.window.proofs.part_of_values.Tie as tie
+use Rattle.cut.specs.Part.{partK, CopyReady, row-ready, part-none, part-next, part-all}
+use Rattle.cut.proofs.part_of_values.Statement.{statement}
+use Rattle.cut.proofs.part_of_values.Tie as tie
 
 abbrev Inv-loop : tie.InvT-loop
 Inv-loop to₀ from across column row wide high j₀ to j = (j ≤ high) × Filled (pos 0) (partK (pos 0) across column row wide from) 0 (j * wide) to₀ to

@@ -1,8 +1,8 @@
--- `window::steps` meets its contract. Assumes nothing.
+-- `spans::steps` meets its contract. Assumes nothing.
 use native.Mathlib.Omega.{arith}
 use borrow.Author.Needs.{needs}
-use Rattle.window.proofs.steps.Statement.{statement}
-use Rattle.window.proofs.steps.Tie as tie
+use Rattle.spans.proofs.steps.Statement.{statement}
+use Rattle.spans.proofs.steps.Tie as tie
 
 add-rounded-up : tie.Need-add-rounded-up
 add-rounded-up c = search needs

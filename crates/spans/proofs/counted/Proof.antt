@@ -1,4 +1,4 @@
--- `window::counted` meets its contract: a position less at most 63 steps is small. Assumes nothing.
+-- `spans::counted` meets its contract: a position less at most 63 steps is small. Assumes nothing.
 use Prim.Native.Nat.{ℕ, _*_, _≤_}
 use native.Mathlib.Omega.{arith}
 use borrow.Author.Needs.{needs}
@@ -9,8 +9,8 @@ use mir.Val.{toZ, ofZ}
 use mir.Facts.{toZ-pos}
 use Rattle.integers.specs.Sizes.{size-minus}
 use Rattle.integers.specs.Words.{fits-size, bits-back}
-use Rattle.window.proofs.counted.Statement.{statement}
-use Rattle.window.proofs.counted.Tie as tie
+use Rattle.spans.proofs.counted.Statement.{statement}
+use Rattle.spans.proofs.counted.Tie as tie
 
 module _ (x : ℤ) (first : ℕ) (hx : natAbs x ≤ 1000000) (hf : first ≤ 63) where
   bits : toZ w32 (ofZ w32 x) -ℤ toZ w32 (64 * first) ≡ x -ℤ pos (64 * first)

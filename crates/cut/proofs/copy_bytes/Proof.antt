@@ -1,12 +1,12 @@
--- `window::copy_bytes` meets its contract. The loop's invariant: the places passed are copied. Assumes nothing.
+-- `cut::copy_bytes` meets its contract. The loop's invariant: the places passed are copied. Assumes nothing.
 use Prim.Native.Nat.{_+_, _-_, _≤_}
 use native.Mathlib.Omega.{arith}
 use mathlib.Core.Path.{_≡_, refl}
 use lib.ListN.{getD}
 use Rattle.lists.specs.Filled.{Filled}
-use Rattle.window.specs.Part.{copied, copied-none, copied-next}
-use Rattle.window.proofs.copy_bytes.Statement.{statement}
-use Rattle.window.proofs.copy_bytes.Tie as tie
+use Rattle.cut.specs.Part.{copied, copied-none, copied-next}
+use Rattle.cut.proofs.copy_bytes.Statement.{statement}
+use Rattle.cut.proofs.copy_bytes.Tie as tie
 
 abbrev Inv-loop : tie.InvT-loop
 Inv-loop to₀ at from place n i₀ to i = (i ≤ n) × Filled 0 (copied 0 at from place) at (at + i) to₀ to

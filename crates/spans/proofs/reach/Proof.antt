@@ -1,4 +1,4 @@
--- `window::reach` meets its contract. The loop's invariant: the total is that of the scans passed. Assumes nothing.
+-- `spans::reach` meets its contract. The loop's invariant: the total is that of the scans passed. Assumes nothing.
 use Prim.Native.Nat.{_+_, _-_, _*_, _≤_}
 use native.Mathlib.Omega.{arith}
 use mathlib.Core.Path.{_≡_, ap, _∙_}
@@ -10,9 +10,9 @@ use Rattle.integers.specs.Words.{bits-back}
 use Rattle.lists.specs.Sums.{upTo}
 use Rattle.scheme.specs.Units.{Request}
 use Rattle.scheme.specs.Reach.{steps}
-use Rattle.window.specs.Spans.{Plans, reach-none, reach-next, reach-all, one-most}
-use Rattle.window.proofs.reach.Statement.{statement}
-use Rattle.window.proofs.reach.Tie as tie
+use Rattle.spans.specs.Spans.{Plans, reach-none, reach-next, reach-all, one-most}
+use Rattle.spans.proofs.reach.Statement.{statement}
+use Rattle.spans.proofs.reach.Tie as tie
 
 abbrev Inv-loop : tie.InvT-loop
 Inv-loop radius count smooth total₀ m₀ total m =

@@ -1,4 +1,4 @@
--- `window::copy_values` meets its contract. The loop's invariant: the places passed are copied. Assumes nothing.
+-- `cut::copy_values` meets its contract. The loop's invariant: the places passed are copied. Assumes nothing.
 use Prim.Native.Nat.{_+_, _-_, _≤_}
 use native.Mathlib.Omega.{arith}
 use borrow.Author.Needs.{sfits-of}
@@ -9,9 +9,9 @@ use mir.Syntax.{w32}
 use mir.Val.{toZ, ofZ}
 use mir.Facts.{toZ-ofZ}
 use Rattle.lists.specs.Filled.{Filled}
-use Rattle.window.specs.Part.{copied, copied-none, copied-next}
-use Rattle.window.proofs.copy_values.Statement.{statement}
-use Rattle.window.proofs.copy_values.Tie as tie
+use Rattle.cut.specs.Part.{copied, copied-none, copied-next}
+use Rattle.cut.proofs.copy_values.Statement.{statement}
+use Rattle.cut.proofs.copy_values.Tie as tie
 
 abbrev Inv-loop : tie.InvT-loop
 Inv-loop to₀ at from place n i₀ to i = (i ≤ n) × Filled (pos 0) (copied (pos 0) at from place) at (at + i) to₀ to

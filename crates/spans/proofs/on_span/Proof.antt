@@ -1,4 +1,4 @@
--- `window::on_span` meets its contract: below zero, and from zero on by two comparisons. Assumes nothing.
+-- `spans::on_span` meets its contract: below zero, and from zero on by two comparisons. Assumes nothing.
 use native.Mathlib.Omega.{arith}
 use borrow.Author.Needs.{needs}
 use borrow.Author.Tests.{le-leb, lt-leb}
@@ -6,9 +6,9 @@ use mathlib.Core.Path.{sym}
 use mir.Syntax.{w32}
 use mir.Facts.{toZ-ofZ}
 use Rattle.integers.specs.Words.{size-fits}
-use Rattle.window.specs.Spans.{fromTo, below-span, along-span}
-use Rattle.window.proofs.on_span.Statement.{statement}
-use Rattle.window.proofs.on_span.Tie as tie
+use Rattle.spans.specs.Spans.{fromTo, below-span, along-span}
+use Rattle.spans.proofs.on_span.Statement.{statement}
+use Rattle.spans.proofs.on_span.Tie as tie
 
 returns : tie.Need-returns
 returns c =

@@ -1,4 +1,4 @@
--- `window::keep_stations` meets its contract. The loop's invariant: the first m rows are the cut of the rows passed. Assumes nothing.
+-- `cut::keep_stations` meets its contract. The loop's invariant: the first m rows are the cut of the rows passed. Assumes nothing.
 use Prim.Native.Nat.{ℕ, _+_, _-_, _≤_, _<_}
 use native.Mathlib.Omega.{arith}
 use borrow.Author.Needs.{sfits-of}
@@ -12,10 +12,10 @@ use Rattle.integers.specs.Words.{bits-back}
 use Rattle.scheme.specs.Units.{Columns}
 use Rattle.scheme.specs.Reach.{Span}
 use Rattle.scheme.specs.Promises.{sixColumns}
-use Rattle.window.specs.Spans.{fromTo}
-use Rattle.window.specs.Kept.{Long, Kept, kept-none, counted-is, kept-turn}
-use Rattle.window.proofs.keep_stations.Statement.{statement}
-use Rattle.window.proofs.keep_stations.Tie as tie
+use Rattle.spans.specs.Spans.{fromTo}
+use Rattle.cut.specs.Kept.{Long, Kept, kept-none, counted-is, kept-turn}
+use Rattle.cut.proofs.keep_stations.Statement.{statement}
+use Rattle.cut.proofs.keep_stations.Tie as tie
 
 abbrev Inv-loop : tie.InvT-loop
 Inv-loop kx₀ ky₀ kvalue₀ kobserved₀ kfrom₀ kuntil₀ columns rows x y value observed from until m₀ k₀ kx ky kvalue kobserved kfrom kuntil m k =

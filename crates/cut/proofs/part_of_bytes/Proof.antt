@@ -1,12 +1,12 @@
--- `window::part_of_bytes` meets its contract. The loop's invariant: the rows passed are copied. Assumes nothing.
+-- `cut::part_of_bytes` meets its contract. The loop's invariant: the rows passed are copied. Assumes nothing.
 use Prim.Native.Nat.{_+_, _-_, _*_, _≤_}
 use native.Mathlib.Omega.{arith}
 use mathlib.Core.Path.{_≡_}
 use lib.ListN.{length}
 use Rattle.lists.specs.Filled.{Filled}
-use Rattle.window.specs.Part.{partK, CopyReady, row-ready, part-none, part-next, part-all}
-use Rattle.window.proofs.part_of_bytes.Statement.{statement}
-use Rattle.window.proofs.part_of_bytes.Tie as tie
+use Rattle.cut.specs.Part.{partK, CopyReady, row-ready, part-none, part-next, part-all}
+use Rattle.cut.proofs.part_of_bytes.Statement.{statement}
+use Rattle.cut.proofs.part_of_bytes.Tie as tie
 
 abbrev Inv-loop : tie.InvT-loop
 Inv-loop to₀ from across column row wide high j₀ to j = (j ≤ high) × Filled 0 (partK 0 across column row wide from) 0 (j * wide) to₀ to

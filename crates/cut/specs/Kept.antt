@@ -1,14 +1,13 @@
 -- The stations of the cut, as a loop keeps them: each is put after those kept, and counted if it is on the cut.
-use Prim.Native.Nat.{ℕ, zero, suc, _+_, _*_, _≤_, _<_}
+use Prim.Native.Nat.{ℕ, _+_, _*_, _≤_, _<_}
 use native.Mathlib.Omega.{arith}
-use native.Mathlib.Numerals.{add-one}
 use mathlib.Core.Path.{_≡_, refl, sym, ap, _∙_}
 use mathlib.Core.Bool.{Bool, true, false, cond, _&&_}
 use mathlib.Core.List.{List, [], _∷_, _++_, map}
 use lib.ListN.{length, getD, set, length-set}
 use lib.Seq.{getD-set-same, getD-set-other}
 use lib.IntN.{ℤ, pos, natAbs, _-ℤ_}
-use Rattle.lists.specs.Tab.{tab, tab-same}
+use Rattle.lists.specs.Tab.{tab, tab-same, tab-more}
 use Rattle.lists.specs.Keep.{keep}
 use Rattle.scheme.specs.Units.{Columns, Station, stationAt, step, mostPosition}
 use Rattle.scheme.specs.Reach.{Span, onSpan, counted}
@@ -74,16 +73,7 @@ module _ (c : Columns) (m : ℕ) (s : Station) where
         getD-set-same (c .until) m (s .until) 0 (omega (arith, l .until)),
       )
 
--- ---- one element more at the end: of a table, and of what is kept of a list
-
-module _ {A : Type 0} where
-  tab-end : (n : ℕ) (f : ℕ → A) → tab (suc n) f ≡ tab n f ++ (f n ∷ [])
-  unfolding tab
-  tab-end zero f = refl
-  tab-end (suc n) f = ap (λ (r : List A). f 0 ∷ r) (tab-end n (λ k. f (suc k)))
-
-  tab-more : (n : ℕ) (f : ℕ → A) → tab (n + 1) f ≡ tab n f ++ (f n ∷ [])
-  tab-more n f = ap (λ (m : ℕ). tab m f) (add-one n) ∙ tab-end n f
+-- ---- one element more at the end of a list that is kept
 
 module _ {A B : Type 0} (p : A → Bool) (f : A → B) (a : A) where
   kept-more : (l : List A) → p a ≡ true → map f (keep p (l ++ (a ∷ []))) ≡ map f (keep p l) ++ (f a ∷ [])
