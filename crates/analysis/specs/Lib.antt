@@ -1,6 +1,3 @@
--- What the code of the analysis computes, tied to document 01's definitions. Proved.
-pub mod Scanned
-pub mod Ready
-pub mod Run
+-- What the code around the scans computes, tied to document 01's definitions. Proved.
 pub mod Start
 pub mod Whole

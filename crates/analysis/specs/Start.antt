@@ -16,8 +16,8 @@ use Rattle.scheme.specs.Scan.{start, after}
 use Rattle.scheme.specs.Accepted.{Sound}
 use Rattle.station.specs.Verdict.{on-axis}
 use Rattle.station.specs.Judge.{OnGrid}
-use Rattle.analysis.specs.Scanned.{rowOf}
-use Rattle.analysis.specs.Run.{Reached}
+use Rattle.scans.specs.Scanned.{rowOf}
+use Rattle.scans.specs.Run.{Reached}
 
 -- what the first verdicts need
 pub record VerdictsReady (nx ny : ℕ) (c : Columns) (room : ℕ) : Type 0 where

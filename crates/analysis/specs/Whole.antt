@@ -16,8 +16,8 @@ use Rattle.scheme.specs.Difference.{Row}
 use Rattle.scheme.specs.Scan.{after, analysis}
 use Rattle.scheme.specs.Accepted.{Sound, all-accepted, not-refused, analysis-sound}
 use Rattle.scheme.specs.Promises.{slices}
-use Rattle.analysis.specs.Scanned.{rowOf}
-use Rattle.analysis.specs.Run.{Reached}
+use Rattle.scans.specs.Scanned.{rowOf}
+use Rattle.scans.specs.Run.{Reached}
 use Rattle.analysis.specs.Start.{starts}
 
 -- what the work needs

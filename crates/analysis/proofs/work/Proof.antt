@@ -2,7 +2,7 @@
 use borrow.Author.Needs.{needs}
 use native.Mathlib.Omega.{arith}
 use mathlib.Core.Path.{refl, sym, _∙_}
-use Rattle.analysis.specs.Run.{Rest, requestWith, Reached}
+use Rattle.scans.specs.Run.{Rest, requestWith, Reached}
 use Rattle.analysis.specs.Whole.{few-points, begins, whole}
 use Rattle.analysis.proofs.work.Statement.{statement}
 use Rattle.analysis.proofs.work.Tie as tie
@@ -11,7 +11,7 @@ use Rattle.analysis.proofs.work.Lts as lts
 use Rattle.analysis.proofs.clear.Reads as clear-reads
 use Rattle.analysis.proofs.copy.Reads as copy-reads
 use Rattle.analysis.proofs.first_verdicts.Reads as first-verdicts-reads
-use Rattle.analysis.proofs.scans.Reads as scans-reads
+use Rattle.scans.proofs.scans.Reads as scans-reads
 
 copy-requires : tie.Need-copy-requires
 copy-requires c κs =

@@ -30,7 +30,13 @@ module _ (s : lts.Start (work-reads.Asked, work-reads.Learnt, part-of-values-rea
   abbrev w : Window
   w = let a = s .args in windowAt (a .left) (a .right) (a .top) (a .bottom)
 
-  few : q .nx * q .ny ≤ 4096
+  abbrev points : ℕ
+  points = q .nx * q .ny
+
+  abbrev rows : ℕ
+  rows = length (s .args .x .now)
+
+  few : points ≤ 4096
   few = mul-le-mul (s .pre .sound .shape .few-columns) (s .pre .sound .shape .few-rows)
 
 -- the local arrays at first
@@ -69,9 +75,9 @@ work-requires c κs =
     let s = c .before .before .before .before .before .before .before in
     record {
       sound = s .pre .sound;
-      grid = prefix-long _ values₀ (omega (arith, few s, length-replicate {A = ℤ} 4096 (pos 0)));
-      support = prefix-long _ bits₀ (omega (arith, few s, length-replicate {A = ℕ} 4096 0));
-      verdict = prefix-long _ verdict₀ (omega (arith, s .pre .sound .columns .few, length-replicate {A = ℕ} 512 0));
+      grid = prefix-long (points s) values₀ (omega (arith, few s, length-replicate {A = ℤ} 4096 (pos 0)));
+      support = prefix-long (points s) bits₀ (omega (arith, few s, length-replicate {A = ℕ} 4096 0));
+      verdict = prefix-long (rows s) verdict₀ (omega (arith, s .pre .sound .columns .few, length-replicate {A = ℕ} 512 0));
     }
 
 -- what the analysis leaves
@@ -110,28 +116,28 @@ add-high : tie.Need-add-high
 add-high c = search needs
 
 array-share-prefix-values : tie.Need-array-share-prefix-values
-array-share-prefix-values c = let k = c .before .before .before .before in prefix-in _ (values k) values₀ (long k)
+array-share-prefix-values c = let k = c .before .before .before .before in prefix-in (points (start k)) (values k) values₀ (long k)
 
 slice-aggregate-part-of-values : tie.Need-slice-aggregate-part-of-values
-slice-aggregate-part-of-values c = let k = c .before .before .before .before .before in sym (ap length (prefix-back _ (values k) values₀ (long k)) ∙ long k)
+slice-aggregate-part-of-values c = let k = c .before .before .before .before .before in sym (ap length (prefix-back (points (start k)) (values k) values₀ (long k)) ∙ long k)
 
 part-of-values-requires : tie.Need-part-of-values-requires
 part-of-values-requires c κs =
     let k = c .before .before .before .before .before in
     let p = start k .pre in
-    rw (prefix-back _ (values k) values₀ (long k)) (window-part (q (start k)) (w (start k)) (p .on-grid) (same-shape (p .sound .shape) _ (long k)) _ (p .grid-is))
+    rw (prefix-back (points (start k)) (values k) values₀ (long k)) (window-part (q (start k)) (w (start k)) (p .on-grid) (same-shape (p .sound .shape) _ (long k)) _ (p .grid-is))
 
 array-share-prefix-bits : tie.Need-array-share-prefix-bits
-array-share-prefix-bits c = let k = c .before .before .before .before .before .before .before .before in prefix-in _ (bits k) bits₀ (long' k)
+array-share-prefix-bits c = let k = c .before .before .before .before .before .before .before .before in prefix-in (points (start k)) (bits k) bits₀ (long' k)
 
 slice-aggregate-part-of-bytes : tie.Need-slice-aggregate-part-of-bytes
-slice-aggregate-part-of-bytes c = let k = c .before .before .before .before .before .before .before .before .before in sym (ap length (prefix-back _ (bits k) bits₀ (long' k)) ∙ long' k)
+slice-aggregate-part-of-bytes c = let k = c .before .before .before .before .before .before .before .before .before in sym (ap length (prefix-back (points (start k)) (bits k) bits₀ (long' k)) ∙ long' k)
 
 part-of-bytes-requires : tie.Need-part-of-bytes-requires
 part-of-bytes-requires c κs =
     let k = c .before .before .before .before .before .before .before .before .before in
     let p = start k .pre in
-    rw (prefix-back _ (bits k) bits₀ (long' k)) (window-part (q (start k)) (w (start k)) (p .on-grid) (same-shape (p .sound .shape) _ (long' k)) _ (p .support-is))
+    rw (prefix-back (points (start k)) (bits k) bits₀ (long' k)) (window-part (q (start k)) (w (start k)) (p .on-grid) (same-shape (p .sound .shape) _ (long' k)) _ (p .support-is))
 
 same-length : tie.Need-same-length
 same-length c = search needs
@@ -142,8 +148,8 @@ same-length-2 c = search needs
 returns : tie.Need-returns
 returns c =
     let k = c .before .before .before .before .before .before .before .before .before .before .before .before in
-    let g = rw (prefix-back _ (values k) values₀ (long k)) at (c .before .before .before .before .before .before .part-of-values .ensures) in
-    let b = rw (prefix-back _ (bits k) bits₀ (long' k)) at (c .before .before .part-of-bytes .ensures) in
+    let g = rw (prefix-back (points (start k)) (values k) values₀ (long k)) at (c .before .before .before .before .before .before .part-of-values .ensures) in
+    let b = rw (prefix-back (points (start k)) (bits k) bits₀ (long' k)) at (c .before .before .part-of-bytes .ensures) in
     whole-part (q (start k)) (w (start k)) (start k .pre .on-grid) (done k) g b
 
 pub whole-at-spec : {M : Type 1} → statement M

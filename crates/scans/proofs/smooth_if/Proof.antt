@@ -1,8 +1,8 @@
--- `analysis::smooth_if` meets its contract. Assumes nothing.
+-- `scans::smooth_if` meets its contract. Assumes nothing.
 use borrow.Author.Needs.{needs}
-use Rattle.analysis.specs.Ready.{smoothedIf}
-use Rattle.analysis.proofs.smooth_if.Statement.{statement}
-use Rattle.analysis.proofs.smooth_if.Tie as tie
+use Rattle.scans.specs.Ready.{smoothedIf}
+use Rattle.scans.proofs.smooth_if.Statement.{statement}
+use Rattle.scans.proofs.smooth_if.Tie as tie
 
 smooth-requires : tie.Need-smooth-requires
 smooth-requires c κs = search needs

@@ -1,4 +1,4 @@
--- `analysis::scans` meets its contract. The loop's invariant: the slices hold the state after the scans made. Assumes nothing.
+-- `scans::scans` meets its contract. The loop's invariant: the slices hold the state after the scans made. Assumes nothing.
 use Prim.Native.Nat.{ℕ, _+_, _-_, _*_, _≤_, _<_, _^_}
 use native.Mathlib.Omega.{arith}
 use native.Mathlib.Nat.{pow-suc}
@@ -11,9 +11,9 @@ use mir.Val.{toZ, ofZ}
 use Rattle.integers.specs.Words.{bits-back}
 use Rattle.scheme.specs.Units.{Request, R, E}
 use Rattle.scheme.specs.Accepted.{Scanned}
-use Rattle.analysis.specs.Run.{Rest, requestWith, Reached, z-long, sup-long, bit-small, ready-for, next-after}
-use Rattle.analysis.proofs.scans.Statement.{statement}
-use Rattle.analysis.proofs.scans.Tie as tie
+use Rattle.scans.specs.Run.{Rest, requestWith, Reached, z-long, sup-long, bit-small, ready-for, next-after}
+use Rattle.scans.proofs.scans.Statement.{statement}
+use Rattle.scans.proofs.scans.Tie as tie
 
 abbrev Inv-loop : tie.InvT-loop
 Inv-loop z₀ support₀ verdict₀ nx ny x y value radius limit count smooth d₀ bit₀ m₀ z support verdict d bit m =

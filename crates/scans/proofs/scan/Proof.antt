@@ -1,9 +1,9 @@
--- `analysis::scan` meets its contract: each of its three parts finds what it needs, and leaves what Scanned says. Assumes nothing.
+-- `scans::scan` meets its contract: each of its three parts finds what it needs, and leaves what Scanned says. Assumes nothing.
 use borrow.Author.Needs.{needs}
 use mathlib.Core.Path.{_∙_}
-use Rattle.analysis.specs.Ready.{judge-ready, pass-ready, smooth-shaped, smooth-small, scanned}
-use Rattle.analysis.proofs.scan.Statement.{statement}
-use Rattle.analysis.proofs.scan.Tie as tie
+use Rattle.scans.specs.Ready.{judge-ready, pass-ready, smooth-shaped, smooth-small, scanned}
+use Rattle.scans.proofs.scan.Statement.{statement}
+use Rattle.scans.proofs.scan.Tie as tie
 
 judge-requires : tie.Need-judge-requires
 judge-requires c κs = judge-ready (c .before .before .before .before .before .pre)

@@ -22,7 +22,7 @@ use Rattle.station.specs.Judge.{OnGrid, JudgeReady, diffAt, verdictAt}
 use Rattle.smoothing.specs.Pattern.{Small}
 use Rattle.point.specs.Near.{Inside, Columns, sumsOver, over-small}
 use Rattle.point.specs.Pass.{corrected, backed, PassReady}
-use Rattle.analysis.specs.Scanned.{Scanned}
+use Rattle.scans.specs.Scanned.{Scanned}
 
 pub record ScanReady (nx ny : ℕ) (xs ys vs : List ℤ) (radius limit number bit : ℕ) (z : List ℤ) (sup st : List ℕ) (ds : List ℤ) : Type 0 where
   pub shape : Shaped nx ny (length z)

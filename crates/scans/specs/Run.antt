@@ -16,8 +16,8 @@ use Rattle.scheme.specs.Bounds.{after-within}
 use Rattle.scheme.specs.Support.{support-small}
 use Rattle.scheme.specs.Stored.{length-stored, stored-all}
 use Rattle.station.specs.Judge.{OnGrid}
-use Rattle.analysis.specs.Scanned.{Holds, Scanned, scan-holds, scan-on-grid}
-use Rattle.analysis.specs.Ready.{ScanReady}
+use Rattle.scans.specs.Scanned.{Holds, Scanned, scan-holds, scan-on-grid}
+use Rattle.scans.specs.Ready.{ScanReady}
 
 -- what a request has besides what the scans are handed
 pub record Rest : Type 0 where
