@@ -20,6 +20,7 @@ pub mod patterned;
 pub mod program;
 pub mod query_sorts;
 pub mod reading;
+pub mod real;
 pub mod refusals;
 pub mod rng;
 pub mod scan;

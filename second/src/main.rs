@@ -7,7 +7,10 @@ use second::cases::{AnalysisCase, ReadingCase, SummaryCase, TextCase, WindowCase
 use second::compare::{Case, Own};
 use second::near::STRIDE;
 use second::program::Program;
-use second::survey::{compare_kind, compare_near, compare_texts, survey};
+use second::real::DATA;
+use second::survey::{
+    compare_kind, compare_near, compare_real, compare_real_texts, compare_texts, survey,
+};
 use second::text;
 use second::units::MOST_TEXT;
 use std::env::{args, var_os};
@@ -18,7 +21,7 @@ const SEED: u64 = 20_261_947;
 const COUNT: u64 = 20_000;
 const USAGE: &str = "use: second text | second generate KIND SEED COUNT | \
     second survey [SEED [COUNT]] | second compare KIND [SEED [COUNT]] | \
-    second compare near";
+    second compare near | second compare real | second compare real-text";
 const BRIDGE: &str = "SOSNYAVIK_BRIDGE";
 const BRIDGE_HELP: &str = "in the repository's root, run second/bridge/build FOLDER \
     build/bridge/bridge with the folder of libclause.a, and set SOSNYAVIK_BRIDGE to \
@@ -44,9 +47,15 @@ fn main() -> ExitCode {
         ["survey", seed] => run_survey(Some(seed), None),
         ["survey", seed, count] => run_survey(Some(seed), Some(count)),
         ["compare", "near"] => compare_near_texts(),
+        ["compare", "real"] => compare_real_calls(),
+        ["compare", "real-text"] => compare_real_text(),
         ["compare", "near", ..] => {
             let message = "compare near takes no seed and no count; set SOSNYAVIK_STRIDE instead";
             Err(Wrong::Asked(message.to_string()))
+        }
+        ["compare", kind @ ("real" | "real-text"), ..] => {
+            let message = format!("compare {kind} takes no seed and no count; leave them out");
+            Err(Wrong::Asked(message))
         }
         ["compare", kind] => compare(kind, None, None),
         ["compare", kind, seed] => compare(kind, Some(seed), None),
@@ -148,6 +157,16 @@ fn compare_near_texts() -> Result<(), Wrong> {
         return Err(Wrong::Asked(format!("{name} is 0; give 1 for all texts, or more")));
     }
     compare_near(&program()?, stride, &mut io::stdout()).map_err(Wrong::Found)
+}
+
+/// The archive beside the second program, over the stations of document 002.
+fn compare_real_calls() -> Result<(), Wrong> {
+    compare_real(&bridge()?, DATA, &mut io::stdout()).map_err(Wrong::Found)
+}
+
+/// The text program beside it, over the same.
+fn compare_real_text() -> Result<(), Wrong> {
+    compare_real_texts(&program()?, DATA, &mut io::stdout()).map_err(Wrong::Found)
 }
 
 /// The text program that the environment names.

@@ -108,6 +108,10 @@ fn bad_arguments_give_one_line_and_two() {
     wrong(&["compare", "window"], &[]);
     wrong(&["compare", "text"], &[]);
     wrong(&["compare", "near"], &[]);
+    wrong(&["compare", "real"], &[]);
+    wrong(&["compare", "real", "1"], &[]);
+    wrong(&["compare", "real-text"], &[]);
+    wrong(&["compare", "real-text", "1"], &[]);
     wrong(&["compare", "near", "1"], &[]);
     wrong(&["compare", "near"], &[("SOSNYAVIK_STRIDE", "0")]);
     wrong(&["compare", "near"], &[("SOSNYAVIK_STRIDE", "all")]);

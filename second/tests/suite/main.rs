@@ -7,6 +7,7 @@ mod harness;
 mod numbers;
 mod program;
 mod readings;
+mod real;
 mod refusals;
 mod sorts;
 mod texts;
