@@ -4,10 +4,11 @@
 
 use second::bridge::{Bridge, Empty};
 use second::cases::{AnalysisCase, ReadingCase, SummaryCase, TextCase, WindowCase};
-use second::compare::{Case, Own};
+use second::compare::{Case, Own, Subject};
 use second::near::STRIDE;
 use second::program::Program;
 use second::real::DATA;
+use second::serve::Servers;
 use second::survey::{
     compare_kind, compare_near, compare_real, compare_real_texts, compare_texts, survey,
 };
@@ -30,6 +31,10 @@ const BRIDGE_HELP: &str = "in the repository's root, run second/bridge/build FOL
 const ANALYSE: &str = "SOSNYAVIK_ANALYSE";
 const ANALYSE_HELP: &str = "build the text program and set SOSNYAVIK_ANALYSE to the command \
     that runs it, such as 'target/bin/analyse' or 'scripts/x86 run target/bin/analyse'";
+const SERVE: &str = "SOSNYAVIK_SERVE";
+const SERVE_HELP: &str = "in the repository's root, run second/bridge/build-serve with the \
+    program's object, such as target/obj/analyse.o, and build/bridge/serve, and set \
+    SOSNYAVIK_SERVE to 'scripts/x86 run build/bridge/serve'";
 
 /// What went wrong, with the exit code that says whose fault it was.
 enum Wrong {
@@ -139,7 +144,7 @@ fn compare(kind: &str, seed: Option<&str>, count: Option<&str>) -> Result<(), Wr
         "summary" => compare_kind::<SummaryCase>,
         "text" => {
             let (seed, count) = seed_and_count(seed, count)?;
-            return compare_texts(&program()?, seed, count, &mut io::stdout())
+            return compare_texts(&*program()?, seed, count, &mut io::stdout())
                 .map_err(Wrong::Found);
         }
         _ => return Err(no_such_kind(kind)),
@@ -156,7 +161,7 @@ fn compare_near_texts() -> Result<(), Wrong> {
     if stride == 0 {
         return Err(Wrong::Asked(format!("{name} is 0; give 1 for all texts, or more")));
     }
-    compare_near(&program()?, stride, &mut io::stdout()).map_err(Wrong::Found)
+    compare_near(&*program()?, stride, &mut io::stdout()).map_err(Wrong::Found)
 }
 
 /// The archive beside the second program, over the stations of document 002.
@@ -166,19 +171,28 @@ fn compare_real_calls() -> Result<(), Wrong> {
 
 /// The text program beside it, over the same.
 fn compare_real_text() -> Result<(), Wrong> {
-    compare_real_texts(&program()?, DATA, &mut io::stdout()).map_err(Wrong::Found)
+    compare_real_texts(&*program()?, DATA, &mut io::stdout()).map_err(Wrong::Found)
 }
 
-/// The text program that the environment names.
-fn program() -> Result<Program, Wrong> {
+/// The text program that the environment names, by its server if that is set.
+fn program() -> Result<Box<dyn Subject + Sync>, Wrong> {
+    if let Some(command) = var_os(SERVE) {
+        let command = command.to_string_lossy();
+        let servers =
+            Servers::start(&command).map_err(|why| unstarted(SERVE, &command, &why, SERVE_HELP))?;
+        return Ok(Box::new(servers));
+    }
     let Some(command) = var_os(ANALYSE) else {
         return Err(Wrong::Asked(format!("{ANALYSE} is not set; {ANALYSE_HELP}")));
     };
     let command = command.to_string_lossy();
-    Program::find(&command).map_err(|why| {
-        let wrong = format!("{ANALYSE} is {command:?}, which does not start: {why}");
-        Wrong::Asked(format!("{wrong}; {ANALYSE_HELP}"))
-    })
+    let program =
+        Program::find(&command).map_err(|why| unstarted(ANALYSE, &command, &why, ANALYSE_HELP))?;
+    Ok(Box::new(program))
+}
+
+fn unstarted(name: &str, command: &str, why: &str, help: &str) -> Wrong {
+    Wrong::Asked(format!("{name} is {command:?}, which does not start: {why}; {help}"))
 }
 
 /// The bridge that the environment names, with the archive behind it.
@@ -196,9 +210,7 @@ fn bridge() -> Result<Bridge, Wrong> {
         return Err(Wrong::Asked(format!("{BRIDGE} is not set; {BRIDGE_HELP}")));
     };
     let command = command.to_string_lossy();
-    Bridge::start(&command, empty).map_err(|why| {
-        Wrong::Asked(format!("{BRIDGE} is {command:?}, which does not start: {why}; {BRIDGE_HELP}"))
-    })
+    Bridge::start(&command, empty).map_err(|why| unstarted(BRIDGE, &command, &why, BRIDGE_HELP))
 }
 
 fn seed_and_count(seed: Option<&str>, count: Option<&str>) -> Result<(u64, u64), Wrong> {

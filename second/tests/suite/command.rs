@@ -12,6 +12,7 @@ pub fn second(arguments: &[&str], environment: &[(&str, &str)], input: &str) -> 
         .env_remove("SOSNYAVIK_EMPTY")
         .env_remove("SOSNYAVIK_BRIDGE")
         .env_remove("SOSNYAVIK_ANALYSE")
+        .env_remove("SOSNYAVIK_SERVE")
         .env_remove("SOSNYAVIK_STRIDE")
         .envs(environment.iter().copied())
         .stdin(Stdio::piped())

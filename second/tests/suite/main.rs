@@ -9,6 +9,7 @@ mod program;
 mod readings;
 mod real;
 mod refusals;
+mod serve;
 mod sorts;
 mod texts;
 mod windows;
