@@ -25,7 +25,7 @@ enum request { GREET = 0, RUN = 1 };
 static const uint32_t GREETING = 0x53657276;
 
 /* More seconds than any text needs. A process that has not ended by then is killed by SIGALRM. */
-enum { PATIENCE = 60 };
+enum { PATIENCE = 20 };
 
 /* So many texts are run in this process too; see learn. */
 enum { LEARNT = 300 };

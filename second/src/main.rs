@@ -45,33 +45,7 @@ enum Wrong {
 fn main() -> ExitCode {
     let arguments: Vec<String> = args().skip(1).collect();
     let arguments: Vec<&str> = arguments.iter().map(String::as_str).collect();
-    let outcome = match arguments[..] {
-        ["text"] => answer_text(),
-        ["generate", kind, seed, count] => generate(kind, seed, count),
-        ["survey"] => run_survey(None, None),
-        ["survey", seed] => run_survey(Some(seed), None),
-        ["survey", seed, count] => run_survey(Some(seed), Some(count)),
-        ["compare", "near"] => compare_near_texts(),
-        ["compare", "real"] => compare_real_calls(),
-        ["compare", "real-text"] => compare_real_text(),
-        ["compare", "near", ..] => {
-            let message = "compare near takes no seed and no count; set SOSNYAVIK_STRIDE instead";
-            Err(Wrong::Asked(message.to_string()))
-        }
-        ["compare", kind @ ("real" | "real-text"), ..] => {
-            let message = format!("compare {kind} takes no seed and no count; leave them out");
-            Err(Wrong::Asked(message))
-        }
-        ["compare", kind] => compare(kind, None, None),
-        ["compare", kind, seed] => compare(kind, Some(seed), None),
-        ["compare", kind, seed, count] => compare(kind, Some(seed), Some(count)),
-        [] => Err(Wrong::Asked(format!("no command given; {USAGE}"))),
-        _ => {
-            let given = arguments.join(" ");
-            Err(Wrong::Asked(format!("not a command: {given:?}; {USAGE}")))
-        }
-    };
-    match outcome {
+    match obey(&arguments) {
         Ok(()) => ExitCode::SUCCESS,
         Err(Wrong::Found(message)) => {
             eprintln!("second: {message}");
@@ -82,6 +56,33 @@ fn main() -> ExitCode {
             ExitCode::from(2)
         }
     }
+}
+
+fn obey(arguments: &[&str]) -> Result<(), Wrong> {
+    match *arguments {
+        ["text"] => answer_text(),
+        ["generate", kind, seed, count] => generate(kind, seed, count),
+        ["survey"] => run_survey(None, None),
+        ["survey", seed] => run_survey(Some(seed), None),
+        ["survey", seed, count] => run_survey(Some(seed), Some(count)),
+        ["compare", "near"] => compare_near_texts(),
+        ["compare", "real"] => compare_real_calls(),
+        ["compare", "real-text"] => compare_real_text(),
+        ["compare", "near", ..] => Err(seedless("near", "set SOSNYAVIK_STRIDE instead")),
+        ["compare", kind @ ("real" | "real-text"), ..] => Err(seedless(kind, "leave them out")),
+        ["compare", kind] => compare(kind, None, None),
+        ["compare", kind, seed] => compare(kind, Some(seed), None),
+        ["compare", kind, seed, count] => compare(kind, Some(seed), Some(count)),
+        [] => Err(Wrong::Asked(format!("no command given; {USAGE}"))),
+        _ => {
+            let given = arguments.join(" ");
+            Err(Wrong::Asked(format!("not a command: {given:?}; {USAGE}")))
+        }
+    }
+}
+
+fn seedless(kind: &str, instead: &str) -> Wrong {
+    Wrong::Asked(format!("compare {kind} takes no seed and no count; {instead}"))
 }
 
 fn answer_text() -> Result<(), Wrong> {
