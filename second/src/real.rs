@@ -56,8 +56,8 @@ fn station(number: usize, line: &str) -> Option<Station> {
     }
 }
 
-/// The limits of the four scans, and what of the stations on the grid they are
-/// to reject, so that a test of such limits tests that.
+/// The limits of the four scans, and how many of the stations on the grid they
+/// are to reject: whether a number rejected, out of so many, will do.
 struct Plan {
     limits: [i32; 4],
     rejects: &'static str,
@@ -102,8 +102,8 @@ fn call(stations: &[Station], plan: &Plan, smooth: bool) -> Call {
     call
 }
 
-/// A request over as many stations as a request may have, its analysis, and
-/// what its limits reject.
+/// A request over as many stations as a request may have, its analysis, and a
+/// line on what its limits reject.
 struct Accepted {
     call: Call,
     analysis: Analysis,
@@ -115,8 +115,8 @@ impl Accepted {
     fn new(stations: &[Station], plan: &Plan, smooth: bool) -> Result<Self, String> {
         let call = call(&stations[..MOST_STATIONS.min(stations.len())], plan, smooth);
         let analysis = run(&call);
-        let count = |on_the_list: fn(u8) -> bool| {
-            analysis.verdict.iter().filter(|verdict| on_the_list(**verdict)).count()
+        let count = |fits: fn(u8) -> bool| {
+            analysis.verdict.iter().filter(|verdict| fits(**verdict)).count()
         };
         let (on_grid, rejected) = (count(|verdict| verdict != 5), count(|verdict| verdict > 10));
         let Plan { limits, rejects, holds } = plan;
@@ -129,10 +129,6 @@ impl Accepted {
         } else {
             Err(format!("{said}, where {rejects} were to be: choose other limits in real.rs"))
         }
-    }
-
-    fn window(&self, window: Window) -> WindowCase {
-        windowed(self.call.clone(), window)
     }
 
     /// A reading of the analysed field.
@@ -198,7 +194,9 @@ impl Cases {
         let too_long = written_out(&too_many, Style::default()).into_bytes();
         let texts = accepted.iter().map(Accepted::text).chain([too_long]);
         let analyses = accepted.iter().map(|one| one.call.clone()).chain([too_many.clone()]);
-        let each_window = accepted.iter().flat_map(|one| windows().map(|ends| one.window(ends)));
+        let each_window = accepted
+            .iter()
+            .flat_map(|one| windows().map(|window| windowed(one.call.clone(), window)));
         let refused = windowed(too_many.clone(), Window::new(0, 0, 0, 0));
         Ok(Cases {
             said: accepted.iter().map(|one| one.said.clone()).collect(),
