@@ -28,7 +28,7 @@ static const uint32_t GREETING = 0x53657276;
 enum { PATIENCE = 20 };
 
 /* So many texts are run in this process too; see learn. */
-enum { LEARNT = 300 };
+enum { LEARNT = 50 };
 
 int __real_main(int count, char **words);
 int __wrap_main(void);
