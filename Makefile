@@ -1,6 +1,6 @@
-# make run: answer a request.  make test: the gate.  make bench: the archive against plain C.
+# make run: answer a request.  make test: the gate.  make bench: the archive against plain C.  make soak: a million requests compared.
 # make install PREFIX=/usr/local: archive, header, pkg-config file and the program, for a server's build.
-.PHONY: run test bench install tools clean
+.PHONY: run test bench soak install tools clean
 .DEFAULT_GOAL := test
 
 REQUEST ?= examples/evening.request
@@ -30,6 +30,13 @@ bench:
 	@rt staticlib clause > build/bench/staticlib.log 2>&1 || { echo "make bench: rt staticlib clause failed: see build/bench/staticlib.log" >&2; exit 1; }
 	@rt check analyse > build/bench/check.log 2>&1 || { echo "make bench: rt check analyse failed: see build/bench/check.log" >&2; exit 1; }
 	@bench/run target/staticlib target/bin/analyse
+
+soak:
+	@scripts/tools rt cargo $(X86_TOOLS)
+	@mkdir -p build/soak
+	@rt staticlib clause > build/soak/staticlib.log 2>&1 || { echo "make soak: rt staticlib clause failed: see build/soak/staticlib.log" >&2; exit 1; }
+	@rt check analyse > build/soak/check.log 2>&1 || { echo "make soak: rt check analyse failed: see build/soak/check.log" >&2; exit 1; }
+	@scripts/soak target/staticlib target/obj/analyse.o
 
 install:
 	@scripts/tools rt

@@ -5,19 +5,18 @@
 use crate::call::{Call, Query, Window};
 use crate::compare::{Answer, Results, Subject};
 use crate::patterned::BYTE_PATTERN;
+use crate::running::{put_numbers, read_number, Greeting, Running};
 use crate::summary::Summary;
 use std::cell::RefCell;
-use std::io::{self, BufRead, BufReader, Read, Write};
-use std::process::{Child, ChildStdin, ChildStdout, Command, Stdio};
-use std::thread::{spawn, JoinHandle};
+use std::io::{self, BufReader, Read};
+use std::process::ChildStdout;
 
-const GREET: u32 = 0;
 const ANALYSE: u32 = 1;
 const WINDOW: u32 = 2;
 const KIND: u32 = 3;
 const VALUE: u32 = 4;
 const SUMMARY: u32 = 5;
-const GREETING: u32 = 0x536F_736E;
+const GREETING: Greeting = Greeting { name: "the bridge", number: 0x536F_736E };
 
 /// What the lowest bits of the flags stand for; one for each result, then one
 /// for each column.
@@ -48,7 +47,7 @@ pub struct Bridge {
 impl Bridge {
     /// Starts the bridge: a program and its arguments, split on spaces.
     pub fn start(command: &str, empty: Empty) -> Result<Self, String> {
-        let running = RefCell::new(Some(Running::start(command)?));
+        let running = RefCell::new(Some(Running::start(command, &GREETING)?));
         Ok(Bridge { command: command.to_string(), empty, running })
     }
 }
@@ -64,7 +63,7 @@ impl Bridge {
         let mut place = self.running.borrow_mut();
         let mut running = match place.take() {
             Some(running) => running,
-            None => Running::start(&self.command)
+            None => Running::start(&self.command, &GREETING)
                 .map_err(|why| format!("the bridge does not start again: {why}"))?,
         };
         match running.ask(request).and_then(read) {
@@ -110,71 +109,6 @@ impl Subject for Bridge {
     fn summary(&self, query: &Query) -> Answer<Summary> {
         self.ask_query(&summary_request(query, self.empty), read_summary)
     }
-}
-
-struct Running {
-    child: Child,
-    input: ChildStdin,
-    output: BufReader<ChildStdout>,
-    /// Gives the last line of its standard error, once that has ended.
-    last_words: JoinHandle<String>,
-}
-
-impl Running {
-    fn start(command: &str) -> Result<Self, String> {
-        let mut words = command.split_whitespace();
-        let program = words.next().ok_or("an empty command")?;
-        let mut child = Command::new(program)
-            .args(words)
-            .stdin(Stdio::piped())
-            .stdout(Stdio::piped())
-            .stderr(Stdio::piped())
-            .spawn()
-            .map_err(|error| error.to_string())?;
-        let (Some(input), Some(output), Some(errors)) =
-            (child.stdin.take(), child.stdout.take(), child.stderr.take())
-        else {
-            unreachable!("all three are piped");
-        };
-        let last_words = spawn(|| last_line(errors));
-        Running { child, input, output: BufReader::new(output), last_words }.greeted()
-    }
-
-    /// Fails if something else than a bridge was started.
-    fn greeted(mut self) -> Result<Self, String> {
-        match self.ask(&GREET.to_le_bytes()).and_then(|output| read_number(output)) {
-            Ok(GREETING) => Ok(self),
-            Ok(_) => {
-                self.end();
-                Err("it answers, but not as the bridge does".to_string())
-            }
-            Err(_) => Err(self.end()),
-        }
-    }
-
-    /// Hands a call over; what comes next is its answer.
-    fn ask(&mut self, request: &[u8]) -> io::Result<&mut BufReader<ChildStdout>> {
-        self.input.write_all(request)?;
-        Ok(&mut self.output)
-    }
-
-    /// How it ended. Killing it changes nothing if it has died by itself.
-    fn end(self) -> String {
-        let Running { mut child, input, output, last_words } = self;
-        drop((input, output));
-        let status = child.kill().and_then(|()| child.wait());
-        let status = status.map_or_else(|error| error.to_string(), |status| status.to_string());
-        match last_words.join() {
-            Ok(line) if !line.is_empty() => format!("{status}, {line}"),
-            _ => status,
-        }
-    }
-}
-
-fn last_line(errors: impl Read) -> String {
-    let lines = BufReader::new(errors).split(b'\n').map_while(Result::ok);
-    let last = lines.last().unwrap_or_default();
-    String::from_utf8_lossy(&last).trim().to_string()
 }
 
 fn analyse_request(call: &Call, results: &Results, empty: Empty) -> Vec<u8> {
@@ -239,10 +173,6 @@ fn put_columns(bytes: &mut Vec<u8>, call: &Call) {
     put_column(bytes, &call.limit, i32::to_le_bytes);
 }
 
-fn put_numbers(bytes: &mut Vec<u8>, numbers: &[u32]) {
-    bytes.extend(numbers.iter().flat_map(|number| number.to_le_bytes()));
-}
-
 fn put_column<T: Copy>(bytes: &mut Vec<u8>, column: &[T], as_bytes: fn(T) -> [u8; 4]) {
     put_numbers(bytes, &[length(column.len())]);
     bytes.extend(column.iter().flat_map(|number| as_bytes(*number)));
@@ -265,12 +195,6 @@ fn read_answer(mut input: impl Read, results: Results) -> io::Result<(u32, u32)>
     input.read_exact(results.support)?;
     input.read_exact(results.verdict)?;
     Ok((code, flags))
-}
-
-fn read_number(input: &mut dyn Read) -> io::Result<u32> {
-    let mut bytes = [0; 4];
-    input.read_exact(&mut bytes)?;
-    Ok(u32::from_le_bytes(bytes))
 }
 
 fn read_double(input: &mut dyn Read) -> io::Result<f64> {
@@ -394,11 +318,5 @@ mod tests {
         assert_eq!(numbers, [4, 1, 1, 2, minus_9, 10, 2, minus_3, 4, 4, 0x0807_0605]);
         let numbers = numbers_of(&summary_request(&query, Empty::Dangling));
         assert_eq!(numbers, [5, 0, 1, 2, 2, minus_3, 4]);
-    }
-
-    #[test]
-    fn the_last_line_is_kept() {
-        assert_eq!(last_line(&b"one\n\xFFtwo\n"[..]), "\u{FFFD}two");
-        assert_eq!(last_line(&b""[..]), "");
     }
 }

@@ -173,16 +173,21 @@ fn made_small<C: Case>(subject: &dyn Subject, found: Found<C>) -> Failure<C> {
 
 /// Compares the cases 0..count of a seed, up to the first that differs.
 pub fn run<C: Case>(subject: &dyn Subject, seed: u64, count: u64) -> Run<C> {
+    run_over(subject, (0..count).map(|index| C::generate(seed, index)))
+}
+
+/// The same over any cases.
+pub fn run_over<C: Case>(subject: &dyn Subject, cases: impl IntoIterator<Item = C>) -> Run<C> {
     let mut tally = Tally::default();
-    let found =
-        (0..count).find_map(|index| seen(subject, index, C::generate(seed, index), &mut tally));
+    let mut cases = (0..).zip(cases);
+    let found = cases.find_map(|(index, case)| seen(subject, index, case, &mut tally));
     Run { tally, failure: found.map(|found| made_small(subject, found)) }
 }
 
 /// A subject that answers two calls at a time.
 pub type Shared<'a> = &'a (dyn Subject + Sync);
 
-/// The same over any cases 0..count, two at a time. The first that differs is
+/// The same over cases that are made by index, two at a time. The first that differs is
 /// found here too: every case before it has been begun, and is finished.
 pub fn run_two_at_a_time<C: Case + Send>(
     subject: Shared,

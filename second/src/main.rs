@@ -4,10 +4,14 @@
 
 use second::bridge::{Bridge, Empty};
 use second::cases::{AnalysisCase, ReadingCase, SummaryCase, TextCase, WindowCase};
-use second::compare::{Case, Own};
+use second::compare::{Case, Own, Subject};
 use second::near::STRIDE;
 use second::program::Program;
-use second::survey::{compare_kind, compare_near, compare_texts, survey};
+use second::real::DATA;
+use second::serve::Servers;
+use second::survey::{
+    compare_kind, compare_near, compare_real, compare_real_texts, compare_texts, survey,
+};
 use second::text;
 use second::units::MOST_TEXT;
 use std::env::{args, var_os};
@@ -18,7 +22,7 @@ const SEED: u64 = 20_261_947;
 const COUNT: u64 = 20_000;
 const USAGE: &str = "use: second text | second generate KIND SEED COUNT | \
     second survey [SEED [COUNT]] | second compare KIND [SEED [COUNT]] | \
-    second compare near";
+    second compare near | second compare real | second compare real-text";
 const BRIDGE: &str = "SOSNYAVIK_BRIDGE";
 const BRIDGE_HELP: &str = "in the repository's root, run second/bridge/build FOLDER \
     build/bridge/bridge with the folder of libclause.a, and set SOSNYAVIK_BRIDGE to \
@@ -27,6 +31,10 @@ const BRIDGE_HELP: &str = "in the repository's root, run second/bridge/build FOL
 const ANALYSE: &str = "SOSNYAVIK_ANALYSE";
 const ANALYSE_HELP: &str = "build the text program and set SOSNYAVIK_ANALYSE to the command \
     that runs it, such as 'target/bin/analyse' or 'scripts/x86 run target/bin/analyse'";
+const SERVE: &str = "SOSNYAVIK_SERVE";
+const SERVE_HELP: &str = "in the repository's root, run second/bridge/build-serve with the \
+    program's object, such as target/obj/analyse.o, and build/bridge/serve, and set \
+    SOSNYAVIK_SERVE to 'scripts/x86 run build/bridge/serve'";
 
 /// What went wrong, with the exit code that says whose fault it was.
 enum Wrong {
@@ -37,27 +45,7 @@ enum Wrong {
 fn main() -> ExitCode {
     let arguments: Vec<String> = args().skip(1).collect();
     let arguments: Vec<&str> = arguments.iter().map(String::as_str).collect();
-    let outcome = match arguments[..] {
-        ["text"] => answer_text(),
-        ["generate", kind, seed, count] => generate(kind, seed, count),
-        ["survey"] => run_survey(None, None),
-        ["survey", seed] => run_survey(Some(seed), None),
-        ["survey", seed, count] => run_survey(Some(seed), Some(count)),
-        ["compare", "near"] => compare_near_texts(),
-        ["compare", "near", ..] => {
-            let message = "compare near takes no seed and no count; set SOSNYAVIK_STRIDE instead";
-            Err(Wrong::Asked(message.to_string()))
-        }
-        ["compare", kind] => compare(kind, None, None),
-        ["compare", kind, seed] => compare(kind, Some(seed), None),
-        ["compare", kind, seed, count] => compare(kind, Some(seed), Some(count)),
-        [] => Err(Wrong::Asked(format!("no command given; {USAGE}"))),
-        _ => {
-            let given = arguments.join(" ");
-            Err(Wrong::Asked(format!("not a command: {given:?}; {USAGE}")))
-        }
-    };
-    match outcome {
+    match obey(&arguments) {
         Ok(()) => ExitCode::SUCCESS,
         Err(Wrong::Found(message)) => {
             eprintln!("second: {message}");
@@ -68,6 +56,33 @@ fn main() -> ExitCode {
             ExitCode::from(2)
         }
     }
+}
+
+fn obey(arguments: &[&str]) -> Result<(), Wrong> {
+    match *arguments {
+        ["text"] => answer_text(),
+        ["generate", kind, seed, count] => generate(kind, seed, count),
+        ["survey"] => run_survey(None, None),
+        ["survey", seed] => run_survey(Some(seed), None),
+        ["survey", seed, count] => run_survey(Some(seed), Some(count)),
+        ["compare", "near"] => compare_near_texts(),
+        ["compare", "real"] => compare_real_calls(),
+        ["compare", "real-text"] => compare_real_text(),
+        ["compare", "near", ..] => Err(seedless("near", "set SOSNYAVIK_STRIDE instead")),
+        ["compare", kind @ ("real" | "real-text"), ..] => Err(seedless(kind, "leave them out")),
+        ["compare", kind] => compare(kind, None, None),
+        ["compare", kind, seed] => compare(kind, Some(seed), None),
+        ["compare", kind, seed, count] => compare(kind, Some(seed), Some(count)),
+        [] => Err(Wrong::Asked(format!("no command given; {USAGE}"))),
+        _ => {
+            let given = arguments.join(" ");
+            Err(Wrong::Asked(format!("not a command: {given:?}; {USAGE}")))
+        }
+    }
+}
+
+fn seedless(kind: &str, instead: &str) -> Wrong {
+    Wrong::Asked(format!("compare {kind} takes no seed and no count; {instead}"))
 }
 
 fn answer_text() -> Result<(), Wrong> {
@@ -130,7 +145,7 @@ fn compare(kind: &str, seed: Option<&str>, count: Option<&str>) -> Result<(), Wr
         "summary" => compare_kind::<SummaryCase>,
         "text" => {
             let (seed, count) = seed_and_count(seed, count)?;
-            return compare_texts(&program()?, seed, count, &mut io::stdout())
+            return compare_texts(&*program()?, seed, count, &mut io::stdout())
                 .map_err(Wrong::Found);
         }
         _ => return Err(no_such_kind(kind)),
@@ -147,19 +162,38 @@ fn compare_near_texts() -> Result<(), Wrong> {
     if stride == 0 {
         return Err(Wrong::Asked(format!("{name} is 0; give 1 for all texts, or more")));
     }
-    compare_near(&program()?, stride, &mut io::stdout()).map_err(Wrong::Found)
+    compare_near(&*program()?, stride, &mut io::stdout()).map_err(Wrong::Found)
 }
 
-/// The text program that the environment names.
-fn program() -> Result<Program, Wrong> {
+/// The archive beside the second program, over the stations of document 002.
+fn compare_real_calls() -> Result<(), Wrong> {
+    compare_real(&bridge()?, DATA, &mut io::stdout()).map_err(Wrong::Found)
+}
+
+/// The text program beside it, over the same.
+fn compare_real_text() -> Result<(), Wrong> {
+    compare_real_texts(&*program()?, DATA, &mut io::stdout()).map_err(Wrong::Found)
+}
+
+/// The text program that the environment names, by its server if that is set.
+fn program() -> Result<Box<dyn Subject + Sync>, Wrong> {
+    if let Some(command) = var_os(SERVE) {
+        let command = command.to_string_lossy();
+        let servers =
+            Servers::start(&command).map_err(|why| unstarted(SERVE, &command, &why, SERVE_HELP))?;
+        return Ok(Box::new(servers));
+    }
     let Some(command) = var_os(ANALYSE) else {
         return Err(Wrong::Asked(format!("{ANALYSE} is not set; {ANALYSE_HELP}")));
     };
     let command = command.to_string_lossy();
-    Program::find(&command).map_err(|why| {
-        let wrong = format!("{ANALYSE} is {command:?}, which does not start: {why}");
-        Wrong::Asked(format!("{wrong}; {ANALYSE_HELP}"))
-    })
+    let program =
+        Program::find(&command).map_err(|why| unstarted(ANALYSE, &command, &why, ANALYSE_HELP))?;
+    Ok(Box::new(program))
+}
+
+fn unstarted(name: &str, command: &str, why: &str, help: &str) -> Wrong {
+    Wrong::Asked(format!("{name} is {command:?}, which does not start: {why}; {help}"))
 }
 
 /// The bridge that the environment names, with the archive behind it.
@@ -177,9 +211,7 @@ fn bridge() -> Result<Bridge, Wrong> {
         return Err(Wrong::Asked(format!("{BRIDGE} is not set; {BRIDGE_HELP}")));
     };
     let command = command.to_string_lossy();
-    Bridge::start(&command, empty).map_err(|why| {
-        Wrong::Asked(format!("{BRIDGE} is {command:?}, which does not start: {why}; {BRIDGE_HELP}"))
-    })
+    Bridge::start(&command, empty).map_err(|why| unstarted(BRIDGE, &command, &why, BRIDGE_HELP))
 }
 
 fn seed_and_count(seed: Option<&str>, count: Option<&str>) -> Result<(u64, u64), Wrong> {

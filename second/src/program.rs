@@ -44,16 +44,19 @@ impl Program {
 }
 
 impl Subject for Program {
-    /// The answer. A refusal is one too, so the status is always 0.
     fn text(&self, request: &[u8]) -> Answer<Vec<u8>> {
-        let output =
-            self.run(request).map_err(|error| format!("the program could not be run: {error}"))?;
-        let errors = output.stderr.escape_ascii();
-        match (output.status.success(), output.stderr.is_empty()) {
-            (true, true) => Ok(output.stdout),
-            (true, false) => Err(format!("standard error is {errors}, not empty")),
-            (false, true) => Err(format!("the program ended with {}", output.status)),
-            (false, false) => Err(format!("the program ended with {}, {errors}", output.status)),
-        }
+        let output = self.run(request);
+        answer_of(output.map_err(|error| format!("the program could not be run: {error}"))?)
+    }
+}
+
+/// The answer of a process. A refusal is one too, so the status is always 0.
+pub fn answer_of(output: Output) -> Answer<Vec<u8>> {
+    let errors = output.stderr.escape_ascii();
+    match (output.status.success(), output.stderr.is_empty()) {
+        (true, true) => Ok(output.stdout),
+        (true, false) => Err(format!("standard error is {errors}, not empty")),
+        (false, true) => Err(format!("the program ended with {}", output.status)),
+        (false, false) => Err(format!("the program ended with {}, {errors}", output.status)),
     }
 }

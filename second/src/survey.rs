@@ -2,8 +2,9 @@
 //! floors held.
 
 use crate::cases::{AnalysisCase, ReadingCase, SummaryCase, TextCase, WindowCase};
-use crate::compare::{run, run_two_at_a_time, Case, Run, Shared, Subject};
+use crate::compare::{run, run_over, run_two_at_a_time, Case, Run, Shared, Subject};
 use crate::near::{Edits, PAPER};
+use crate::real::{stations, Cases};
 use crate::tally::Floor;
 use std::io::{self, Write};
 
@@ -84,6 +85,57 @@ pub fn compare_near(program: Shared, stride: u64, out: &mut dyn Write) -> Result
     let outcome = run_two_at_a_time(program, &|index| edits.case(index), edits.count());
     let origin = Origin { kind: "near", of: format!("of stride {stride}") };
     report(outcome, &origin, &edits.floors(), out)
+}
+
+/// Runs calls over the real stations of a data file.
+pub fn compare_real(subject: &dyn Subject, data: &str, out: &mut dyn Write) -> Result<(), String> {
+    let cases = real_cases(data, out)?;
+    let all_but_one = |cases: usize| [fixed("accepted", 0, cases - 1), fixed("refusal", 4, 1)];
+    let floors = all_but_one(cases.analyses.len());
+    real_kind("real analysis", subject, cases.analyses, &floors, out)?;
+    let floors = all_but_one(cases.windows.len());
+    real_kind("real window", subject, cases.windows, &floors, out)?;
+    let floors = [0, 2].map(|kind| fixed("kind", kind, 1));
+    real_kind("real reading", subject, cases.readings, &floors, out)?;
+    let floors = [fixed("refusal", 0, cases.summaries.len())];
+    real_kind("real summary", subject, cases.summaries, &floors, out)
+}
+
+/// Runs texts over the same stations.
+pub fn compare_real_texts(
+    program: &dyn Subject,
+    data: &str,
+    out: &mut dyn Write,
+) -> Result<(), String> {
+    let texts = real_cases(data, out)?.texts;
+    let floors = [fixed("accepted", 0, texts.len() - 1), fixed("refusal with a place", 9, 1)];
+    real_kind("real text", program, texts, &floors, out)
+}
+
+/// The cases, after what is said of their plans.
+fn real_cases(data: &str, out: &mut dyn Write) -> Result<Cases, String> {
+    let stations = stations(data)?;
+    let cases = Cases::new(&stations)?;
+    writeln!(out, "{} stations of document 002", stations.len()).map_err(unprinted)?;
+    for line in &cases.said {
+        writeln!(out, "  {line}").map_err(unprinted)?;
+    }
+    Ok(cases)
+}
+
+fn fixed(name: &'static str, number: u32, least: usize) -> Floor {
+    Floor::fixed(name, number, least as u64)
+}
+
+fn real_kind<C: Case>(
+    kind: &'static str,
+    subject: &dyn Subject,
+    cases: Vec<C>,
+    floors: &[Floor],
+    out: &mut dyn Write,
+) -> Result<(), String> {
+    let origin = Origin { kind, of: "of document 002's stations".to_string() };
+    report(run_over(subject, cases), &origin, floors, out)
 }
 
 pub fn survey(

@@ -22,9 +22,11 @@ pub fn request_text(call: &Call, style: Style) -> Option<Vec<u8>> {
         Ok(()) => true,
         Err(refusal) => refusal.number >= 6,
     };
-    if !sayable {
-        return None;
-    }
+    sayable.then(|| written_out(call, style).into_bytes())
+}
+
+/// The same, whether or not the text is in form.
+pub fn written_out(call: &Call, style: Style) -> String {
     let mut text = line("grid", &[call.nx, call.ny]) + &line("time", &[call.time]);
     if !(style.age_left_out && call.age == DEFAULT_AGE) {
         text += &line("age", &[call.age]);
@@ -41,7 +43,7 @@ pub fn request_text(call: &Call, style: Style) -> Option<Vec<u8>> {
     for row in 0..call.x.len() {
         text += &station_line(call, row, style);
     }
-    Some(text.into_bytes())
+    text
 }
 
 fn station_line(call: &Call, row: usize, style: Style) -> String {

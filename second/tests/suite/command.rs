@@ -12,6 +12,7 @@ pub fn second(arguments: &[&str], environment: &[(&str, &str)], input: &str) -> 
         .env_remove("SOSNYAVIK_EMPTY")
         .env_remove("SOSNYAVIK_BRIDGE")
         .env_remove("SOSNYAVIK_ANALYSE")
+        .env_remove("SOSNYAVIK_SERVE")
         .env_remove("SOSNYAVIK_STRIDE")
         .envs(environment.iter().copied())
         .stdin(Stdio::piped())
@@ -108,6 +109,10 @@ fn bad_arguments_give_one_line_and_two() {
     wrong(&["compare", "window"], &[]);
     wrong(&["compare", "text"], &[]);
     wrong(&["compare", "near"], &[]);
+    wrong(&["compare", "real"], &[]);
+    wrong(&["compare", "real", "1"], &[]);
+    wrong(&["compare", "real-text"], &[]);
+    wrong(&["compare", "real-text", "1"], &[]);
     wrong(&["compare", "near", "1"], &[]);
     wrong(&["compare", "near"], &[("SOSNYAVIK_STRIDE", "0")]);
     wrong(&["compare", "near"], &[("SOSNYAVIK_STRIDE", "all")]);

@@ -1,0 +1,216 @@
+//! The stations of source document 002 as requests: real positions and values,
+//! on that document's grid, under limits that reject none, some and most of
+//! them.
+
+use crate::call::{Analysis, Call, Query, Window};
+use crate::cases::{AnalysisCase, ReadingCase, SummaryCase, TextCase, WindowCase};
+use crate::scheme::run;
+use crate::units::{DEFAULT_AGE, MOST_STATIONS, NO_END};
+use crate::write::{written_out, Style};
+
+/// What `data/README.md` describes.
+pub const DATA: &str = include_str!("../../data/stations-002.csv");
+const HEAD: &str = "station,x,y,value";
+
+/// The grid of document 002.
+const NX: u32 = 21;
+const NY: u32 = 27;
+/// 850 units, near the middle value of the stations on the grid.
+const FIRST_GUESS: i32 = 850 * 64;
+const RADII: [i32; 4] = [384, 320, 256, 160];
+/// Every station is observed in the minute of the analysis.
+const MINUTE: u32 = 1000;
+/// Columns and rows of the windows that are asked for.
+const WINDOWS: [(u32, u32); 6] = [(1, 1), (4, 3), (11, 14), (NX, 1), (1, NY), (NX, NY)];
+
+#[derive(Clone, Copy, Debug, PartialEq, Eq)]
+pub struct Station {
+    pub x: i32,
+    pub y: i32,
+    pub value: i32,
+}
+
+/// The stations of a data file, which numbers them from 1 on.
+pub fn stations(data: &str) -> Result<Vec<Station>, String> {
+    let wrong = |line: usize, what: &str| {
+        let mend = "fetch the file again with git checkout data";
+        format!("data/stations-002.csv, line {line}, {what}; {mend}")
+    };
+    let mut lines = data.lines();
+    if lines.next() != Some(HEAD) {
+        return Err(wrong(1, &format!("is not {HEAD:?}")));
+    }
+    let numbered = (1..).zip(lines);
+    let stations = numbered.map(|(number, line)| {
+        let station = station(number, line);
+        station.ok_or_else(|| wrong(number + 1, &format!("is not station {number}: {line:?}")))
+    });
+    stations.collect()
+}
+
+fn station(number: usize, line: &str) -> Option<Station> {
+    let fields = line.split(',').map(|field| field.parse().ok()).collect::<Option<Vec<i32>>>()?;
+    match fields[..] {
+        [first, x, y, value] if first as usize == number => Some(Station { x, y, value }),
+        _ => None,
+    }
+}
+
+/// The limits of the four scans, and how many of the stations on the grid they
+/// are to reject: whether a number rejected, out of so many, will do.
+struct Plan {
+    limits: [i32; 4],
+    rejects: &'static str,
+    holds: fn(usize, usize) -> bool,
+}
+
+const PLANS: [Plan; 3] = [
+    Plan { limits: [500_000; 4], rejects: "none", holds: |rejected, _| rejected == 0 },
+    Plan {
+        limits: [200_000, 120_000, 80_000, 50_000],
+        rejects: "some",
+        holds: |rejected, on_grid| rejected > 0 && 2 * rejected <= on_grid,
+    },
+    Plan {
+        limits: [40_000, 20_000, 10_000, 5_000],
+        rejects: "most",
+        holds: |rejected, on_grid| 2 * rejected > on_grid,
+    },
+];
+
+/// A plan over some stations, all of them fresh and in service.
+fn call(stations: &[Station], plan: &Plan, smooth: bool) -> Call {
+    let mut call = Call {
+        nx: NX,
+        ny: NY,
+        first_guess: vec![FIRST_GUESS; (NX * NY) as usize],
+        x: stations.iter().map(|station| station.x).collect(),
+        y: stations.iter().map(|station| station.y).collect(),
+        value: stations.iter().map(|station| station.value).collect(),
+        observed: vec![MINUTE; stations.len()],
+        from: vec![0; stations.len()],
+        until: vec![NO_END; stations.len()],
+        scans: 4,
+        radius: RADII.to_vec(),
+        limit: plan.limits.to_vec(),
+        smooth,
+        time: MINUTE,
+        age: DEFAULT_AGE,
+        ..Call::default()
+    };
+    call.fit_results();
+    call
+}
+
+/// A request over as many stations as a request may have, its analysis, and a
+/// line on what its limits reject.
+struct Accepted {
+    call: Call,
+    analysis: Analysis,
+    said: String,
+}
+
+impl Accepted {
+    /// Fails if the limits do not reject what they are to.
+    fn new(stations: &[Station], plan: &Plan, smooth: bool) -> Result<Self, String> {
+        let call = call(&stations[..MOST_STATIONS.min(stations.len())], plan, smooth);
+        let analysis = run(&call);
+        let count = |fits: fn(u8) -> bool| {
+            analysis.verdict.iter().filter(|verdict| fits(**verdict)).count()
+        };
+        let (on_grid, rejected) = (count(|verdict| verdict != 5), count(|verdict| verdict > 10));
+        let Plan { limits, rejects, holds } = plan;
+        let switch = if smooth { "on" } else { "off" };
+        let said = format!(
+            "limits {limits:?}, smoothing {switch}: {rejected} of {on_grid} on the grid rejected"
+        );
+        if holds(rejected, on_grid) {
+            Ok(Accepted { call, analysis, said })
+        } else {
+            Err(format!("{said}, where {rejects} were to be: choose other limits in real.rs"))
+        }
+    }
+
+    /// A reading of the analysed field.
+    fn query(&self, x: i32, y: i32) -> Query {
+        let (field, support) = (self.analysis.grid.clone(), self.analysis.support.clone());
+        Query { nx: NX, ny: NY, field, support, x, y }
+    }
+
+    /// Readings at the place of every station, on the grid or off it.
+    fn readings(&self) -> impl Iterator<Item = ReadingCase> + '_ {
+        let places = self.call.x.iter().zip(&self.call.y);
+        places.map(|(x, y)| ReadingCase(self.query(*x, *y)))
+    }
+
+    /// A text has room for all its stations: it fills about a third of the
+    /// limit.
+    fn text(&self) -> Vec<u8> {
+        written_out(&self.call, Style::default()).into_bytes()
+    }
+}
+
+/// The call with a window, and results as long as that.
+fn windowed(mut call: Call, window: Window) -> WindowCase {
+    (call.grid_len, call.support_len) = (window.area(), window.area());
+    WindowCase { call, window }
+}
+
+/// Windows of each size in each corner, on each edge and in the middle.
+fn windows() -> impl Iterator<Item = Window> {
+    WINDOWS.into_iter().flat_map(|(columns, rows)| {
+        let lefts = places(NX - columns).into_iter();
+        lefts.flat_map(move |left| {
+            let window = move |top| Window::new(left, left + columns - 1, top, top + rows - 1);
+            places(NY - rows).into_iter().map(window)
+        })
+    })
+}
+
+/// The first, the middle and the last of the places 0..=last, each once.
+fn places(last: u32) -> Vec<u32> {
+    let mut places = vec![0, last / 2, last];
+    places.dedup();
+    places
+}
+
+/// All that is asked over the stations. The last analysis, window and text
+/// have all 536 rows, which is too many.
+pub struct Cases {
+    /// A line on each plan.
+    pub said: Vec<String>,
+    pub analyses: Vec<AnalysisCase>,
+    pub windows: Vec<WindowCase>,
+    pub readings: Vec<ReadingCase>,
+    pub summaries: Vec<SummaryCase>,
+    pub texts: Vec<TextCase>,
+}
+
+impl Cases {
+    pub fn new(stations: &[Station]) -> Result<Self, String> {
+        let accepted = accepted(stations)?;
+        let too_many = call(stations, &PLANS[0], false);
+        let plain = |text| TextCase { text, harm: None };
+        let too_long = written_out(&too_many, Style::default()).into_bytes();
+        let texts = accepted.iter().map(Accepted::text).chain([too_long]);
+        let analyses = accepted.iter().map(|one| one.call.clone()).chain([too_many.clone()]);
+        let each_window = accepted
+            .iter()
+            .flat_map(|one| windows().map(|window| windowed(one.call.clone(), window)));
+        let refused = windowed(too_many.clone(), Window::new(0, 0, 0, 0));
+        Ok(Cases {
+            said: accepted.iter().map(|one| one.said.clone()).collect(),
+            analyses: analyses.map(AnalysisCase).collect(),
+            windows: each_window.chain([refused]).collect(),
+            readings: accepted.iter().flat_map(Accepted::readings).collect(),
+            summaries: accepted.iter().map(|one| SummaryCase(one.query(0, 0))).collect(),
+            texts: texts.map(plain).collect(),
+        })
+    }
+}
+
+/// Every plan with smoothing off and on.
+fn accepted(stations: &[Station]) -> Result<Vec<Accepted>, String> {
+    let plans = PLANS.iter().flat_map(|plan| [(plan, false), (plan, true)]);
+    plans.map(|(plan, smooth)| Accepted::new(stations, plan, smooth)).collect()
+}

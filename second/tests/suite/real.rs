@@ -1,0 +1,141 @@
+//! The stations of document 002: the figures, the cases made of them, and
+//! faults that these must show.
+
+use crate::faulty::{Fault, Faulty};
+use second::call::{Call, Refusal};
+use second::compare::{Answer, Case, Own, Results, Subject};
+use second::field::Shape;
+use second::real::{stations, Cases, Station, DATA};
+use second::scheme::analyse;
+use second::survey::{compare_real, compare_real_texts};
+use second::text::answer;
+
+const GRID: Shape = Shape { nx: 21, ny: 27 };
+
+fn cases() -> Cases {
+    stations(DATA).and_then(|stations| Cases::new(&stations)).expect("as they should be")
+}
+
+#[test]
+fn the_figures_are_those_of_the_document() {
+    let stations = stations(DATA).expect("in form");
+    let on_grid = |stations: &[Station]| {
+        stations.iter().filter(|station| GRID.holds(station.x, station.y)).count()
+    };
+    assert_eq!((stations.len(), on_grid(&stations)), (536, 333));
+    assert_eq!(on_grid(&stations[..512]), 317);
+    assert_eq!(stations[0], Station { x: -505, y: -224, value: 146_752 });
+}
+
+#[test]
+fn a_file_with_a_fault_is_said_in_one_line() {
+    let told = |data: &str, told: &str| {
+        let said = stations(data).expect_err(data);
+        let mend = "fetch the file again with git checkout data";
+        assert_eq!(said, format!("data/stations-002.csv, line {told}; {mend}"));
+    };
+    told("", "1, is not \"station,x,y,value\"");
+    told("station,x,y\n1,2,3\n", "1, is not \"station,x,y,value\"");
+    told("station,x,y,value\n1,2,3,4\n2,2,3\n", "3, is not station 2: \"2,2,3\"");
+    told("station,x,y,value\n1,2,3,4\n3,2,3,4\n", "3, is not station 2: \"3,2,3,4\"");
+    told("station,x,y,value\n1,2,x,4\n", "2, is not station 1: \"1,2,x,4\"");
+    let few: String = DATA.lines().take(300).map(|line| line.to_string() + "\n").collect();
+    let said = compare_real(&Own, &few, &mut Vec::new());
+    assert!(
+        said.is_err_and(|said| said.contains("real analysis of document 002's stations, floor"))
+    );
+}
+
+#[test]
+fn limits_that_reject_too_many_are_said() {
+    let wild: Vec<Station> =
+        (0..512).map(|row| Station { x: row, y: row, value: 1_000_000 }).collect();
+    let said = Cases::new(&wild).err().expect("all are rejected");
+    let opening = "limits [500000, 500000, 500000, 500000], smoothing off: 512 of 512 on the grid";
+    assert_eq!(
+        said,
+        format!("{opening} rejected, where none were to be: choose other limits in real.rs")
+    );
+}
+
+#[test]
+fn all_rows_are_too_many() {
+    let cases = cases();
+    let refused = Refusal::new(4, 0);
+    let last = cases.analyses.last().expect("some");
+    assert_eq!((last.0.x.len(), last.expected().err()), (536, Some(refused)));
+    let last = cases.windows.last().expect("some");
+    assert_eq!((last.call.x.len(), last.expected().err()), (536, Some(refused)));
+    let last = cases.texts.last().expect("some").text.clone();
+    let line = last.split(|byte| *byte == b'\n').position(|line| line == b"stations=536");
+    assert_eq!(line, Some(36), "counted from 0");
+    assert_eq!(answer(&last), b"refusal=9\nplace=37\n");
+}
+
+#[test]
+fn texts_hold_as_many_rows_as_a_request_may_have() {
+    let cases = cases();
+    for (text, analysis) in cases.texts.iter().zip(&cases.analyses).take(6) {
+        assert!((16_000..=65_536 / 3).contains(&text.text.len()));
+        let (call, _) = text.expected().expect("accepted");
+        assert_eq!((call.x.len(), &call), (512, &analysis.0));
+    }
+}
+
+#[test]
+fn the_cases_are_counted() {
+    let mut out = Vec::new();
+    assert_eq!(compare_real(&Own, DATA, &mut out), Ok(()));
+    assert_eq!(compare_real_texts(&Own, DATA, &mut out), Ok(()));
+    let out = String::from_utf8(out).expect("plain");
+    for said in [
+        "536 stations of document 002\n  limits [500000, 500000, 500000, 500000], smoothing off: 0 of",
+        "smoothing off: 37 of 317 on the grid rejected\n",
+        "smoothing on: 249 of 317 on the grid rejected\n",
+        "\nreal analysis, 7 cases\n",
+        "\nreal window, 205 cases\n",
+        "\nreal reading, 3072 cases\n",
+        "\nreal summary, 6 cases\n",
+        "\nreal text, 7 cases\n",
+    ] {
+        assert!(out.contains(said), "{said} is not in {out}");
+    }
+}
+
+/// Takes stations one step off the grid for stations on its border.
+struct TakesPosts;
+
+impl Subject for TakesPosts {
+    fn analyse(&self, call: &Call, results: Results) -> Answer<u32> {
+        let mut call = call.clone();
+        let pulled = |at: &mut i32, last: i32| {
+            if (-64..=last + 64).contains(at) {
+                *at = (*at).clamp(0, last);
+            }
+        };
+        call.x.iter_mut().for_each(|x| pulled(x, 1280));
+        call.y.iter_mut().for_each(|y| pulled(y, 1664));
+        Own.analyse(&call, results)
+    }
+}
+
+#[test]
+fn faults_are_seen_in_the_real_stations() {
+    let cases = cases();
+    for fault in [
+        Fault::HalvesTowardZero,
+        Fault::TakenBack,
+        Fault::FedBySameScan,
+        Fault::SupportOffByOneBit,
+        Fault::VerdictOffByOne,
+        Fault::SmoothsBorder,
+        Fault::WritesBeforeRefusal,
+    ] {
+        let seen = cases.analyses.iter().any(|case| case.differs(&Faulty(fault)).is_some());
+        assert!(seen, "{fault:?} was not seen");
+    }
+    let cut = Faulty(Fault::WidenedByLargestOnly);
+    assert!(cases.windows.iter().any(|case| case.differs(&cut).is_some()));
+    assert!(cases.analyses[0].differs(&TakesPosts).is_some());
+    assert!(analyse(&cases.analyses[0].0).is_ok_and(|analysis| analysis.verdict.contains(&5)));
+}
