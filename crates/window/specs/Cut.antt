@@ -19,7 +19,7 @@ use Rattle.scheme.specs.Cut.{cut-sound}
 use Rattle.scheme.specs.Windows.{window-value, window-support}
 use Rattle.cut.specs.Kept.{Long, KeepReady, Kept}
 use Rattle.cut.specs.Part.{partOf, PartReady, part-ready}
-use Rattle.window.specs.Query.{QueryReady, prefix-long}
+use Rattle.tile.specs.Query.{QueryReady, prefix-long}
 
 -- the window from the cut's lower corner
 abbrev pub moved : Span → Span → Window → Window

@@ -1,7 +1,7 @@
 -- `window::query` meets its contract: a refusal found before anything is written, or the work. Assumes nothing.
 use borrow.Author.Needs.{needs}
 use Rattle.refusal.specs.Coded.{refuses, works}
-use Rattle.window.specs.Query.{query-ready}
+use Rattle.window.specs.Accepts.{query-ready}
 use Rattle.window.proofs.query.Statement.{statement}
 use Rattle.window.proofs.query.Tie as tie
 

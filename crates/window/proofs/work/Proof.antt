@@ -15,7 +15,7 @@ use Rattle.scheme.specs.Stored.{length-stored}
 use Rattle.spans.specs.Spans.{fromTo, planned}
 use Rattle.cut.specs.Kept.{Long, Kept}
 use Rattle.cut.specs.Part.{partOf}
-use Rattle.window.specs.Query.{QueryReady, prefix-long, prefix-back, prefix-in}
+use Rattle.tile.specs.Query.{QueryReady, prefix-long, prefix-back, prefix-in}
 use Rattle.window.specs.Cut.{moved, Sides, sides, few-points, guess-part, keep-ready, cut-made, cut-ready, cut-whole}
 use Rattle.window.proofs.work.Statement.{statement}
 use Rattle.window.proofs.work.Tie as tie
@@ -24,7 +24,7 @@ use Rattle.window.proofs.work.Lts as lts
 use Rattle.cut.proofs.keep_stations.Reads as keep-stations-reads
 use Rattle.cut.proofs.part_of_values.Reads as part-of-values-reads
 use Rattle.spans.proofs.reach.Reads as reach-reads
-use Rattle.window.proofs.whole_at.Reads as whole-at-reads
+use Rattle.tile.proofs.whole_at.Reads as whole-at-reads
 use Rattle.spans.proofs.widened.Reads as widened-reads
 
 -- the request and the window

@@ -1,4 +1,4 @@
--- An accepted query: what it needs, and that the analysis, of the whole grid or of the cut, gives what it promises.
+-- The window out of a whole analysis: what that needs, and that the copied parts are the window of document 01.
 use Prim.Native.Nat.{ℕ, _+_, _-_, _*_, _≤_}
 use native.Mathlib.Omega.{arith}
 use mathlib.Core.Path.{_≡_, ap, _∙_}
@@ -7,10 +7,10 @@ use lib.ListN.{length, take, drop, length-append, length-take}
 use lib.Seq.{take-at}
 use lib.IntN.{ℤ, pos}
 use Rattle.scheme.specs.Units.{Request, Field, stored}
-use Rattle.scheme.specs.Refusals.{accepted, Window, pointsOf, windowRefusal}
+use Rattle.scheme.specs.Refusals.{Window, pointsOf}
 use Rattle.scheme.specs.Scan.{after, analysis}
 use Rattle.scheme.specs.Reach.{windowOf, wholeAt}
-use Rattle.scheme.specs.Accepted.{Shaped, Sound, OnGrid, window-sound, window-on-grid}
+use Rattle.scheme.specs.Accepted.{Shaped, Sound, OnGrid}
 use Rattle.scheme.specs.Promises.{slices, tile}
 use Rattle.scheme.specs.Stored.{length-stored, field-stored, stored-same}
 use Rattle.cut.specs.Part.{partOf, PartReady, part-ready}
@@ -20,11 +20,6 @@ pub record QueryReady (q : Request) (w : Window) (grid support : ℕ) : Type 0 w
   pub on-grid : OnGrid q w
   pub grid-is : grid ≡ pointsOf w
   pub support-is : support ≡ pointsOf w
-
-pub query-ready : (q : Request) (w : Window) (grid support : ℕ) → windowRefusal q w grid support ≡ accepted → QueryReady q w grid support
-query-ready q w grid support e =
-    let (on, g, s) = window-on-grid q w grid support e in
-    record { sound = window-sound q w grid support e; on-grid = on; grid-is = g; support-is = s }
 
 -- ---- a lent prefix of n elements, and the array with what comes back in its place
 

@@ -1,4 +1,4 @@
--- `window::whole_at` meets its contract: the analysis fills prefixes of the local arrays, and the window's part is copied from them.
+-- `tile::whole_at` meets its contract: the analysis fills prefixes of the local arrays, and the window's part is copied from them.
 -- Assumes nothing.
 use Prim.Native.Nat.{ℕ, _*_, _≤_}
 use native.Mathlib.Omega.{arith}
@@ -13,11 +13,11 @@ use Rattle.scheme.specs.Refusals.{Window}
 use Rattle.scheme.specs.Scan.{analysis}
 use Rattle.scheme.specs.Accepted.{same-shape}
 use Rattle.scheme.specs.Promises.{requestOf, windowAt, slices}
-use Rattle.window.specs.Query.{prefix-long, prefix-back, prefix-in, values-long, bits-long, window-part, whole-part}
-use Rattle.window.proofs.whole_at.Statement.{statement}
-use Rattle.window.proofs.whole_at.Tie as tie
-use Rattle.window.proofs.whole_at.Reads as reads
-use Rattle.window.proofs.whole_at.Lts as lts
+use Rattle.tile.specs.Query.{prefix-long, prefix-back, prefix-in, values-long, bits-long, window-part, whole-part}
+use Rattle.tile.proofs.whole_at.Statement.{statement}
+use Rattle.tile.proofs.whole_at.Tie as tie
+use Rattle.tile.proofs.whole_at.Reads as reads
+use Rattle.tile.proofs.whole_at.Lts as lts
 use Rattle.analysis.proofs.work.Reads as work-reads
 use Rattle.cut.proofs.part_of_bytes.Reads as part-of-bytes-reads
 use Rattle.cut.proofs.part_of_values.Reads as part-of-values-reads
