@@ -14,7 +14,7 @@ use Rattle.scheme.specs.Units.{Request, Columns, Station, stationAt, stations, 
 use Rattle.scheme.specs.Verdicts.{missing, onAxis, offGrid, firstThatFits, beforeScans}
 use Rattle.scheme.specs.Scan.{start, after}
 use Rattle.scheme.specs.Accepted.{Sound}
-use Rattle.station.specs.Verdict.{on-axis}
+use Rattle.verdict.specs.Verdict.{on-axis}
 use Rattle.station.specs.Judge.{OnGrid}
 use Rattle.scans.specs.Scanned.{rowOf}
 use Rattle.scans.specs.Run.{Reached}

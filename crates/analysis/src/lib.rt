@@ -7,7 +7,7 @@ ghost use Rattle.scheme.specs.Units.{Request, stationAt};
 ghost use Rattle.scheme.specs.Verdicts.{beforeScans};
 ghost use Rattle.scheme.specs.Scan.{analysis};
 ghost use Rattle.scheme.specs.Promises.{sixColumns, requestOf, slices, lengthsOf, Analyses};
-ghost use Rattle.station.specs.Verdict.{Suits};
+ghost use Rattle.verdict.specs.Verdict.{Suits};
 ghost use Rattle.analysis.specs.Start.{VerdictsReady};
 ghost use Rattle.analysis.specs.Whole.{WorkReady};
 
@@ -55,7 +55,7 @@ fn first_verdicts(
 {
     let mut k: usize = 0;
     while k < x.len() {
-        verdict[k] = station::first_verdict(
+        verdict[k] = verdict::first_verdict(
             x[k],
             y[k],
             value[k],

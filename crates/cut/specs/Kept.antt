@@ -12,7 +12,7 @@ use Rattle.lists.specs.Keep.{keep}
 use Rattle.scheme.specs.Units.{Columns, Station, stationAt, step, mostPosition}
 use Rattle.scheme.specs.Reach.{Span, onSpan, counted}
 use Rattle.scheme.specs.Accepted.{Equal}
-use Rattle.station.specs.Verdict.{stationOf}
+use Rattle.verdict.specs.Verdict.{stationOf}
 
 -- ---- columns with room for 512 rows
 

@@ -6,7 +6,7 @@ ghost use lib.IntN.{pos};
 ghost use Rattle.lists.specs.Filled.{Filled};
 ghost use Rattle.scheme.specs.Units.{stored};
 ghost use Rattle.scheme.specs.Promises.{sixColumns};
-ghost use Rattle.station.specs.Verdict.{stationOf};
+ghost use Rattle.verdict.specs.Verdict.{stationOf};
 ghost use Rattle.spans.specs.Spans.{fromTo};
 ghost use Rattle.cut.specs.Kept.{putAt, Long, KeepReady, Kept};
 ghost use Rattle.cut.specs.Part.{copied, CopyReady, partOf, PartReady};

@@ -16,7 +16,7 @@ use Rattle.scheme.specs.Verdicts.{onAxis}
 use Rattle.scheme.specs.Value.{place, sumAt}
 use Rattle.scheme.specs.Readings.{double, positiveZero, readingValue, isBacked, readingIn, reading}
 use Rattle.scheme.specs.Cells.{place-on}
-use Rattle.station.specs.Verdict.{on-axis}
+use Rattle.verdict.specs.Verdict.{on-axis}
 
 -- ---- of a field of the right shape
 

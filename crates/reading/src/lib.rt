@@ -82,7 +82,7 @@ fn reading_in(nx: usize, ny: usize, field: &[i32], support: &[u8], x: i32, y: i3
     requires { ⌜ Shaped nx ny (length (now field)) × (length (now support) ≡ length (now field)) ⌝ }
     ensures { λ r. ⌜ r ≡ readingIn nx ny (fieldOf (pos 0) nx (now (field .entry))) (fieldOf 0 nx (now (support .entry))) x y ⌝ }
 {
-    if !station::on_grid(nx, ny, x, y) {
+    if !verdict::on_grid(nx, ny, x, y) {
         return Reading::OffGrid;
     }
     let px = x as u32;
@@ -101,7 +101,7 @@ pub fn reading(nx: u32, ny: u32, field: &[i32], support: &[u8], x: i32, y: i32) 
 {
     let columns = nx as usize;
     let rows = ny as usize;
-    if refusal::shape_bad(columns, rows, field.len()) {
+    if shapes::shape_bad(columns, rows, field.len()) {
         return Reading::Refused;
     }
     if support.len() != field.len() {
@@ -222,7 +222,7 @@ fn units_of(field: &[i32]) -> Units
 pub fn summary(nx: u32, ny: u32, field: &[i32]) -> Summary
     ensures { λ r. ⌜ Summarises nx ny (now (field .entry)) r ⌝ }
 {
-    if refusal::shape_bad(nx as usize, ny as usize, field.len()) {
+    if shapes::shape_bad(nx as usize, ny as usize, field.len()) {
         let units = Units {
             lowest: 0.0,
             highest: 0.0,

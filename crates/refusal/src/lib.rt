@@ -1,12 +1,10 @@
 // The refusal table (document 01): its rows in their order, and the first that refuses, with its place.
 ghost use mathlib.Core.Path.{_≡_};
-ghost use mathlib.Core.Bool.{Bool, not, _||_};
+ghost use mathlib.Core.Bool.{Bool, _||_};
 ghost use Prim.Native.Nat.{ℕ, _+_, _*_, _≤_, _<_};
-ghost use lib.Dec.{eqb, leb, ltb};
 ghost use lib.ListN.{length};
 ghost use mathlib.Core.List.{List};
-ghost use Rattle.scheme.specs.Units.{among, mostScans, mostStations};
-ghost use Rattle.scheme.specs.Refusals.{inOrder, fromFour, badShape, analysisRefusal, windowRefusal};
+ghost use Rattle.scheme.specs.Refusals.{inOrder, fromFour, analysisRefusal, windowRefusal};
 ghost use Rattle.scheme.specs.Accepted.{Shaped};
 ghost use Rattle.scheme.specs.Promises.{requestOf, windowAt};
 ghost use Rattle.refusal.specs.Coded.{Coded, SixReady, fromSix, fromTwo};
@@ -17,102 +15,6 @@ fn coded(number: u32, place: usize) -> u32
     ensures { λ r. ⌜ r ≡ number * 65536 + place ⌝ }
 {
     number * 65536 + (place as u32)
-}
-
-// 1: nx or ny out of 2..64, or the field is not nx·ny long
-pub fn shape_bad(nx: usize, ny: usize, len: usize) -> bool
-    ensures { λ r. ⌜ r ≡ badShape nx ny len ⌝ }
-{
-    if nx < 2 {
-        return true;
-    }
-    if 64 < nx {
-        return true;
-    }
-    if ny < 2 {
-        return true;
-    }
-    if 64 < ny {
-        return true;
-    }
-    len != nx * ny
-}
-
-// 2: a window with left > right, top > bottom, or past the grid. Its ends are any numbers, so none is moved before it is compared.
-fn window_bad(nx: usize, ny: usize, left: usize, right: usize, top: usize, bottom: usize) -> bool
-    ensures { λ r. ⌜ r ≡ ltb right left || ltb bottom top || leb nx right || leb ny bottom ⌝ }
-{
-    if right < left {
-        return true;
-    }
-    if bottom < top {
-        return true;
-    }
-    if nx <= right {
-        return true;
-    }
-    ny <= bottom
-}
-
-// 3: a result slice of the wrong length
-fn lengths_bad(points: usize, rows: usize, grid: usize, support: usize, verdict: usize) -> bool
-    ensures { λ r. ⌜ r ≡ not (eqb grid points) || not (eqb support points) || not (eqb verdict rows) ⌝ }
-{
-    if grid != points {
-        return true;
-    }
-    if support != points {
-        return true;
-    }
-    verdict != rows
-}
-
-// The same for the window query, whose two results are as long as the window.
-fn window_lengths_bad(points: usize, grid: usize, support: usize) -> bool
-    ensures { λ r. ⌜ r ≡ not (eqb grid points) || not (eqb support points) ⌝ }
-{
-    if grid != points {
-        return true;
-    }
-    support != points
-}
-
-// 4: station columns unequal, or more than 512
-fn columns_bad(x: usize, y: usize, value: usize, observed: usize, from: usize, until: usize) -> bool
-    ensures { λ r. ⌜ r ≡ not (eqb y x) || not (eqb value x) || not (eqb observed x) || not (eqb from x) || not (eqb until x) || ltb mostStations x ⌝ }
-{
-    if y != x {
-        return true;
-    }
-    if value != x {
-        return true;
-    }
-    if observed != x {
-        return true;
-    }
-    if from != x {
-        return true;
-    }
-    if until != x {
-        return true;
-    }
-    512 < x
-}
-
-// 5: scan count out of 1..6, or a plan column shorter than it
-fn scans_bad(scans: usize, radius: usize, limit: usize) -> bool
-    ensures { λ r. ⌜ r ≡ not (among 1 mostScans scans) || ltb radius scans || ltb limit scans ⌝ }
-{
-    if scans < 1 {
-        return true;
-    }
-    if 6 < scans {
-        return true;
-    }
-    if radius < scans {
-        return true;
-    }
-    limit < scans
 }
 
 // Rows 6 to 8: the plan's entries, the first guess, the stations.
@@ -167,7 +69,7 @@ pub fn from_four(
     ensures { λ r. ⌜ ((smooth : Bool) (time age : ℕ)
         → Coded r (inOrder (fromFour (requestOf nx ny (now (guess .entry)) (now (x .entry)) (now (y .entry)) (now (value .entry)) (now (observed .entry)) (now (from .entry)) (now (until .entry)) scans (now (radius .entry)) (now (limit .entry)) smooth time age)))) ⌝ }
 {
-    if columns_bad(
+    if shapes::columns_bad(
         x.len(),
         y.len(),
         value.len(),
@@ -177,7 +79,7 @@ pub fn from_four(
     ) {
         return coded(4, 0);
     }
-    if scans_bad(scans, radius.len(), limit.len()) {
+    if shapes::scans_bad(scans, radius.len(), limit.len()) {
         return coded(5, 0);
     }
     from_six(
@@ -216,10 +118,10 @@ pub fn of_analysis(
     ensures { λ r. ⌜ ((smooth : Bool) (time age : ℕ)
         → Coded r (analysisRefusal (requestOf nx ny (now (guess .entry)) (now (x .entry)) (now (y .entry)) (now (value .entry)) (now (observed .entry)) (now (from .entry)) (now (until .entry)) scans (now (radius .entry)) (now (limit .entry)) smooth time age) (record { grid = grid; support = support; verdict = verdict }))) ⌝ }
 {
-    if shape_bad(nx, ny, guess.len()) {
+    if shapes::shape_bad(nx, ny, guess.len()) {
         return coded(1, 0);
     }
-    if lengths_bad(nx * ny, x.len(), grid, support, verdict) {
+    if shapes::lengths_bad(nx * ny, x.len(), grid, support, verdict) {
         return coded(3, 0);
     }
     from_four(
@@ -263,11 +165,11 @@ fn from_two(
     ensures { λ r. ⌜ ((smooth : Bool) (time age : ℕ)
         → Coded r (inOrder (fromTwo (requestOf nx ny (now (guess .entry)) (now (x .entry)) (now (y .entry)) (now (value .entry)) (now (observed .entry)) (now (from .entry)) (now (until .entry)) scans (now (radius .entry)) (now (limit .entry)) smooth time age) (windowAt left right top bottom) grid support))) ⌝ }
 {
-    if window_bad(nx, ny, left, right, top, bottom) {
+    if shapes::window_bad(nx, ny, left, right, top, bottom) {
         return coded(2, 0);
     }
     let points = (right - left + 1) * (bottom - top + 1);
-    if window_lengths_bad(points, grid, support) {
+    if shapes::window_lengths_bad(points, grid, support) {
         return coded(3, 0);
     }
     from_four(
@@ -310,7 +212,7 @@ pub fn of_window(
     ensures { λ r. ⌜ ((smooth : Bool) (time age : ℕ)
         → Coded r (windowRefusal (requestOf nx ny (now (guess .entry)) (now (x .entry)) (now (y .entry)) (now (value .entry)) (now (observed .entry)) (now (from .entry)) (now (until .entry)) scans (now (radius .entry)) (now (limit .entry)) smooth time age) (windowAt left right top bottom) grid support)) ⌝ }
 {
-    if shape_bad(nx, ny, guess.len()) {
+    if shapes::shape_bad(nx, ny, guess.len()) {
         return coded(1, 0);
     }
     from_two(

@@ -9,7 +9,7 @@ use mathlib.Core.List.{List}
 use lib.ListN.{length, getD}
 use lib.IntN.{ℤ, pos, natAbs}
 use Rattle.scheme.specs.Units.{Request, R, E}
-use Rattle.scheme.specs.Scan.{after, scan}
+use Rattle.scheme.specs.Scan.{after}
 use Rattle.scheme.specs.Promises.{requestOf}
 use Rattle.scheme.specs.Accepted.{Sound, same-shape}
 use Rattle.scheme.specs.Bounds.{after-within}

@@ -16,7 +16,7 @@ use Rattle.lists.specs.Parted.{rank, keep-at}
 use Rattle.scheme.specs.Units.{Request, Station, step, mostValue, mostPosition, guess, stations, stationAt, R, E}
 use Rattle.scheme.specs.Refusals.{accepted, Window, rising, analysisRefusal, rightLengths}
 use Rattle.scheme.specs.Value.{place}
-use Rattle.scheme.specs.Reach.{steps, reach, Span, pointsAlong, widened, columnsCut, rowsCut, onSpan, onCut, counted, stationsCut, cut}
+use Rattle.scheme.specs.Reach.{steps, reach, Span, pointsAlong, columnsCut, rowsCut, onSpan, onCut, counted, stationsCut, cut}
 use Rattle.scheme.specs.Accepted.{Shaped, Equal, Scanned, Stationed, Sound, OnGrid, sound-accepted}
 use Rattle.scheme.specs.Stored.{length-stored, stored-all}
 use Rattle.scheme.specs.Bounds.{guess-within}

@@ -2,34 +2,27 @@
 use Prim.Native.Nat.{ℕ, _*_}
 use mathlib.Core.Path.{_≡_, refl}
 use mathlib.Core.Bool.{true, false, cond, _&&_}
-use mathlib.Core.List.{List, [], _∷_, _++_}
+use mathlib.Core.List.{List, [], _∷_}
 use lib.Dec.{eqb}
 use lib.IntN.{ℤ, pos, negsuc}
 use lib.Ieee.{div, ofInt, round, units, odd, span, climb, size}
 use lib.Ieee.Exact.{HasValue}
-use Rattle.lists.specs.Tab.{tab}
-use Rattle.lists.specs.Sums.{total, upTo}
-use Rattle.lists.specs.First.{first, orNext}
+use Rattle.lists.specs.Sums.{upTo}
 use Rattle.scheme.specs.declared.Reading.the-variants.{FirstGuess}
-use Rattle.scheme.specs.Units.{Request, Field, fieldOf, stored, isMissing, stationAt, stations, guess, R, E, columnsOf}
-use Rattle.scheme.specs.Refusals.{inOrder, refusedIf, refusedAt, badShape, badLengths, badColumns, badScans, rising, badScan, badGuess, badStation, fromFour, analysisRefusal, readingRefusal}
-use Rattle.scheme.specs.Verdicts.{serves, missing, outOfService, observedAfter, tooOld, onAxis, offGrid, firstThatFits, beforeScans}
+use Rattle.scheme.specs.Units.{Request, Field, fieldOf, stations, guess, R, columnsOf}
+use Rattle.scheme.specs.Refusals.{refusedIf, badShape, readingRefusal}
+use Rattle.scheme.specs.Verdicts.{onAxis}
 use Rattle.scheme.specs.Rounding.{rounded}
-use Rattle.scheme.specs.Value.{place, cell, interpolationSum, sumAt, valueAt}
-use Rattle.scheme.specs.Difference.{difference, afterTest, judged}
-use Rattle.scheme.specs.Weight.{squaredDistance, weight}
-use Rattle.scheme.specs.Correction.{weightOf, share, sums, correction, backedBy}
+use Rattle.scheme.specs.Value.{place, cell, interpolationSum, sumAt}
+use Rattle.scheme.specs.Difference.{afterTest}
+use Rattle.scheme.specs.Weight.{weight}
 use Rattle.scheme.specs.Smoothing.{patternRow, patternSum, inner, smoothed}
-use Rattle.scheme.specs.Scan.{start, rowsJudged, sumsAt, corrected, scan, after, analysis}
+use Rattle.scheme.specs.Scan.{after}
 use Rattle.scheme.specs.Reach.{steps, reach}
 use Rattle.scheme.specs.Readings.{double, readingValue, cornerBacked, isBacked, readingIn, reading}
 use Rattle.scheme.specs.Support.{unsupported-point-keeps-first-guess, no-stations-no-support}
-use Rattle.scheme.specs.Text.{requestLines, outcome, firstTwo, analysisText, printed, answerText}
+use Rattle.scheme.specs.Text.{answerText}
 use Rattle.scheme.specs.Example.{onceText, onceAnswer, example-text}
-use Rattle.scheme.specs.Text.Pieces.{ascii, word, digits, positive, natural, between, count, unsigned, minus, negative, signed, values}
-use Rattle.scheme.specs.Text.Lines.{number, gridLine, timeLine, ageLine, smoothLine, scansLine, scanLine, rowLine, stationsLine, observation, end, stationLine}
-use Rattle.scheme.specs.Text.Order.{lines, rows, nothingAfter}
-use Rattle.scheme.specs.Text.Printed.{spelled, decimal, integer, cells, keyed, gridLines}
 
 -- ---- what the cases are about
 

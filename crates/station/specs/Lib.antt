@@ -1,4 +1,3 @@
 -- What the code of a station computes, on plain values. Proved.
-pub mod Verdict
 pub mod Corners
 pub mod Judge

@@ -1,108 +1,21 @@
-// What document 01 says of one station: its verdict before the first scan, the value of a field at its position, and how a scan judges it.
+// What a scan finds of one station (document 01, "One scan"): the value of a field at its position, and how the scan judges it.
 ghost use mathlib.Core.Path.{_≡_};
-ghost use mathlib.Core.Bool.{_&&_};
 ghost use Prim.Native.Nat.{ℕ, _+_, _-_, _*_, _≤_, _<_};
 ghost use lib.ListN.{length, getD};
 ghost use lib.IntN.{pos, natAbs, _+ℤ_, _*ℤ_};
 ghost use Rattle.lists.specs.Filled.{Filled};
-ghost use Rattle.scheme.specs.Units.{Request, fieldOf};
-ghost use Rattle.scheme.specs.Verdicts.{onAxis, beforeScans};
+ghost use Rattle.scheme.specs.Units.{fieldOf};
 ghost use Rattle.scheme.specs.Rounding.{rounded};
 ghost use Rattle.scheme.specs.Value.{cell, sumAt};
 ghost use Rattle.scheme.specs.Difference.{afterTest};
 ghost use Rattle.scheme.specs.Accepted.{Shaped};
 ghost use Rattle.scheme.specs.Bounds.{mostField};
 ghost use Rattle.station.specs.Corners.{blend, Spotted};
-ghost use Rattle.station.specs.Verdict.{servesAt, Suits, stationOf};
 ghost use Rattle.station.specs.Judge.{OnGrid, JudgeReady, diffOf, diffAt, verdictAt};
 use weighted::Total;
 
 // Neighbouring points are 64 position units apart.
 const STEP: u32 = 64;
-
-// Until this minute means no end.
-const NO_END: u32 = 4294967295;
-
-// In service at a minute: from ≤ minute < until, and with no end the upper test holds.
-fn serves(from: u32, until: u32, minute: u32) -> bool
-    ensures { λ r. ⌜ r ≡ servesAt from until minute ⌝ }
-{
-    if minute < from {
-        return false;
-    }
-    if until == NO_END {
-        return true;
-    }
-    minute < until
-}
-
-// In service at both minutes.
-fn serves_both(from: u32, until: u32, observed: u32, time: u32) -> bool
-    ensures { λ r. ⌜ r ≡ servesAt from until observed && servesAt from until time ⌝ }
-{
-    if serves(from, until, observed) {
-        serves(from, until, time)
-    } else {
-        false
-    }
-}
-
-// On an axis of n points, its ends included.
-fn on_axis(n: usize, x: i32) -> bool
-    requires { ⌜ (1 ≤ n) × (n ≤ 64) ⌝ }
-    ensures { λ r. ⌜ r ≡ onAxis n x ⌝ }
-{
-    if x < 0 {
-        return false;
-    }
-    x as usize <= 64 * (n - 1)
-}
-
-// On a grid of nx columns and ny rows, its border included.
-pub fn on_grid(nx: usize, ny: usize, x: i32, y: i32) -> bool
-    requires { ⌜ (1 ≤ nx) × (nx ≤ 64) × (1 ≤ ny) × (ny ≤ 64) ⌝ }
-    ensures { λ r. ⌜ r ≡ onAxis nx x && onAxis ny y ⌝ }
-{
-    if on_axis(nx, x) {
-        on_axis(ny, y)
-    } else {
-        false
-    }
-}
-
-// The verdict before the first scan: the first that fits, or 0 for a row that starts as accepted.
-pub fn first_verdict(
-    x: i32,
-    y: i32,
-    value: i32,
-    observed: u32,
-    from: u32,
-    until: u32,
-    nx: usize,
-    ny: usize,
-    time: u32,
-    age: u32,
-) -> u8
-    requires { ⌜ (1 ≤ nx) × (nx ≤ 64) × (1 ≤ ny) × (ny ≤ 64) ⌝ }
-    ensures { λ r. ⌜ ((q : Request) → Suits q nx ny time age → r ≡ beforeScans q (stationOf x y value observed from until)) ⌝ }
-{
-    if checks::is_missing(value) {
-        return 1;
-    }
-    if !serves_both(from, until, observed, time) {
-        return 2;
-    }
-    if time < observed {
-        return 3;
-    }
-    if age < time - observed {
-        return 4;
-    }
-    if !on_grid(nx, ny, x, y) {
-        return 5;
-    }
-    0
-}
 
 // The lower corner of the cell of position x, on an axis of n points. On the last column or row that is the last cell.
 pub fn cell(n: usize, x: u32) -> usize

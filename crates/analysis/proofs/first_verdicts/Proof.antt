@@ -12,7 +12,7 @@ use Rattle.lists.specs.Filled.{Filled, filled-none, filled-set, filled-all}
 use Rattle.scheme.specs.Units.{Request, Columns, stationAt}
 use Rattle.scheme.specs.Verdicts.{beforeScans}
 use Rattle.scheme.specs.Promises.{sixColumns}
-use Rattle.station.specs.Verdict.{Suits}
+use Rattle.verdict.specs.Verdict.{Suits}
 use Rattle.analysis.proofs.first_verdicts.Statement.{statement}
 use Rattle.analysis.proofs.first_verdicts.Tie as tie
 

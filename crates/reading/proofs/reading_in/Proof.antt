@@ -14,7 +14,7 @@ use Rattle.scheme.specs.Verdicts.{onAxis}
 use Rattle.scheme.specs.Value.{sumAt}
 use Rattle.scheme.specs.Readings.{double}
 use Rattle.scheme.specs.Accepted.{same-shape}
-use Rattle.station.specs.Verdict.{place-fits}
+use Rattle.verdict.specs.Verdict.{place-fits}
 use Rattle.reading.specs.Point.{Along, along-both, off-grid, backed, not-backed}
 use Rattle.reading.proofs.reading_in.Statement.{statement}
 use Rattle.reading.proofs.reading_in.Tie as tie

@@ -8,7 +8,7 @@ use mir.Syntax.{w32, w64}
 use mir.Val.{toZ, ofZ}
 use mir.Facts.{toZ-ofZ, sfits-widen}
 use Rattle.integers.specs.Words.{fits-size, bits-back}
-use Rattle.station.specs.Verdict.{place-fits}
+use Rattle.verdict.specs.Verdict.{place-fits}
 use Rattle.station.specs.Judge.{OnGrid, diffOf, read-size, diff-size}
 use Rattle.station.proofs.difference.Statement.{statement}
 use Rattle.station.proofs.difference.Tie as tie

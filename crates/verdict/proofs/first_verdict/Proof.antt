@@ -1,4 +1,4 @@
--- `station::first_verdict` meets its contract: the tests are made in the paper's order, and each return knows those before it.
+-- `verdict::first_verdict` meets its contract: the tests are made in the paper's order, and each return knows those before it.
 -- Assumes nothing.
 use borrow.Author.Needs.{needs}
 use mathlib.Core.Path.{_≡_, sym, _∙_}
@@ -6,14 +6,14 @@ use mathlib.Core.Bool.{true, false, _&&_}
 use borrow.Author.Tests.{lt-ltb, le-ltb, not-true, not-false}
 use mir.Facts.{toZ-ofZ}
 use Rattle.scheme.specs.Units.{isMissing}
-use Rattle.station.specs.Verdict.{servesAt, is-missing, not-serving, is-after, is-old, is-off, is-accepted}
-use Rattle.station.proofs.first_verdict.Statement.{statement}
-use Rattle.station.proofs.first_verdict.Tie as tie
-use Rattle.station.proofs.first_verdict.Reads as reads
-use Rattle.station.proofs.first_verdict.Lts as lts
+use Rattle.verdict.specs.Verdict.{servesAt, is-missing, not-serving, is-after, is-old, is-off, is-accepted}
+use Rattle.verdict.proofs.first_verdict.Statement.{statement}
+use Rattle.verdict.proofs.first_verdict.Tie as tie
+use Rattle.verdict.proofs.first_verdict.Reads as reads
+use Rattle.verdict.proofs.first_verdict.Lts as lts
 use Rattle.checks.proofs.is_missing.Reads as is-missing-reads
-use Rattle.station.proofs.on_grid.Reads as on-grid-reads
-use Rattle.station.proofs.serves_both.Reads as serves-both-reads
+use Rattle.verdict.proofs.on_grid.Reads as on-grid-reads
+use Rattle.verdict.proofs.serves_both.Reads as serves-both-reads
 
 -- not missing
 there : (c : lts.Else1 (is-missing-reads.Asked, is-missing-reads.Learnt, serves-both-reads.Asked, serves-both-reads.Learnt, on-grid-reads.Asked, on-grid-reads.Learnt) reads.Pre reads.Post)

@@ -1,7 +1,7 @@
--- `station::serves` meets its contract: its two tests are those of the definition. Assumes nothing.
+-- `verdict::serves` meets its contract: its two tests are those of the definition. Assumes nothing.
 use borrow.Author.Tests.{lt-leb, le-leb, eq-eqb, ne-eqb}
-use Rattle.station.proofs.serves.Statement.{statement}
-use Rattle.station.proofs.serves.Tie as tie
+use Rattle.verdict.proofs.serves.Statement.{statement}
+use Rattle.verdict.proofs.serves.Tie as tie
 
 returns : tie.Need-returns
 returns c = rw (lt-leb _ _ (c .if1 .taken))

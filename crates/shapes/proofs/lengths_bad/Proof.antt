@@ -1,7 +1,7 @@
--- `refusal::lengths_bad` meets its contract: each return knows the tests before it. Assumes nothing.
+-- `shapes::lengths_bad` meets its contract: each return knows the tests before it. Assumes nothing.
 use borrow.Author.Tests.{eq-eqb, ne-eqb}
-use Rattle.refusal.proofs.lengths_bad.Statement.{statement}
-use Rattle.refusal.proofs.lengths_bad.Tie as tie
+use Rattle.shapes.proofs.lengths_bad.Statement.{statement}
+use Rattle.shapes.proofs.lengths_bad.Tie as tie
 
 returns : tie.Need-returns
 returns c = rw (ne-eqb _ _ (c .if1 .taken))

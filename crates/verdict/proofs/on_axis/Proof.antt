@@ -1,13 +1,13 @@
--- `station::on_axis` meets its contract: below zero, and from zero on. Assumes nothing.
+-- `verdict::on_axis` meets its contract: below zero, and from zero on. Assumes nothing.
 use native.Mathlib.Omega.{arith}
 use borrow.Author.Needs.{needs}
 use mathlib.Core.Path.{sym}
 use mir.Syntax.{w32}
 use mir.Facts.{toZ-ofZ}
 use Rattle.integers.specs.Words.{size-fits}
-use Rattle.station.specs.Verdict.{below-axis, along-axis}
-use Rattle.station.proofs.on_axis.Statement.{statement}
-use Rattle.station.proofs.on_axis.Tie as tie
+use Rattle.verdict.specs.Verdict.{below-axis, along-axis}
+use Rattle.verdict.proofs.on_axis.Statement.{statement}
+use Rattle.verdict.proofs.on_axis.Tie as tie
 
 returns : tie.Need-returns
 returns c =

@@ -1,7 +1,7 @@
--- `station::serves_both` meets its contract. Assumes nothing.
+-- `verdict::serves_both` meets its contract. Assumes nothing.
 use borrow.Author.Needs.{needs}
-use Rattle.station.proofs.serves_both.Statement.{statement}
-use Rattle.station.proofs.serves_both.Tie as tie
+use Rattle.verdict.proofs.serves_both.Statement.{statement}
+use Rattle.verdict.proofs.serves_both.Tie as tie
 
 serves-requires : tie.Need-serves-requires
 serves-requires c κs = search needs

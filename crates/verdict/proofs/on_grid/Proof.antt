@@ -1,8 +1,8 @@
--- `station::on_grid` meets its contract. Assumes nothing.
+-- `verdict::on_grid` meets its contract. Assumes nothing.
 use borrow.Author.Needs.{needs}
 use mir.Facts.{toZ-ofZ}
-use Rattle.station.proofs.on_grid.Statement.{statement}
-use Rattle.station.proofs.on_grid.Tie as tie
+use Rattle.verdict.proofs.on_grid.Statement.{statement}
+use Rattle.verdict.proofs.on_grid.Tie as tie
 
 on-axis-requires : tie.Need-on-axis-requires
 on-axis-requires c κs = search needs

@@ -1,7 +1,7 @@
--- `refusal::window_bad` meets its contract: each return knows the tests before it. Assumes nothing.
+-- `shapes::window_bad` meets its contract: each return knows the tests before it. Assumes nothing.
 use borrow.Author.Tests.{lt-ltb, le-ltb, le-leb, lt-leb}
-use Rattle.refusal.proofs.window_bad.Statement.{statement}
-use Rattle.refusal.proofs.window_bad.Tie as tie
+use Rattle.shapes.proofs.window_bad.Statement.{statement}
+use Rattle.shapes.proofs.window_bad.Tie as tie
 
 returns : tie.Need-returns
 returns c = rw (lt-ltb _ _ (c .if1 .taken))

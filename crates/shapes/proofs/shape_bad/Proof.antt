@@ -1,10 +1,10 @@
--- `refusal::shape_bad` meets its contract: each return knows the tests before it. Assumes nothing.
+-- `shapes::shape_bad` meets its contract: each return knows the tests before it. Assumes nothing.
 use native.Mathlib.Omega.{arith}
 use native.Mathlib.Nat.{mul-le-mul}
 use borrow.Author.Tests.{le-leb, lt-leb}
 use Rattle.scheme.specs.Refusals.{badShape}
-use Rattle.refusal.proofs.shape_bad.Statement.{statement}
-use Rattle.refusal.proofs.shape_bad.Tie as tie
+use Rattle.shapes.proofs.shape_bad.Statement.{statement}
+use Rattle.shapes.proofs.shape_bad.Tie as tie
 
 returns : tie.Need-returns
 unfolding badShape
