@@ -1,23 +1,20 @@
--- What the program answers, and why it fits.
-use Prim.Native.Nat.{ℕ, _+_, _*_, _/_, _%_, _^_, _≤_, _<_}
+-- What is answered to a request, and why it fits.
+use Prim.Native.Nat.{ℕ, zero, suc, _+_, _*_, _/_, _%_, _^_, _≤_, _<_}
 use native.Mathlib.Omega.{arith}
 use native.Mathlib.Nat.{mul-comm}
 use mathlib.Core.Path.{_≡_, refl, sym, ap, _∙_}
 use mathlib.Core.Bool.{Bool, true, false}
 use mathlib.Core.List.{List, [], _∷_, _++_}
-use borrow.Author.Tests.{lt-ltb, le-ltb}
 use lib.ListN.{length, drop, length-append}
-use lib.IntN.{ℤ}
 use lib.Seq.{sets-eq}
 use Rattle.lists.specs.First.{Found, nowhere, at}
 use Rattle.lists.specs.Members.{All, none, more}
 use Rattle.scheme.specs.Units.{Request}
 use Rattle.scheme.specs.Refusals.{Refusal, accepted, refused, numberOf, placeOf, asOne, unlessRefused, inOrder, refusedIf, refusedAt, Lengths, fromFour, analysisRefusal, rightLengths}
 use Rattle.scheme.specs.Scan.{Analysis, analysis}
-use Rattle.scheme.specs.Text.{requestLines, outcome, tested, printed, firstTwo, analysisText, answerText}
+use Rattle.scheme.specs.Text.{tested, printed, firstTwo, analysisText}
 use Rattle.scheme.specs.Text.Pieces.{ascii}
 use Rattle.scheme.specs.Text.Printed.{decimal, keyed}
-use Rattle.scheme.specs.Text.Order.{notInForm, read}
 use Rattle.scheme.specs.Promises.{both, lengthsOf, Analyses, putFirst, Stands}
 use Rattle.scheme.specs.Accepted.{analysis-sound}
 use Rattle.scheme.specs.Places.{analysis-tells-refusal-and-place}
@@ -25,8 +22,6 @@ use Rattle.scheme.specs.Decimals.{decimal-length}
 use Rattle.scheme.specs.AnswerSize.{accepted-answer-is-short}
 use Rattle.answer.specs.Written.{Written}
 use Rattle.answer.specs.Rows.{keyed-one}
-use Rattle.analyse.specs.declared.Came.{Came}
-use Rattle.analyse.specs.declared.Came.the-variants.{Bytes, Failed}
 
 -- the answer to a request in form
 abbrev pub replyText : Request → List ℕ
@@ -38,34 +33,31 @@ pub record Measured (nx ny rows : ℕ) (l : Lengths) : Type 0 where
   pub support : l .support ≡ ny * nx
   pub verdict : l .verdict ≡ rows
 
--- room for every analysis
-pub record Results (grid : List ℤ) (support verdict : List ℕ) : Type 0 where
-  pub points : 4096 ≤ length grid
-  pub supports : 4096 ≤ length support
-  pub verdicts : 512 ≤ length verdict
+-- what an analysis answered, as text: a refusal, or what it left
+abbrev pub toldText : (refused nx ny : ℕ) → Analysis → List ℕ
+toldText zero nx ny a = analysisText nx ny a
+toldText (suc r) nx ny a = firstTwo (suc r / 65536) (suc r % 65536)
 
--- bytes that came lie inside what was lent
-abbrev pub Within : ℕ → Came → Type 0
-Within long (Bytes n) = n ≤ long
-Within long Failed = Unit {0}
+-- it has room, and what an analysis left has its shape
+pub record Tellable (refused nx ny : ℕ) (a : Analysis) (room : ℕ) : Type 0 where
+  pub two : 36 ≤ room
+  pub columns : refused ≡ 0 → 0 < nx
+  pub grid : ny * nx ≡ length (a .grid)
+  pub support : ny * nx ≡ length (a .support)
+  pub all : refused ≡ 0 → length (analysisText nx ny a) ≤ room
 
--- ---- the whole text
+pub told-all : (r nx ny : ℕ) (a : Analysis) → r ≡ 0 → toldText r nx ny a ≡ analysisText nx ny a
+told-all zero nx ny a e = refl
+told-all (suc r) nx ny a e = absurd (omega arith)
 
-module _ (text : List ℕ) where
-  pub over : 65536 < length text → answerText text ≡ firstTwo 10 0
-  unfolding answerText outcome printed
-  over h = rw (lt-ltb 65536 (length text) h, outcome)
-
-  module _ (h : length text ≤ 65536) where
-    pub not-in-form : {k : ℕ} → requestLines 1 text ≡ notInForm k → answerText text ≡ firstTwo 9 k
-    unfolding answerText outcome printed
-    not-in-form e = rw (le-ltb 65536 (length text) h, e, outcome)
-
-    pub in-form : {q : Request} {k : ℕ} {rest : List ℕ} → requestLines 1 text ≡ read q k rest → answerText text ≡ replyText q
-    unfolding answerText outcome
-    in-form e = rw (le-ltb 65536 (length text) h, e, outcome)
+pub told-refused : (r nx ny : ℕ) (a : Analysis) → (r ≡ 0 → ⊥) → toldText r nx ny a ≡ firstTwo (r / 65536) (r % 65536)
+told-refused zero nx ny a some = absurd (some refl)
+told-refused (suc r) nx ny a some = refl
 
 -- ---- a text that was put at the start
+
+pub at-start : {n room : ℕ} → n ≤ room → 0 + n ≤ room
+at-start h = omega arith
 
 module _ (l : List ℕ) {t l' : List ℕ} {n : ℕ} where
   pub stands : length t ≤ length l → Written l 0 t l' n → Stands t l n l'
@@ -137,7 +129,7 @@ module _ (q : Request) (found left : Analysis) (r : ℕ) (m : Measured (q .nx) (
   coded : r ≡ asOne f
   coded = ap (λ (o : ℕ × Analysis). o .0) p ∙ ap (λ (l : Lengths). asOne (analysisRefusal q l)) same
 
-  pub refused-reply : (r ≡ 0 → ⊥) → replyText q ≡ firstTwo (r / 65536) (r % 65536)
+  refused-reply : (r ≡ 0 → ⊥) → replyText q ≡ firstTwo (r / 65536) (r % 65536)
   refused-reply some =
       let t = analysis-tells-refusal-and-place q (rightLengths q) in
       refused-text q f (λ e. some (coded ∙ e)) ∙ rw (coded, t .0, t .1)
@@ -149,19 +141,29 @@ module _ (q : Request) (found left : Analysis) (r : ℕ) (m : Measured (q .nx) (
     is-analysis : left ≡ analysis q
     is-analysis = ap (λ (o : ℕ × Analysis). o .1) p ∙ ap (λ (l : Lengths). unlessRefused (analysisRefusal q l) (analysis q) found) same ∙ ap (λ (g : Refusal). unlessRefused g (analysis q) found) is-accepted
 
-    pub accepted-reply : replyText q ≡ analysisText (q .nx) (q .ny) left
+    accepted-reply : replyText q ≡ analysisText (q .nx) (q .ny) left
     unfolding printed
     accepted-reply = rw (is-accepted, is-analysis)
 
-    pub some-columns : 0 < q .nx
+    some-columns : 0 < q .nx
     some-columns = omega (arith, analysis-sound q (rightLengths q) is-accepted .shape .two-columns)
 
-    pub accepted-short : length (analysisText (q .nx) (q .ny) left) < 56000
+    accepted-short : length (analysisText (q .nx) (q .ny) left) < 56000
     accepted-short = rw is-analysis (accepted-answer-is-short q (rightLengths q) is-accepted)
 
--- ---- a text that stands at the start ends inside
+  pub reply-told : replyText q ≡ toldText r (q .nx) (q .ny) left
+  reply-told = go r refl
+    where
+      go : (m : ℕ) → r ≡ m → replyText q ≡ toldText r (q .nx) (q .ny) left
+      go zero e = accepted-reply e ∙ sym (told-all r (q .nx) (q .ny) left e)
+      go (suc m) e = let some : r ≡ 0 → ⊥ = λ z. omega arith in refused-reply some ∙ sym (told-refused r (q .nx) (q .ny) left some)
 
-pub stands-inside : (t l : List ℕ) {n : ℕ} {l' : List ℕ} → Stands t l n l' → n ≤ length l'
-unfolding putFirst
-stands-inside t l s =
-    omega (arith, ap (λ (o : ℕ × List ℕ). o .0) s, ap (λ (o : ℕ × List ℕ). length (o .1)) s, length-append t (drop (length t) l))
+  pub tellable : (room : ℕ) → room ≡ 65536 → length (left .grid) ≡ length (found .grid) → length (left .support) ≡ length (found .support) → Tellable r (q .nx) (q .ny) left room
+  tellable room long g s =
+      record {
+        two = omega arith;
+        columns = some-columns;
+        grid = sym (g ∙ m .grid);
+        support = sym (s ∙ m .support);
+        all = λ zero. omega (arith, accepted-short zero);
+      }
