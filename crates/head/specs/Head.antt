@@ -6,25 +6,12 @@ use mathlib.Core.List.{List}
 use lib.Dec.{eqb}
 use lib.ListN.{drop}
 use Rattle.scheme.specs.Units.{Request}
-use Rattle.scheme.specs.Text.Pieces.{Parsed, fails, reads}
 use Rattle.scheme.specs.Text.{defaultAge}
-use Rattle.scheme.specs.Text.Lines.{Size, gridLine, timeLine, ageLine, smoothLine, scansLine}
+use Rattle.scheme.specs.Text.Lines.{gridLine, timeLine, ageLine, smoothLine, scansLine}
 use Rattle.scheme.specs.Text.Order.{notInForm, Text, _>>=_, line, optional}
-use Rattle.head.specs.declared.SizeRead.{SizeRead}
-use Rattle.head.specs.declared.SizeRead.the-variants.{Value as SizeValue, NotInForm as NotSize}
 use Rattle.head.specs.declared.Head.{Head}
 use Rattle.head.specs.declared.HeadRead.{HeadRead}
 use Rattle.head.specs.declared.HeadRead.the-variants.{Value as HeadValue, NotInForm as NotHead}
-
--- a size that was read, which lies in its range
-pub record SizeIs (s : List ℕ) (p : Parsed Size) (nx ny next : ℕ) : Type 0 where
-  pub said : p ≡ reads (record { nx = nx; ny = ny }) (drop next s)
-  pub columns : nx ≤ 64
-  pub rows : ny ≤ 64
-
-abbrev pub Sizes : List ℕ → Parsed Size → SizeRead → Type 0
-Sizes s p (SizeValue nx ny next) = SizeIs s p nx ny next
-Sizes s p NotSize = p ≡ fails
 
 -- the lines before the scans, and then what they call for
 abbrev pub headThen : ((nx ny time age : ℕ) → Bool → (scans : ℕ) → Text Request) → Text Request

@@ -3,20 +3,14 @@ ghost use mathlib.Core.Path.{_≡_};
 ghost use Prim.Native.Nat.{_≤_};
 ghost use lib.ListN.{drop};
 ghost use Rattle.scheme.specs.Text.{defaultAge};
-ghost use Rattle.scheme.specs.Text.Lines.{gridLine, ageLine};
+ghost use Rattle.scheme.specs.Text.Lines.{ageLine};
 ghost use Rattle.scheme.specs.Text.Order.{read, optional};
-ghost use Rattle.head.specs.Head.{Sizes, Heads};
+ghost use Rattle.head.specs.Head.{Heads};
+use lines::SizeRead;
 use pieces::UnsignedRead;
-use pieces::WordRead;
 
 // `age` may be left out, which means 120.
 const DEFAULT_AGE: u32 = 120;
-
-// The size of the grid and the place after its line, or that the line is not in form.
-enum SizeRead {
-    Value(u32, u32, usize),
-    NotInForm,
-}
 
 // What the age line says, or 120; the number of the line after it, and its place.
 struct Age {
@@ -42,26 +36,6 @@ pub enum HeadRead {
     NotInForm(u32),
 }
 
-fn grid_line(s: &[u8], at: usize) -> SizeRead
-    ensures { λ r. ⌜ Sizes (now (s .entry)) (gridLine (drop at (now (s .entry)))) r ⌝ }
-{
-    let WordRead::At(p) = pieces::word_at(s, at, b"grid=") else {
-        return SizeRead::NotInForm;
-    };
-    let UnsignedRead::Value(nx, q) = pieces::unsigned_before(s, pieces::count_at(s, p, 2, 64), b",")
-    else {
-        return SizeRead::NotInForm;
-    };
-    let UnsignedRead::Value(ny, next) = pieces::unsigned_before(
-        s,
-        pieces::count_at(s, q, 2, 64),
-        b"\n",
-    ) else {
-        return SizeRead::NotInForm;
-    };
-    SizeRead::Value(nx, ny, next)
-}
-
 // A line that may be left out.
 fn age_line(s: &[u8], at: usize, line: u32) -> Age
     requires { ⌜ line ≤ 3 ⌝ }
@@ -85,7 +59,7 @@ fn age_line(s: &[u8], at: usize, line: u32) -> Age
 pub fn head_lines(s: &[u8]) -> HeadRead
     ensures { λ r. ⌜ Heads (now (s .entry)) r ⌝ }
 {
-    let SizeRead::Value(nx, ny, p) = grid_line(s, 0) else {
+    let SizeRead::Value(nx, ny, p) = lines::grid_line(s, 0) else {
         return HeadRead::NotInForm(1);
     };
     let UnsignedRead::Value(time, q) = lines::number_line(s, p, b"time=", 0, 4294967295) else {

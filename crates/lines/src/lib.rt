@@ -2,9 +2,9 @@
 ghost use mathlib.Core.Path.{_≡_};
 ghost use lib.ListN.{length, drop};
 ghost use Rattle.scheme.specs.Text.Pieces.{signed, following, values, count, _before_};
-ghost use Rattle.scheme.specs.Text.Lines.{number, scanLine, rowLine, stationLine, observation, end};
+ghost use Rattle.scheme.specs.Text.Lines.{number, gridLine, scanLine, rowLine, stationLine, observation, end};
 ghost use Rattle.pieces.specs.Told.{unsignedTold, signedTold, Within};
-ghost use Rattle.lines.specs.Told.{entryTold, stationTold, valuesTold};
+ghost use Rattle.lines.specs.Told.{Sizes, entryTold, stationTold, valuesTold};
 use pieces::SignedRead;
 use pieces::UnsignedRead;
 use pieces::WordRead;
@@ -16,6 +16,11 @@ const MISSING: i32 = -2147483648;
 const NO_END: u32 = 4294967295;
 
 // What a line says and the place after it, or that it is not in form.
+pub enum SizeRead {
+    Value(u32, u32, usize),
+    NotInForm,
+}
+
 pub enum EntryRead {
     Value(i32, i32, usize),
     NotInForm,
@@ -43,6 +48,26 @@ pub fn number_line(s: &[u8], at: usize, key: &[u8], low: u32, high: u32) -> Unsi
         return UnsignedRead::NotInForm;
     };
     pieces::unsigned_before(s, pieces::count_at(s, p, low, high), b"\n")
+}
+
+pub fn grid_line(s: &[u8], at: usize) -> SizeRead
+    ensures { λ r. ⌜ Sizes (now (s .entry)) (gridLine (drop at (now (s .entry)))) r ⌝ }
+{
+    let WordRead::At(p) = pieces::word_at(s, at, b"grid=") else {
+        return SizeRead::NotInForm;
+    };
+    let UnsignedRead::Value(nx, q) = pieces::unsigned_before(s, pieces::count_at(s, p, 2, 64), b",")
+    else {
+        return SizeRead::NotInForm;
+    };
+    let UnsignedRead::Value(ny, next) = pieces::unsigned_before(
+        s,
+        pieces::count_at(s, q, 2, 64),
+        b"\n",
+    ) else {
+        return SizeRead::NotInForm;
+    };
+    SizeRead::Value(nx, ny, next)
 }
 
 pub fn scan_line(s: &[u8], at: usize) -> EntryRead

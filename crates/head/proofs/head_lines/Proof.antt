@@ -9,7 +9,7 @@ use lib.ListN.{drop}
 use Rattle.scheme.specs.Text.Pieces.{reads, unsigned}
 use Rattle.scheme.specs.Text.Lines.{gridLine, timeLine, smoothLine, scansLine}
 use Rattle.pieces.specs.Told.{unsignedTold, Within}
-use Rattle.head.specs.Head.{Sizes, SizeIs}
+use Rattle.lines.specs.Told.{Sizes, SizeIs}
 use Rattle.head.proofs.head_lines.Statement.{statement}
 use Rattle.head.proofs.head_lines.Tie as tie
 

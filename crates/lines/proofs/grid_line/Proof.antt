@@ -1,4 +1,4 @@
--- `head::grid_line` meets its contract: piece after piece, each read where the one before ended. Assumes nothing.
+-- `lines::grid_line` meets its contract: piece after piece, each read where the one before ended. Assumes nothing.
 use borrow.Author.Needs.{needs}
 use mathlib.Core.Path.{_≡_, ap, subst, _∙_}
 use lib.ListN.{drop}
@@ -7,8 +7,8 @@ use Prim.Native.Nat.{ℕ}
 use mathlib.Core.List.{List}
 use Rattle.scheme.specs.Text.Lines.{gridLine}
 use Rattle.pieces.specs.Told.{wordTold, unsignedTold, Within, before-told}
-use Rattle.head.proofs.grid_line.Statement.{statement}
-use Rattle.head.proofs.grid_line.Tie as tie
+use Rattle.lines.proofs.grid_line.Statement.{statement}
+use Rattle.lines.proofs.grid_line.Tie as tie
 
 module _ (c : tie.After-p) where
   abbrev start : tie.Start
