@@ -12,7 +12,7 @@ pub enum WordRead {
 }
 
 // A number of any length: what is greater than 2^32 is not told apart from it.
-pub enum NaturalRead {
+enum NaturalRead {
     Value(u64, usize),
     NotInForm,
 }
@@ -28,9 +28,9 @@ pub enum SignedRead {
 }
 
 // Digits, as far as they go.
-pub struct Run {
-    pub value: u64,
-    pub next: usize,
+struct Run {
+    value: u64,
+    next: usize,
 }
 
 // Exactly these bytes.

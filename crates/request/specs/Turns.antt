@@ -4,70 +4,11 @@ use native.Mathlib.Omega.{arith}
 use native.Mathlib.Numerals.{add-one}
 use mathlib.Core.Path.{_≡_, refl, sym, ap, _∙_}
 use mathlib.Core.List.{List, [], _∷_, _++_, append-assoc, append-nil}
-use lib.ListN.{length, take, drop, set, length-append, length-take, length-drop}
-use lib.Seq.{take-suc-set, take-all, take-at, length-take-le}
+use lib.ListN.{length, take, drop, length-append, length-take, length-drop}
+use lib.Seq.{take-at, length-take-le}
 use lib.IntN.{ℤ}
-use Rattle.scheme.specs.Text.Pieces.{Parsed, fails, reads, Piece, onward, gives, signed, following, values, _before_}
-use Rattle.scheme.specs.Text.Order.{Read, notInForm, read, Text, lines, rows, onward as linesOnward, gives as linesGive}
-
--- ---- the values of a row
-
--- values that were read before others
-abbrev pub prefixed : List ℤ → Parsed (List ℤ) → Parsed (List ℤ)
-prefixed l fails = fails
-prefixed l (reads vs rest) = reads (l ++ vs) rest
-
-prefixed-twice : (l m : List ℤ) (p : Parsed (List ℤ)) → prefixed l (prefixed m p) ≡ prefixed (l ++ m) p
-prefixed-twice l m fails = refl
-prefixed-twice l m (reads vs rest) = ap (λ (k : List ℤ). reads k rest) (sym (append-assoc l m vs))
-
-values-more : (more : ℕ) (bs rest : List ℕ) (v : ℤ) → (signed before following more) bs ≡ reads v rest → values (suc more) bs ≡ prefixed (v ∷ []) (values more rest)
-unfolding values
-values-more more bs rest v e = rw e (go (values more rest))
-  where
-    go : (p : Parsed (List ℤ)) → onward p (λ vs. gives (v ∷ vs)) ≡ prefixed (v ∷ []) p
-    go fails = refl
-    go (reads vs r) = refl
-
-values-stop : (more : ℕ) (bs : List ℕ) → (signed before following more) bs ≡ fails → values (suc more) bs ≡ fails
-unfolding values
-values-stop more bs e = rw e
-
-module _ (s whole : List ℕ) (n i p : ℕ) (z : List ℤ) (long : length z ≡ n) (h : i < length z)
-    (inv : values n whole ≡ prefixed (take i z) (values (n - i) (drop p s))) where
-  next-value : values n whole ≡ prefixed (take i z) (values (suc (n - (i + 1))) (drop p s))
-  next-value =
-      let e : n - i ≡ suc (n - (i + 1)) = omega arith in
-      inv ∙ ap (λ (k : ℕ). prefixed (take i z) (values k (drop p s))) e
-
-  cell-of : (signed before following (n - (i + 1))) (drop p s) ≡ (signed before following (length z - 1 - i)) (drop p s)
-  cell-of =
-      let e : n - (i + 1) ≡ length z - 1 - i = omega arith in
-      ap (λ (k : ℕ). (signed before following k) (drop p s)) e
-
-  pub values-turn : (q : ℕ) (v : ℤ) → (signed before following (length z - 1 - i)) (drop p s) ≡ reads v (drop q s)
-      → values n whole ≡ prefixed (take (i + 1) (set z i v)) (values (n - (i + 1)) (drop q s))
-  values-turn q v e =
-      next-value
-      ∙ ap (prefixed (take i z)) (values-more (n - (i + 1)) (drop p s) (drop q s) v (cell-of ∙ e))
-      ∙ prefixed-twice (take i z) (v ∷ []) (values (n - (i + 1)) (drop q s))
-      ∙ ap (λ (l : List ℤ). prefixed l (values (n - (i + 1)) (drop q s))) (sym (ap (λ (j : ℕ). take j (set z i v)) (add-one i) ∙ take-suc-set z i v h))
-
-  pub values-off : (signed before following (length z - 1 - i)) (drop p s) ≡ fails → values n whole ≡ fails
-  values-off e = next-value ∙ ap (prefixed (take i z)) (values-stop (n - (i + 1)) (drop p s) (cell-of ∙ e))
-
-pub values-begin : (n : ℕ) (whole : List ℕ) (z : List ℤ) → values n whole ≡ prefixed (take 0 z) (values (n - 0) whole)
-values-begin n whole z = let e : n ≡ n - 0 = omega arith in ap (λ (k : ℕ). values k whole) e ∙ go (values (n - 0) whole)
-  where
-    go : (p : Parsed (List ℤ)) → p ≡ prefixed [] p
-    go fails = refl
-    go (reads vs r) = refl
-
-pub values-done : (s whole : List ℕ) (n i p : ℕ) (z : List ℤ) → n ≤ i → length z ≡ n → values n whole ≡ prefixed (take i z) (values (n - i) (drop p s)) → values n whole ≡ reads z (drop p s)
-unfolding values
-values-done s whole n i p z h l inv =
-    let e : n - i ≡ 0 = omega arith in
-    inv ∙ ap (λ (k : ℕ). prefixed (take i z) (values k (drop p s))) e ∙ ap (λ (k : List ℤ). reads k (drop p s)) (append-nil (take i z) ∙ take-all i z (omega arith))
+use Rattle.scheme.specs.Text.Pieces.{fails, reads, Piece}
+use Rattle.scheme.specs.Text.Order.{Read, notInForm, read, Text, lines, rows, onward, gives}
 
 -- ---- lines of a kind: F n reads n of them
 
@@ -126,7 +67,7 @@ module _ {A : Type 0} (f : Piece A) where
   unfolding lines
   lines-more bs rest a e m k = rw e (go (lines m f (suc k) rest))
     where
-      go : (r : Read (List A)) → linesOnward r (λ ws. linesGive (a ∷ ws)) ≡ led (a ∷ []) r
+      go : (r : Read (List A)) → onward r (λ ws. gives (a ∷ ws)) ≡ led (a ∷ []) r
       go (notInForm n) = refl
       go (read vs n more) = refl
 
@@ -144,7 +85,7 @@ module _ {A : Type 0} (f : Piece (List A)) where
   unfolding rows
   rows-more bs rest vs e m k = rw e (go (rows m f (suc k) rest))
     where
-      go : (r : Read (List A)) → linesOnward r (λ ws. linesGive (vs ++ ws)) ≡ led vs r
+      go : (r : Read (List A)) → onward r (λ ws. gives (vs ++ ws)) ≡ led vs r
       go (notInForm n) = refl
       go (read ws n more) = refl
 

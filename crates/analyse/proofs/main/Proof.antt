@@ -4,7 +4,7 @@ use Prim.Native.Nat.{_≤_}
 use mathlib.Core.Path.{sym, subst}
 use lib.ListN.{length}
 use lib.Seq.{length-take-le}
-use Rattle.analyse.specs.Reply.{Within, stands-inside}
+use Rattle.analyse.specs.Input.{Within, stands-inside}
 use Rattle.analyse.proofs.main.Statement.{statement}
 use Rattle.analyse.proofs.main.Tie as tie
 

@@ -6,7 +6,7 @@ use mathlib.Core.Path.{_≡_, refl, subst, _∙_}
 use mathlib.Core.List.{List}
 use borrow.Rule.Slice.PartMut.{putMid, same-len-mid}
 use lib.ListN.{length, take, drop, length-take, length-drop}
-use Rattle.analyse.specs.Reply.{Within}
+use Rattle.analyse.specs.Input.{Within}
 use Rattle.analyse.proofs.read_text.Statement.{statement}
 use Rattle.analyse.proofs.read_text.Tie as tie
 

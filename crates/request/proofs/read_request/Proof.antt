@@ -1,68 +1,95 @@
--- `request::read_request` meets its contract: the head, and then what it calls for. Assumes nothing.
+-- `request::read_request` meets its contract: part after part. Assumes nothing.
 use borrow.Author.Needs.{needs}
-use mathlib.Core.Path.{subst, _∙_}
-use Rattle.request.specs.Whole.{Heads, middle, cut}
+use Rattle.scheme.specs.Promises.{sixColumns}
+use Rattle.request.specs.Whole.{limited, whole, room-less, lent-kept}
 use Rattle.request.proofs.read_request.Statement.{statement}
 use Rattle.request.proofs.read_request.Tie as tie
 
 head-lines-requires : tie.Need-head-lines-requires
 head-lines-requires c κs = search needs
 
-enum-known-k : tie.Need-enum-known-k
-enum-known-k c = search needs
+plan-lines-requires : tie.Need-plan-lines-requires
+plan-lines-requires c κs =
+    let h = c .before .before in
+    let s = c .before .before .before .before .before .before .before in
+    (limited (s .args .s .now) (h .head-lines .result) (h .head-lines .ensures), s .pre .radii, s .pre .limits)
 
-enum-known-h : tie.Need-enum-known-h
-enum-known-h c = search needs
+guess-lines-requires : tie.Need-guess-lines-requires
+guess-lines-requires c κs =
+    let h = c .before .before .before .before .before .before in
+    let s = c .before .before .before .before .before .before .before .before .before .before .before in
+    (limited (s .args .s .now) (h .head-lines .result) (h .head-lines .ensures), s .pre .points)
 
-after-head-requires : tie.Need-after-head-requires
-after-head-requires c κs = (subst (Heads (c .before .before .before .before .before .before .before .before .before .before .before .before .before .before .before .before .before .args .s .now)) (c .before .before .before .before .before .before .before .before .before .before .h .given .1) (c .before .before .before .before .before .before .before .before .before .before .before .before .head-lines .ensures) .limits, c .before .before .before .before .before .before .before .before .before .before .before .before .before .before .before .before .before .pre)
+count-line-requires : tie.Need-count-line-requires
+count-line-requires c κs = let h = c .before .before .before .before .before .before .before .before in limited (c .before .before .before .before .before .before .before .before .before .before .before .before .before .args .s .now) (h .head-lines .result) (h .head-lines .ensures)
 
-returns : tie.Need-returns
-returns c = (cut 1 (c .before .before .before .before .before .before .before .before .args .s .now) ∙ subst (Heads (c .before .before .before .before .before .before .before .before .args .s .now)) (c .before .k .given .1) (c .before .before .before .head-lines .ensures) middle, tt)
+cast-station-lines : tie.Need-cast-station-lines
+cast-station-lines c = search needs
+
+station-lines-requires : tie.Need-station-lines-requires
+station-lines-requires c κs =
+    let n = c .before .before .before .before .before .before .before .count-line in
+    let s = c .before .before .before .before .before .before .before .before .before .before .before .before .before .before .before .before .before .before .before .before .before in
+    (n .ensures .fits, room-less (n .result .count) 512 (sixColumns (s .args .x .now) (s .args .y .now) (s .args .value .now) (s .args .observed .now) (s .args .from .now) (s .args .until .now)) (n .ensures .few) (s .pre .columns))
+
+finished-requires : tie.Need-finished-requires
+finished-requires c κs = c .before .before .before .before .before .before .before .before .before .before .before .before .before .before .before .before .before .count-line .ensures .fits
 
 same-length : tie.Need-same-length
-same-length c = search needs
+same-length c = c .before .before .before .before .before .before .before .before .before .before .before .before .before .before .before .before .before .before .before .before .guess-lines .kept .1 .1 .1 .0
 
 same-length-2 : tie.Need-same-length-2
-same-length-2 c = search needs
+same-length-2 c = c .before .before .before .before .before .before .before .before .before .before .before .before .before .before .before .before .before .before .before .before .before .before .before .before .plan-lines .kept .1 .1 .0
 
 same-length-3 : tie.Need-same-length-3
-same-length-3 c = search needs
+same-length-3 c = c .before .before .before .before .before .before .before .before .before .before .before .before .before .before .before .before .before .before .before .before .before .before .before .before .plan-lines .kept .1 .1 .1 .0
 
 same-length-4 : tie.Need-same-length-4
-same-length-4 c = search needs
+same-length-4 c = c .before .before .before .before .before .before .before .before .before .before .station-lines .kept .1 .1 .1 .1 .0
 
 same-length-5 : tie.Need-same-length-5
-same-length-5 c = search needs
+same-length-5 c = c .before .before .before .before .before .before .before .before .before .before .station-lines .kept .1 .1 .1 .1 .1 .0
 
 same-length-6 : tie.Need-same-length-6
-same-length-6 c = search needs
+same-length-6 c = c .before .before .before .before .before .before .before .before .before .before .station-lines .kept .1 .1 .1 .1 .1 .1 .0
 
 same-length-7 : tie.Need-same-length-7
-same-length-7 c = search needs
+same-length-7 c = c .before .before .before .before .before .before .before .before .before .before .station-lines .kept .1 .1 .1 .1 .1 .1 .1 .0
 
 same-length-8 : tie.Need-same-length-8
-same-length-8 c = search needs
+same-length-8 c = c .before .before .before .before .before .before .before .before .before .before .station-lines .kept .1 .1 .1 .1 .1 .1 .1 .1 .0
 
 same-length-9 : tie.Need-same-length-9
-same-length-9 c = search needs
+same-length-9 c = c .before .before .before .before .before .before .before .before .before .before .station-lines .kept .1 .1 .1 .1 .1 .1 .1 .1 .1 .0
 
-returns-2 : tie.Need-returns-2
-returns-2 c =
-    let h = c .before .before .before .before .before .before .before .before .before .before .before .before .before .before .before .before .before .before .before .before .before .before .before in
-    let s = c .before .before .before .before .before .before .before .before .before .before .before .before .before .before .before .before .before .before .before .before .before .before .before .before .before .before .before .before .before .before .args .s .now in
-    let r = c .before .before .before .before .before .before .before .before .before .before .before .before .after-head .ensures in
-    (cut 1 s ∙ subst (Heads s) (h .h .given .1) (h .before .before .head-lines .ensures) .said middle ∙ r .0, r .1)
+returns : tie.Need-returns
+returns c =
+    let k = c .before .before .before .before .before .before .before .before .before .before in
+    let n = c .before .before .before .before .before .before .before .before .before .before .before .before .before .before .before .before .before .before in
+    let g = c .before .before .before .before .before .before .before .before .before .before .before .before .before .before .before .before .before .before .before .before in
+    let p = c .before .before .before .before .before .before .before .before .before .before .before .before .before .before .before .before .before .before .before .before .before .before .before .before in
+    let h = c .before .before .before .before .before .before .before .before .before .before .before .before .before .before .before .before .before .before .before .before .before .before .before .before .before .before .before in
+    let s = c .before .before .before .before .before .before .before .before .before .before .before .before .before .before .before .before .before .before .before .before .before .before .before .before .before .before .before .before .before .before .before .before in
+    let columns = sixColumns (k .station-lines .last .1 .1 .1 .1 .0) (k .station-lines .last .1 .1 .1 .1 .1 .0) (k .station-lines .last .1 .1 .1 .1 .1 .1 .0) (k .station-lines .last .1 .1 .1 .1 .1 .1 .1 .0) (k .station-lines .last .1 .1 .1 .1 .1 .1 .1 .1 .0) (k .station-lines .last .1 .1 .1 .1 .1 .1 .1 .1 .1 .0) in
+    whole (s .args .s .now) (p .plan-lines .last .1 .1 .0) (p .plan-lines .last .1 .1 .1 .0) (g .guess-lines .last .1 .1 .1 .0) columns
+    (lent-kept (s .args .guess .now) _ (s .args .radius .now) _ (s .args .limit .now) _ (sixColumns (s .args .x .now) (s .args .y .now) (s .args .value .now) (s .args .observed .now) (s .args .from .now) (s .args .until .now)) columns
+    (g .guess-lines .kept .1 .1 .1 .0) (p .plan-lines .kept .1 .1 .0) (p .plan-lines .kept .1 .1 .1 .0)
+    (record { x = k .station-lines .kept .1 .1 .1 .1 .0; y = k .station-lines .kept .1 .1 .1 .1 .1 .0; value = k .station-lines .kept .1 .1 .1 .1 .1 .1 .0; observed = k .station-lines .kept .1 .1 .1 .1 .1 .1 .1 .0; from = k .station-lines .kept .1 .1 .1 .1 .1 .1 .1 .1 .0; until = k .station-lines .kept .1 .1 .1 .1 .1 .1 .1 .1 .1 .0 })
+    (s .pre))
+    (p .plan-lines .result) (g .guess-lines .result) (k .station-lines .result) (n .count-line .result) (c .finished .result) (h .head-lines .result)
+    (h .head-lines .ensures) (p .plan-lines .ensures) (g .guess-lines .ensures) (n .count-line .ensures) (k .station-lines .ensures) (c .finished .ensures)
 
 pub read-request-spec : {M : Type 1} → statement M
 read-request-spec =
     tie.close
     (tie.spec
     head-lines-requires
-    enum-known-k
-    enum-known-h
-    after-head-requires
-    returns
+    plan-lines-requires
+    guess-lines-requires
+    count-line-requires
+    cast-station-lines
+    station-lines-requires
+    finished-requires
     same-length
     same-length-2
     same-length-3
@@ -72,4 +99,4 @@ read-request-spec =
     same-length-7
     same-length-8
     same-length-9
-    returns-2)
+    returns)

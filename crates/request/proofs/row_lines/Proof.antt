@@ -10,7 +10,7 @@ use lib.IntN.{ℤ}
 use Rattle.scheme.specs.Stored.{row-in}
 use Rattle.scheme.specs.Text.Lines.{rowLine}
 use Rattle.scheme.specs.Text.Order.{Text, rows}
-use Rattle.request.specs.Told.{valuesTold}
+use Rattle.lines.specs.Told.{valuesTold}
 use Rattle.request.specs.Turns.{Reached, begin, turn, stop, done, rows-more, rows-stop, rows-none, part-long, put-row}
 use Rattle.request.proofs.row_lines.Statement.{statement}
 use Rattle.request.proofs.row_lines.Tie as tie

@@ -11,7 +11,8 @@ use Rattle.lists.specs.Tab.{tab}
 use Rattle.scheme.specs.Text.Lines.{Entry, scanLine}
 use Rattle.scheme.specs.Text.Order.{Text, lines}
 use mathlib.Core.List.{List}
-use Rattle.request.specs.Told.{entryAt, entryTold}
+use Rattle.lines.specs.Told.{entryTold}
+use Rattle.request.specs.Told.{entryAt}
 use Rattle.request.specs.Turns.{Reached, begin, turn, stop, done, lines-more, lines-stop, lines-none}
 use Rattle.request.specs.Columns.{entry-stored}
 use Rattle.request.proofs.scan_lines.Statement.{statement}

@@ -13,7 +13,7 @@ use Rattle.scheme.specs.Units.{Station, stationAt}
 use Rattle.scheme.specs.Text.Lines.{stationLine}
 use Rattle.scheme.specs.Text.Order.{Text, lines}
 use Rattle.scheme.specs.Promises.{sixColumns}
-use Rattle.request.specs.Told.{stationOf, stationTold}
+use Rattle.lines.specs.Told.{stationOf, stationTold}
 use Rattle.request.specs.Turns.{Reached, begin, turn, stop, done, lines-more, lines-stop, lines-none}
 use Rattle.request.specs.Columns.{Kept, kept-none, kept-stored, station-stored}
 use Rattle.request.proofs.station_lines.Statement.{statement}

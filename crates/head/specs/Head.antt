@@ -1,0 +1,39 @@
+-- What reading the lines before the scans answers, as the definitions of the text say it.
+use Prim.Native.Nat.{ℕ, _≤_}
+use mathlib.Core.Path.{_≡_}
+use mathlib.Core.Bool.{Bool}
+use mathlib.Core.List.{List}
+use lib.Dec.{eqb}
+use lib.ListN.{drop}
+use Rattle.scheme.specs.Units.{Request}
+use Rattle.scheme.specs.Text.{defaultAge}
+use Rattle.scheme.specs.Text.Lines.{gridLine, timeLine, ageLine, smoothLine, scansLine}
+use Rattle.scheme.specs.Text.Order.{notInForm, Text, _>>=_, line, optional}
+use Rattle.head.specs.declared.Head.{Head}
+use Rattle.head.specs.declared.HeadRead.{HeadRead}
+use Rattle.head.specs.declared.HeadRead.the-variants.{Value as HeadValue, NotInForm as NotHead}
+
+-- the lines before the scans, and then what they call for
+abbrev pub headThen : ((nx ny time age : ℕ) → Bool → (scans : ℕ) → Text Request) → Text Request
+headThen next = do
+  size ← line gridLine
+  time ← line timeLine
+  age ← optional defaultAge ageLine
+  smooth ← line smoothLine
+  scans ← line scansLine
+  next (size .nx) (size .ny) time age (eqb smooth 1) scans
+
+pub record Limits (h : Head) : Type 0 where
+  pub columns : h .nx ≤ 64
+  pub rows : h .ny ≤ 64
+  pub scans : h .scans ≤ 6
+  pub line : h .line ≤ 6
+
+pub record HeadIs (s : List ℕ) (h : Head) : Type 0 where
+  pub said : (next : (nx ny time age : ℕ) → Bool → (scans : ℕ) → Text Request)
+      → headThen next 1 s ≡ next (h .nx) (h .ny) (h .time) (h .age) (h .smooth) (h .scans) (h .line) (drop (h .next) s)
+  pub limits : Limits h
+
+abbrev pub Heads : List ℕ → HeadRead → Type 0
+Heads s (HeadValue h) = HeadIs s h
+Heads s (NotHead k) = (next : (nx ny time age : ℕ) → Bool → (scans : ℕ) → Text Request) → headThen next 1 s ≡ notInForm k

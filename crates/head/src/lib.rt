@@ -1,0 +1,87 @@
+// The head of the request text (document 01): the lines before the scans.
+ghost use mathlib.Core.Path.{_≡_};
+ghost use Prim.Native.Nat.{_≤_};
+ghost use lib.ListN.{drop};
+ghost use Rattle.scheme.specs.Text.{defaultAge};
+ghost use Rattle.scheme.specs.Text.Lines.{ageLine};
+ghost use Rattle.scheme.specs.Text.Order.{read, optional};
+ghost use Rattle.head.specs.Head.{Heads};
+use lines::SizeRead;
+use pieces::UnsignedRead;
+
+// `age` may be left out, which means 120.
+const DEFAULT_AGE: u32 = 120;
+
+// What the age line says, or 120; the number of the line after it, and its place.
+struct Age {
+    age: u32,
+    line: u32,
+    next: usize,
+}
+
+// What the lines before the scans say; the number of the line after them, and its place.
+pub struct Head {
+    pub nx: u32,
+    pub ny: u32,
+    pub time: u32,
+    pub age: u32,
+    pub smooth: bool,
+    pub scans: u32,
+    pub line: u32,
+    pub next: usize,
+}
+
+pub enum HeadRead {
+    Value(Head),
+    NotInForm(u32),
+}
+
+// A line that may be left out.
+fn age_line(s: &[u8], at: usize, line: u32) -> Age
+    requires { ⌜ line ≤ 3 ⌝ }
+    ensures { λ r. ⌜ (optional defaultAge ageLine line (drop at (now (s .entry))) ≡ read (r .age) (r .line) (drop (r .next) (now (s .entry)))) × (r .line ≤ 4) ⌝ }
+{
+    let UnsignedRead::Value(age, next) = lines::number_line(s, at, b"age=", 0, 4294967295) else {
+        return Age {
+            age: DEFAULT_AGE,
+            line,
+            next: at,
+        };
+    };
+    Age {
+        age,
+        line: line + 1,
+        next,
+    }
+}
+
+// The lines before the scans.
+pub fn head_lines(s: &[u8]) -> HeadRead
+    ensures { λ r. ⌜ Heads (now (s .entry)) r ⌝ }
+{
+    let SizeRead::Value(nx, ny, p) = lines::grid_line(s, 0) else {
+        return HeadRead::NotInForm(1);
+    };
+    let UnsignedRead::Value(time, q) = lines::number_line(s, p, b"time=", 0, 4294967295) else {
+        return HeadRead::NotInForm(2);
+    };
+    let aged = age_line(s, q, 3);
+    let at = aged.next;
+    let UnsignedRead::Value(smooth, u) = lines::number_line(s, at, b"smooth=", 0, 1) else {
+        return HeadRead::NotInForm(aged.line);
+    };
+    let UnsignedRead::Value(scans, next) = lines::number_line(s, u, b"scans=", 1, 6) else {
+        return HeadRead::NotInForm(aged.line + 1);
+    };
+    let h = Head {
+        nx,
+        ny,
+        time,
+        age: aged.age,
+        smooth: smooth == 1,
+        scans,
+        line: aged.line + 2,
+        next,
+    };
+    HeadRead::Value(h)
+}
