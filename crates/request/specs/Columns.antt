@@ -50,6 +50,26 @@ kept-stored n t c₀ c k =
       until = length-set (c .until) n (t .until) ∙ k .until;
     }
 
+-- row n lies inside
+pub record Inside (n : ℕ) (c : Columns) : Type 0 where
+  pub x : n < length (c .x)
+  pub y : n < length (c .y)
+  pub value : n < length (c .value)
+  pub observed : n < length (c .observed)
+  pub from : n < length (c .from)
+  pub until : n < length (c .until)
+
+pub inside : (m n : ℕ) (c₀ c : Columns) → Room m c₀ → Kept c₀ c → n < m → Inside n c
+inside m n c₀ c room k h =
+    record {
+      x = omega (arith, room .x, k .x);
+      y = omega (arith, room .y, k .y);
+      value = omega (arith, room .value, k .value);
+      observed = omega (arith, room .observed, k .observed);
+      from = omega (arith, room .from, k .from);
+      until = omega (arith, room .until, k .until);
+    }
+
 module _ (m n : ℕ) (t : Station) (c₀ c : Columns) (room : Room m c₀) (k : Kept c₀ c) (h : n < m) where
   before : (i : ℕ) → i < n → stationAt (stored n t c) i ≡ stationAt c i
   unfolding stationAt
@@ -67,13 +87,14 @@ module _ (m n : ℕ) (t : Station) (c₀ c : Columns) (room : Room m c₀) (k : 
   here : stationAt (stored n t c) n ≡ t
   unfolding stationAt
   here =
+      let i = inside m n c₀ c room k h in
       rw (
-        getD-set-same (c .x) n (t .x) (pos 0) (omega (arith, room .x, k .x)),
-        getD-set-same (c .y) n (t .y) (pos 0) (omega (arith, room .y, k .y)),
-        getD-set-same (c .value) n (t .value) (pos 0) (omega (arith, room .value, k .value)),
-        getD-set-same (c .observed) n (t .observed) 0 (omega (arith, room .observed, k .observed)),
-        getD-set-same (c .from) n (t .from) 0 (omega (arith, room .from, k .from)),
-        getD-set-same (c .until) n (t .until) 0 (omega (arith, room .until, k .until)),
+        getD-set-same (c .x) n (t .x) (pos 0) (i .x),
+        getD-set-same (c .y) n (t .y) (pos 0) (i .y),
+        getD-set-same (c .value) n (t .value) (pos 0) (i .value),
+        getD-set-same (c .observed) n (t .observed) 0 (i .observed),
+        getD-set-same (c .from) n (t .from) 0 (i .from),
+        getD-set-same (c .until) n (t .until) 0 (i .until),
       )
 
   pub station-stored : tab (n + 1) (stationAt (stored n t c)) ≡ tab n (stationAt c) ++ (t ∷ [])

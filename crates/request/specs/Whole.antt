@@ -63,10 +63,10 @@ cut : (k : ℕ) (bs : List ℕ) → requestLines k bs ≡ headThen middle k bs
 unfolding requestLines
 cut k bs = refl
 
--- ---- what each part answers
+-- ---- what each part answers. After a head not in form nothing is asked of the parts: the whole answers by the head
 
--- a text after lines that end here, unless these are not in form
-abbrev pub linesAfter : {A : Type 0} → List ℕ → LinesRead → ℕ → Text A → Read A
+-- a text after lines that end here, or the line of these that is not in form
+abbrev linesAfter : {A : Type 0} → List ℕ → LinesRead → ℕ → Text A → Read A
 linesAfter s (Next p) k t = t k (drop p s)
 linesAfter s (NotLines j) k t = notInForm j
 
@@ -82,11 +82,12 @@ abbrev pub Guesses : List ℕ → List ℤ → HeadRead → LinesRead → LinesR
 Guesses s zs (HeadValue v) plan r = linesAfter s plan (v .line + v .scans) (rows (v .ny) (rowLine (v .nx))) ≡ linesTold s (take (v .ny * v .nx) zs) (v .line + v .scans + v .ny) r
 Guesses s zs (NotHead k) plan r = Unit {0}
 
+-- in form, or line k is not
 abbrev ifFound : {A : Type 0} → Bool → Read A → ℕ → Read A
 ifFound true r k = r
 ifFound false r k = notInForm k
 
-abbrev pub countTold : List ℕ → Counted → Read ℕ
+abbrev countTold : List ℕ → Counted → Read ℕ
 countTold s c = ifFound (c .found) (read (c .count) (c .line) (drop (c .next) s)) (c .line)
 
 abbrev pub notCounted : ℕ → Counted
@@ -120,7 +121,7 @@ pub record Lent (guess radius limit : List ℤ) (c : Columns) : Type 0 where
   pub columns : Room 512 c
 
 -- the request, its columns the fronts of those that were lent
-abbrev pub firstStations : ℕ → Columns → Columns
+abbrev firstStations : ℕ → Columns → Columns
 firstStations n c =
     record {
       x = take n (c .x);

@@ -130,6 +130,7 @@ fn station_lines(
 
 // ---- the whole request: each part after those before it, unless one of these was not in form
 
+// The scans.
 fn plan_lines(s: &[u8], h: HeadRead, radius: &mut [i32], limit: &mut [i32]) -> LinesRead
     requires { ⌜ Limited h × (6 ≤ length (now radius)) × (6 ≤ length (now limit)) ⌝ }
     ensures { λ r. ⌜ Plans (now (s .entry)) (now (radius .exit)) (now (limit .exit)) h r ⌝ }
@@ -140,6 +141,7 @@ fn plan_lines(s: &[u8], h: HeadRead, radius: &mut [i32], limit: &mut [i32]) -> L
     }
 }
 
+// The first guess.
 fn guess_lines(s: &[u8], h: HeadRead, plan: LinesRead, guess: &mut [i32]) -> LinesRead
     requires { ⌜ Limited h × (4096 ≤ length (now guess)) ⌝ }
     ensures { λ r. ⌜ Guesses (now (s .entry)) (now (guess .exit)) h plan r ⌝ }
@@ -155,6 +157,7 @@ fn guess_lines(s: &[u8], h: HeadRead, plan: LinesRead, guess: &mut [i32]) -> Lin
     }
 }
 
+// A line that is not in form.
 fn no_station(line: u32) -> Counted
     ensures { λ r. ⌜ r ≡ notCounted line ⌝ }
 {
@@ -166,6 +169,7 @@ fn no_station(line: u32) -> Counted
     }
 }
 
+// How many stations there are.
 fn count_line(s: &[u8], h: HeadRead, rows: LinesRead) -> Counted
     requires { ⌜ Limited h ⌝ }
     ensures { λ r. ⌜ Counts (now (s .entry)) h rows r ⌝ }
@@ -192,7 +196,7 @@ fn count_line(s: &[u8], h: HeadRead, rows: LinesRead) -> Counted
     }
 }
 
-// The stations end here: nothing may follow.
+// What all lines say, if nothing follows the stations.
 fn finished(s: &[u8], h: HeadRead, c: Counted, end: LinesRead) -> RequestRead
     requires { ⌜ c .line + c .count < 2 ^ 32 ⌝ }
     ensures { λ r. ⌜ Asks (now (s .entry)) h c end r ⌝ }

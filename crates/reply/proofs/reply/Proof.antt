@@ -2,6 +2,7 @@
 use borrow.Author.Needs.{needs}
 use Prim.Native.Nat.{ℕ, _≤_}
 use native.Mathlib.Omega.{arith}
+use mathlib.Core.Path.{refl, sym}
 use mathlib.Core.List.{List}
 use lib.ListN.{length, replicate, length-replicate}
 use lib.IntN.{ℤ, pos}
@@ -67,61 +68,61 @@ returns c =
     stands-as (s .args .out .now) (over (s .args .text .now) (c .before .before .if1 .taken)) (stands (s .args .out .now) (two-fit 10 0 (length (s .args .out .now)) (omega arith) (omega arith) (omega arith)) (c .first-two .ensures))
 
 slice-aggregate-read-request : tie.Need-slice-aggregate-read-request
-slice-aggregate-read-request c = search needs
+slice-aggregate-read-request c = refl
 
 slice-aggregate-read-request-2 : tie.Need-slice-aggregate-read-request-2
-slice-aggregate-read-request-2 c = search needs
+slice-aggregate-read-request-2 c = refl
 
 slice-aggregate-read-request-3 : tie.Need-slice-aggregate-read-request-3
-slice-aggregate-read-request-3 c = search needs
+slice-aggregate-read-request-3 c = refl
 
 slice-aggregate-read-request-4 : tie.Need-slice-aggregate-read-request-4
-slice-aggregate-read-request-4 c = search needs
+slice-aggregate-read-request-4 c = refl
 
 slice-aggregate-read-request-5 : tie.Need-slice-aggregate-read-request-5
-slice-aggregate-read-request-5 c = search needs
+slice-aggregate-read-request-5 c = refl
 
 slice-aggregate-read-request-6 : tie.Need-slice-aggregate-read-request-6
-slice-aggregate-read-request-6 c = search needs
+slice-aggregate-read-request-6 c = refl
 
 slice-aggregate-read-request-7 : tie.Need-slice-aggregate-read-request-7
-slice-aggregate-read-request-7 c = search needs
+slice-aggregate-read-request-7 c = refl
 
 slice-aggregate-read-request-8 : tie.Need-slice-aggregate-read-request-8
-slice-aggregate-read-request-8 c = search needs
+slice-aggregate-read-request-8 c = refl
 
 slice-aggregate-read-request-9 : tie.Need-slice-aggregate-read-request-9
-slice-aggregate-read-request-9 c = search needs
+slice-aggregate-read-request-9 c = refl
 
 read-request-requires : tie.Need-read-request-requires
 read-request-requires c κs = lent₀
 
 slice-aggregate-reply-to : tie.Need-slice-aggregate-reply-to
-slice-aggregate-reply-to c = search needs
+slice-aggregate-reply-to c = sym (c .before .before .before .before .before .before .before .before .before .before .read-request .kept .1 .0)
 
 slice-aggregate-reply-to-2 : tie.Need-slice-aggregate-reply-to-2
-slice-aggregate-reply-to-2 c = search needs
+slice-aggregate-reply-to-2 c = sym (c .before .before .before .before .before .before .before .before .before .before .before .read-request .kept .1 .1 .0)
 
 slice-aggregate-reply-to-3 : tie.Need-slice-aggregate-reply-to-3
-slice-aggregate-reply-to-3 c = search needs
+slice-aggregate-reply-to-3 c = sym (c .before .before .before .before .before .before .before .before .before .before .before .before .read-request .kept .1 .1 .1 .0)
 
 slice-aggregate-reply-to-4 : tie.Need-slice-aggregate-reply-to-4
-slice-aggregate-reply-to-4 c = search needs
+slice-aggregate-reply-to-4 c = sym (c .before .before .before .before .before .before .before .before .before .before .before .before .before .read-request .kept .1 .1 .1 .1 .0)
 
 slice-aggregate-reply-to-5 : tie.Need-slice-aggregate-reply-to-5
-slice-aggregate-reply-to-5 c = search needs
+slice-aggregate-reply-to-5 c = sym (c .before .before .before .before .before .before .before .before .before .before .before .before .before .before .read-request .kept .1 .1 .1 .1 .1 .0)
 
 slice-aggregate-reply-to-6 : tie.Need-slice-aggregate-reply-to-6
-slice-aggregate-reply-to-6 c = search needs
+slice-aggregate-reply-to-6 c = sym (c .before .before .before .before .before .before .before .before .before .before .before .before .before .before .before .read-request .kept .1 .1 .1 .1 .1 .1 .0)
 
 slice-aggregate-reply-to-7 : tie.Need-slice-aggregate-reply-to-7
-slice-aggregate-reply-to-7 c = search needs
+slice-aggregate-reply-to-7 c = sym (c .before .before .before .before .before .before .before .before .before .before .before .before .before .before .before .before .read-request .kept .1 .1 .1 .1 .1 .1 .1 .0)
 
 slice-aggregate-reply-to-8 : tie.Need-slice-aggregate-reply-to-8
-slice-aggregate-reply-to-8 c = search needs
+slice-aggregate-reply-to-8 c = sym (c .before .before .before .before .before .before .before .before .before .before .before .before .before .before .before .before .before .read-request .kept .1 .1 .1 .1 .1 .1 .1 .1 .0)
 
 slice-aggregate-reply-to-9 : tie.Need-slice-aggregate-reply-to-9
-slice-aggregate-reply-to-9 c = search needs
+slice-aggregate-reply-to-9 c = sym (c .before .before .before .before .before .before .before .before .before .before .before .before .before .before .before .before .before .before .read-request .kept .1 .1 .1 .1 .1 .1 .1 .1 .1 .0)
 
 reply-to-requires : tie.Need-reply-to-requires
 reply-to-requires c κs =

@@ -1,8 +1,7 @@
 -- `request::count_line` meets its contract. Assumes nothing.
 use borrow.Author.Needs.{needs}
 use native.Mathlib.Omega.{arith}
-use mathlib.Core.Path.{_≡_, refl, ap, subst, _∙_}
-use lib.ListN.{drop}
+use mathlib.Core.Path.{refl, ap, subst, _∙_}
 use Rattle.scheme.specs.Text.Lines.{stationsLine}
 use Rattle.pieces.specs.Told.{unsignedTold, Within}
 use Rattle.request.specs.Whole.{Limited, count-no-head, count-no-rows, count-not-read, count-read}

@@ -2,7 +2,7 @@
 use borrow.Author.Needs.{needs}
 use native.Mathlib.Omega.{arith}
 use native.Mathlib.Nat.{mul-le-mul}
-use mathlib.Core.Path.{_≡_, refl, subst}
+use mathlib.Core.Path.{refl, subst}
 use Rattle.request.specs.Whole.{Limited}
 use Rattle.request.proofs.guess_lines.Statement.{statement}
 use Rattle.request.proofs.guess_lines.Tie as tie

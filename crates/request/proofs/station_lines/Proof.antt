@@ -1,21 +1,21 @@
 -- `request::station_lines` meets its contract. The invariant: what is read so far, before what is still to read, is the whole. Assumes nothing.
 use borrow.Author.Needs.{needs}
-use Prim.Native.Nat.{ℕ, _-_, _≤_, _<_}
+use Prim.Native.Nat.{ℕ, _+_, _-_, _≤_, _<_}
 use native.Mathlib.Omega.{arith}
 use mathlib.Core.Path.{_≡_, refl, ap, _∙_}
-use mathlib.Core.List.{List}
+use mathlib.Core.List.{List, [], _∷_}
 use lib.ListN.{drop}
 use mir.Syntax.{w32}
 use mir.Val.{SFits}
 use mir.Facts.{toZ-ofZ}
 use Rattle.lists.specs.Tab.{tab}
-use Rattle.scheme.specs.Units.{Station, stationAt}
+use Rattle.scheme.specs.Units.{Columns, Station, stationAt}
 use Rattle.scheme.specs.Text.Lines.{stationLine}
 use Rattle.scheme.specs.Text.Order.{Text, lines}
 use Rattle.scheme.specs.Promises.{sixColumns}
 use Rattle.lines.specs.Told.{stationOf, stationTold}
 use Rattle.request.specs.Turns.{Reached, begin, turn, stop, done, lines-more, lines-stop, lines-none}
-use Rattle.request.specs.Columns.{Kept, kept-none, kept-stored, station-stored}
+use Rattle.request.specs.Columns.{Kept, kept-none, stored, kept-stored, Inside, inside, station-stored}
 use Rattle.request.proofs.station_lines.Statement.{statement}
 use Rattle.request.proofs.station_lines.Tie as tie
 
@@ -27,6 +27,25 @@ Inv-loop s at line n x₀ y₀ value₀ observed₀ from₀ until₀ p₀ i₀ x
 
 abbrev μ-loop : tie.MeasureT-loop
 μ-loop s at line n x₀ y₀ value₀ observed₀ from₀ until₀ p₀ i₀ x y value observed from until p i = n - i
+
+module _ (c : tie.After-struct-told3 Inv-loop μ-loop) where
+  abbrev at-loop : tie.At-loop Inv-loop μ-loop
+  at-loop = c .before .before .before .before .before .before .before .before
+
+  abbrev start : tie.Start Inv-loop μ-loop
+  start = at-loop .before .before .before .before .before
+
+  abbrev columns₀ : Columns
+  columns₀ = let a = start .args in sixColumns (a .x .now) (a .y .now) (a .value .now) (a .observed .now) (a .from .now) (a .until .now)
+
+  abbrev columns : Columns
+  columns = let l = at-loop .loop in sixColumns (l .x) (l .y) (l .value) (l .observed) (l .from) (l .until)
+
+  in-loop : at-loop .loop .i < start .args .n
+  in-loop = c .before .before .before .before .before .before .before .loop-test .taken
+
+  in-columns : Inside (at-loop .loop .i) columns
+  in-columns = inside (start .args .n) (at-loop .loop .i) columns₀ columns (start .pre .1) (at-loop .loop .inv .1) in-loop
 
 loop-holds : tie.Need-loop-holds Inv-loop μ-loop
 unfolding tab
@@ -76,37 +95,37 @@ mul-row-x : tie.Need-mul-row-x Inv-loop μ-loop
 mul-row-x c = search needs
 
 slice-set-from-row-x : tie.Need-slice-set-from-row-x Inv-loop μ-loop
-slice-set-from-row-x c = let l = c .before .before .before .before .before .before .before .before in omega (arith, l .before .before .before .before .before .pre .1 .x, l .loop .inv .1 .x, l .loop .inv .0)
+slice-set-from-row-x c = in-columns c .x
 
 mul-row-y : tie.Need-mul-row-y Inv-loop μ-loop
 mul-row-y c = search needs
 
 slice-set-from-row-y : tie.Need-slice-set-from-row-y Inv-loop μ-loop
-slice-set-from-row-y c = let l = c .before .before .before .before .before .before .before .before in omega (arith, l .before .before .before .before .before .pre .1 .y, l .loop .inv .1 .y, l .loop .inv .0)
+slice-set-from-row-y c = in-columns c .y
 
 mul-row-value : tie.Need-mul-row-value Inv-loop μ-loop
 mul-row-value c = search needs
 
 slice-set-from-row-value : tie.Need-slice-set-from-row-value Inv-loop μ-loop
-slice-set-from-row-value c = let l = c .before .before .before .before .before .before .before .before in omega (arith, l .before .before .before .before .before .pre .1 .value, l .loop .inv .1 .value, l .loop .inv .0)
+slice-set-from-row-value c = in-columns c .value
 
 mul-observed : tie.Need-mul-observed Inv-loop μ-loop
 mul-observed c = search needs
 
 slice-write-observed : tie.Need-slice-write-observed Inv-loop μ-loop
-slice-write-observed c = let l = c .before .before .before .before .before .before .before .before in omega (arith, l .before .before .before .before .before .pre .1 .observed, l .loop .inv .1 .observed, l .loop .inv .0)
+slice-write-observed c = in-columns c .observed
 
 mul-from : tie.Need-mul-from Inv-loop μ-loop
 mul-from c = search needs
 
 slice-write-from : tie.Need-slice-write-from Inv-loop μ-loop
-slice-write-from c = let l = c .before .before .before .before .before .before .before .before in omega (arith, l .before .before .before .before .before .pre .1 .from, l .loop .inv .1 .from, l .loop .inv .0)
+slice-write-from c = in-columns c .from
 
 mul-until : tie.Need-mul-until Inv-loop μ-loop
 mul-until c = search needs
 
 slice-write-until : tie.Need-slice-write-until Inv-loop μ-loop
-slice-write-until c = let l = c .before .before .before .before .before .before .before .before in omega (arith, l .before .before .before .before .before .pre .1 .until, l .loop .inv .1 .until, l .loop .inv .0)
+slice-write-until c = in-columns c .until
 
 add-i : tie.Need-add-i Inv-loop μ-loop
 add-i c = search needs
@@ -116,22 +135,19 @@ loop-less c = search needs
 
 loop-again : tie.Need-loop-again Inv-loop μ-loop
 loop-again c =
-    let l = c .before .before .before .before .before .before .before .before in
-    let st = l .before .before .before .before .before in
-    let a = st .args in
+    let l = at-loop c .loop in
+    let a = start c .args in
     let v = c .before .before .before .before .row .given in
     let row = v .0 .0 in
     let f : SFits w32 (row .x) = record { sfits = c .before .before .struct-told .given .0 .1 } in
     let g : SFits w32 (row .y) = record { sfits = c .before .struct-told2 .given .1 .0 .1 } in
     let h : SFits w32 (row .value) = record { sfits = c .struct-told3 .given .1 .1 .0 .1 } in
-    let columns = sixColumns (l .loop .x) (l .loop .y) (l .loop .value) (l .loop .observed) (l .loop .from) (l .loop .until) in
-    let i : l .loop .i < a .n = c .before .before .before .before .before .before .before .loop-test .taken in
     simp toZ-ofZ (
-      omega (arith, i),
-      kept-stored (l .loop .i) (stationOf row) _ columns (l .loop .inv .1),
-      turn stations (a .s .now) (drop (a .at) (a .s .now)) (a .n) (a .line) (l .loop .i) (l .loop .p) _ i (l .loop .inv .2) (v .0 .1 .0) _ _
-          (lines-more stationLine (drop (l .loop .p) (a .s .now)) (drop (v .0 .1 .0) (a .s .now)) _ (c .before .before .before .before .before .before .station-line .ensures ∙ ap (stationTold (a .s .now)) (v .1)))
-          (station-stored (a .n) (l .loop .i) (stationOf row) _ columns (st .pre .1) (l .loop .inv .1) i),
+      omega (arith, in-loop c),
+      kept-stored (l .i) (stationOf row) (columns₀ c) (columns c) (l .inv .1),
+      turn stations (a .s .now) (drop (a .at) (a .s .now)) (a .n) (a .line) (l .i) (l .p) (tab (l .i) (stationAt (columns c))) (in-loop c) (l .inv .2) (v .0 .1 .0) (stationOf row ∷ []) (tab (l .i + 1) (stationAt (stored (l .i) (stationOf row) (columns c))))
+          (lines-more stationLine (drop (l .p) (a .s .now)) (drop (v .0 .1 .0) (a .s .now)) (stationOf row) (c .before .before .before .before .before .before .station-line .ensures ∙ ap (stationTold (a .s .now)) (v .1)))
+          (station-stored (a .n) (l .i) (stationOf row) (columns₀ c) (columns c) (start c .pre .1) (l .inv .1) (in-loop c)),
     )
 
 same-length-7 : tie.Need-same-length-7 Inv-loop μ-loop
