@@ -130,5 +130,5 @@ pub extern "C" fn sosnyavik_reading_value(
 pub extern "C" fn sosnyavik_summarise(nx: u32, ny: u32, field: &[i32]) -> Summary
     ensures { λ r. ⌜ Summarises nx ny (now (field .entry)) r ⌝ }
 {
-    reading::summary(nx, ny, field)
+    summary::summary(nx, ny, field)
 }

@@ -1,8 +1,8 @@
 -- The stations near a grid row: what each gives to a point of the row, and that those left out give nothing.
-use Prim.Native.Nat.{ℕ, zero, suc, _+_, _-_, _*_, _/_, _≤_, _<_}
+use Prim.Native.Nat.{ℕ, zero, suc, _+_, _-_, _*_, _≤_, _<_}
 use native.Mathlib.Omega.{arith}
 use native.Mathlib.Numerals.{add-one}
-use native.Mathlib.Nat.{mul-le-mul-left, zero-add, add-zero, add-mul-div-right}
+use native.Mathlib.Nat.{mul-le-mul-left, zero-add, add-zero}
 use mathlib.Core.Path.{_≡_, refl, sym, ap, _∙_}
 use mathlib.Core.Logic.{_⊎_, inl, inr}
 use mathlib.Core.Bool.{Bool, true, false, cond}
@@ -17,20 +17,13 @@ use Rattle.lists.specs.Tests.{lt-or-le}
 use Rattle.lists.specs.Sums.{upTo, upTo-next, upTo-same}
 use Rattle.scheme.specs.Verdicts.{isAccepted}
 use Rattle.scheme.specs.Weight.{square, weight}
-use Rattle.scheme.specs.Weights.{weight-beyond, weight-within, weight-most}
+use Rattle.scheme.specs.Weights.{weight-beyond, weight-most}
 use Rattle.scheme.specs.Adding.{plus-nothing}
 use Rattle.scheme.specs.Correction.{Sums, nothing, plus}
 
 -- a station with that weight and difference
 abbrev pub giving : ℕ → ℤ → Sums
 giving w d = record { weights = w; pulls = pos w *ℤ d }
-
--- a weight by a product that is the same for every station of a scan: the whole part of 200R²/(R² + d2), less 100
-module _ (r2 d2 : ℕ) (near : d2 < r2) where
-  pub by-product : 2 * 100 * r2 / (r2 + d2) ≡ weight r2 d2 + 100
-  by-product =
-      let parts : 2 * 100 * r2 ≡ 100 * (r2 - d2) + 100 * (r2 + d2) = omega arith in
-      rw (parts, weight-within r2 d2 near) (add-mul-div-right (100 * (r2 - d2)) 100 {z = r2 + d2} (omega arith))
 
 -- ---- from all the columns: what row k gives to point (i, j)
 

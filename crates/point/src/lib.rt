@@ -1,7 +1,7 @@
-// Weights, sums and corrections at the points of a grid (document 01, "One scan", Weight and Correction).
+// Sums and corrections at the points of a grid (document 01, "One scan", Correction).
 ghost use mathlib.Core.Path.{_≡_};
 ghost use Prim.Native.Nat.{ℕ, _+_, _*_, _≤_, _<_};
-ghost use lib.IntN.{natAbs, _-ℤ_};
+ghost use lib.IntN.{natAbs};
 ghost use mathlib.Core.Bool.{cond};
 ghost use lib.Dec.{ltb};
 ghost use lib.ListN.{length};
@@ -9,42 +9,10 @@ ghost use lib.IntN.{ℤ, pos, _+ℤ_, _*ℤ_};
 ghost use Rattle.lists.specs.Sums.{upTo};
 ghost use Rattle.lists.specs.Filled.{Filled};
 ghost use Rattle.scheme.specs.Units.{stored};
-ghost use Rattle.scheme.specs.Weight.{square, weight};
+ghost use Rattle.scheme.specs.Weight.{weight};
 ghost use Rattle.scheme.specs.Correction.{nothing, plus, correction};
 ghost use Rattle.point.specs.Near.{nearShare, Sized, WithNear, rowGap, Columns, Roomy, Near};
 ghost use Rattle.point.specs.Pass.{rowZ, rowS, RowReady, PassReady, corrected, backed};
-
-// A weight is in parts of this.
-const SCALE: u32 = 100;
-
-// The square of how far positions a and b lie apart along one axis.
-pub fn square_apart(a: i32, b: i32) -> u32
-    requires { ⌜ (natAbs a ≤ 16384) × (natAbs b ≤ 16384) ⌝ }
-    ensures { λ r. ⌜ (r ≡ square (a -ℤ b)) × (r ≤ 1073741824) ⌝ }
-{
-    let d = a - b;
-    (d * d) as u32
-}
-
-// The squared distance from a point at px to a station at x, where gap is the square of how far they lie apart along the other axis.
-pub fn squared_distance(x: i32, px: i32, gap: u32) -> u32
-    requires { ⌜ (natAbs x ≤ 16384) × (natAbs px ≤ 16384) × (gap ≤ 1073741824) ⌝ }
-    ensures { λ r. ⌜ r ≡ square (x -ℤ px) + gap ⌝ }
-{
-    square_apart(x, px) + gap
-}
-
-// The weight at squared distance d2 for squared radius r2. A station beyond the radius costs a compare and no division. The quotient's
-// upper part is the same for all stations of a scan: 100(R² - d2) = 200R² - 100(R² + d2).
-pub fn weight(r2: u32, d2: u32) -> u32
-    requires { ⌜ r2 ≤ 1048576 ⌝ }
-    ensures { λ r. ⌜ r ≡ weight r2 d2 ⌝ }
-{
-    if r2 <= d2 {
-        return 0;
-    }
-    2 * SCALE * r2 / (r2 + d2) - SCALE
-}
 
 // The sum of weights, and the sum of weight·D.
 pub struct Sums {
@@ -60,7 +28,7 @@ fn more(w: u64, wd: i64, r2: u32, d2: u32, d: i64) -> Sums
     if r2 <= d2 {
         return Sums { w, wd };
     }
-    let q = weight(r2, d2);
+    let q = weight::weight(r2, d2);
     Sums {
         w: w + (q as u64),
         wd: wd + (q as i64) * d,
@@ -82,7 +50,7 @@ fn with_near(
     ensures { λ s. ⌜ WithNear (now (lx .entry)) (now (ly .entry)) (now (ld .entry)) r2 i t w wd (s .w) (s .wd) ⌝ }
 {
     let px = (64 * i) as i32;
-    more(w, wd, r2, squared_distance(lx[t], px, ly[t]), ld[t])
+    more(w, wd, r2, weight::squared_distance(lx[t], px, ly[t]), ld[t])
 }
 
 // The sums at column i of a grid row, over the n stations near that row: from the last to the first, two in a turn.
@@ -136,7 +104,7 @@ fn row_gap(verdict: u8, y: i32, j: usize, r2: u32) -> u32
     ensures { λ r. ⌜ r ≡ rowGap verdict y j r2 ⌝ }
 {
     if verdict == 0 {
-        square_apart(y, (64 * j) as i32)
+        weight::square_apart(y, (64 * j) as i32)
     } else {
         r2
     }

@@ -7,7 +7,7 @@ use lib.ListN.{getD}
 use Rattle.scheme.specs.Units.{fieldOf}
 use Rattle.scheme.specs.Value.{cell}
 use Rattle.scheme.specs.Readings.{cornerBacked, isBacked}
-use Rattle.station.specs.Corners.{Spotted, right-of, above, across}
+use Rattle.interpolation.specs.Corners.{Spotted, right-of, above, across}
 
 unfoldable pub allBacked : (a b p q r s : ℕ) → Bool
 allBacked a b p q r s =

@@ -1,36 +1,29 @@
-// What a field is asked (document 01, "Readings as doubles"): the reading at a point, and the summary of the whole.
+// A field read at a position, as a double (document 01, "Readings as doubles").
 ghost use mathlib.Core.Path.{_≡_};
 ghost use mathlib.Core.Bool.{_&&_};
-ghost use Prim.Native.Nat.{_-_, _*_, _≤_, _<_};
+ghost use Prim.Native.Nat.{_-_, _*_, _≤_};
 ghost use lib.ListN.{length};
 ghost use lib.IntN.{pos, natAbs};
 ghost use Rattle.scheme.specs.Units.{fieldOf};
 ghost use Rattle.scheme.specs.Accepted.{Shaped};
-ghost use Rattle.scheme.specs.Readings.{double, cornerBacked, isBacked, readingIn, kindOf, valueOf, lesser, greater, unitsOf};
-ghost use Rattle.scheme.specs.Promises.{Reads, ReadsKind, ReadsValue, Summarises};
+ghost use Rattle.scheme.specs.Readings.{double, cornerBacked, isBacked, readingIn, kindOf, valueOf};
+ghost use Rattle.scheme.specs.Promises.{Reads, ReadsKind, ReadsValue};
 ghost use Rattle.reading.specs.Backing.{allBacked};
-ghost use Rattle.reading.specs.Ends.{EndsTo, unitsBetween};
 use scheme::Reading;
-use scheme::Summary;
-use scheme::Units;
 
 // Neighbouring points are 64 position units apart.
 const STEP: u32 = 64;
 
-// The parts of a unit that a value is counted in, and an interpolation sum, whose shares are 4096 parts in all.
-const PARTS_OF_VALUE: u32 = 64;
-
+// The parts of a unit that an interpolation sum is counted in: those of a value, in shares of 4096 parts in all.
 const PARTS_OF_SUM: u32 = 262144;
 
 // n / d as a double.
-fn double(n: i64, d: u32) -> f64
+pub fn double(n: i64, d: u32) -> f64
     requires { ⌜ natAbs n ≤ 9007199254740992 ⌝ }
     ensures { λ r. ⌜ r ≡ double n d ⌝ }
 {
     (n as f64) / (d as f64)
 }
-
-// ---- the point reading
 
 // A corner with a share of a times b parts: a nonzero one needs a nonzero support byte.
 fn corner_backed(a: u32, b: u32, support: u8) -> bool
@@ -65,7 +58,7 @@ fn is_backed(support: &[u8], nx: usize, ny: usize, x: u32, y: u32) -> bool
     requires { ⌜ Shaped nx ny (length (now support)) × (x ≤ 64 * (nx - 1)) × (y ≤ 64 * (ny - 1)) ⌝ }
     ensures { λ r. ⌜ r ≡ isBacked nx ny (fieldOf 0 nx (now (support .entry))) x y ⌝ }
 {
-    let s = station::spot_of(nx, ny, x, y);
+    let s = interpolation::spot_of(nx, ny, x, y);
     let p = s.corner;
     all_backed(
         s.a,
@@ -87,7 +80,7 @@ fn reading_in(nx: usize, ny: usize, field: &[i32], support: &[u8], x: i32, y: i3
     }
     let px = x as u32;
     let py = y as u32;
-    let value = double(station::sum_at(field, nx, ny, px, py), PARTS_OF_SUM);
+    let value = double(interpolation::sum_at(field, nx, ny, px, py), PARTS_OF_SUM);
     if is_backed(support, nx, ny, px, py) {
         Reading::Backed(value)
     } else {
@@ -145,99 +138,4 @@ pub fn reading_value(nx: u32, ny: u32, field: &[i32], support: &[u8], x: i32, y:
     ensures { λ r. ⌜ ReadsValue nx ny (now (field .entry)) (now (support .entry)) x y r ⌝ }
 {
     value_of(reading(nx, ny, field, support, x, y))
-}
-
-// ---- the summary
-
-// The lowest and the highest value so far. They go from call to call in a struct, so that a loop's invariant speaks of numbers and not of
-// bits.
-struct Ends {
-    low: i32,
-    high: i32,
-}
-
-fn lesser(a: i32, b: i32) -> i32
-    ensures { λ r. ⌜ r ≡ lesser a b ⌝ }
-{
-    if a <= b { a } else { b }
-}
-
-fn greater(a: i32, b: i32) -> i32
-    ensures { λ r. ⌜ r ≡ greater a b ⌝ }
-{
-    if a <= b { b } else { a }
-}
-
-// The ends with one more value.
-fn widened(low: i32, high: i32, v: i32) -> Ends
-    ensures { λ r. ⌜ (r .low ≡ lesser low v) × (r .high ≡ greater high v) ⌝ }
-{
-    Ends {
-        low: lesser(low, v),
-        high: greater(high, v),
-    }
-}
-
-// The lowest and the highest value of a field.
-fn ends_of(field: &[i32]) -> Ends
-    requires { ⌜ 0 < length (now field) ⌝ }
-    ensures { λ r. ⌜ EndsTo (now (field .entry)) (length (now (field .entry))) (r .low) (r .high) ⌝ }
-{
-    let first = field[0];
-    let mut e = Ends {
-        low: first,
-        high: first,
-    };
-    let mut k: usize = 1;
-    while k < field.len() {
-        e = widened(e.low, e.high, field[k]);
-        k += 1;
-    }
-    e
-}
-
-// Lowest, highest and their span. The span is taken before anything becomes a double.
-fn units_between(low: i32, high: i32) -> Units
-    ensures { λ r. ⌜ r ≡ unitsBetween low high ⌝ }
-{
-    let l = low as i64;
-    let h = high as i64;
-    Units {
-        lowest: double(l, PARTS_OF_VALUE),
-        highest: double(h, PARTS_OF_VALUE),
-        span: double(h - l, PARTS_OF_VALUE),
-    }
-}
-
-// The three numbers of a whole field.
-fn units_of(field: &[i32]) -> Units
-    requires { ⌜ 0 < length (now field) ⌝ }
-    ensures { λ r. ⌜ r ≡ unitsOf (now (field .entry)) ⌝ }
-{
-    let e = ends_of(field);
-    units_between(e.low, e.high)
-}
-
-// The summary of any field of i32. A refused one holds three zeros.
-pub fn summary(nx: u32, ny: u32, field: &[i32]) -> Summary
-    ensures { λ r. ⌜ Summarises nx ny (now (field .entry)) r ⌝ }
-{
-    if shapes::shape_bad(nx as usize, ny as usize, field.len()) {
-        let units = Units {
-            lowest: 0.0,
-            highest: 0.0,
-            span: 0.0,
-        };
-        return Summary {
-            refusal: 1,
-            place: 0,
-            units,
-        };
-    }
-    let units = units_of(field);
-    Summary {
-        refusal: 0,
-        place: 0,
-        units,
-    }
 }

@@ -1,3 +1,2 @@
 -- What the code of a station computes, on plain values. Proved.
-pub mod Corners
 pub mod Judge

@@ -15,7 +15,7 @@ use Rattle.point.proofs.more.Statement.{statement}
 use Rattle.point.proofs.more.Tie as tie
 use Rattle.point.proofs.more.Reads as reads
 use Rattle.point.proofs.more.Lts as lts
-use Rattle.point.proofs.weight.Reads as weight-reads
+use Rattle.weight.proofs.weight.Reads as weight-reads
 
 module _ (c : lts.After-weight (weight-reads.Asked, weight-reads.Learnt) reads.Pre reads.Post) where
   abbrev s : lts.Start (weight-reads.Asked, weight-reads.Learnt) reads.Pre reads.Post

@@ -13,7 +13,7 @@ use Rattle.point.proofs.row_gap.Statement.{statement}
 use Rattle.point.proofs.row_gap.Tie as tie
 use Rattle.point.proofs.row_gap.Reads as reads
 use Rattle.point.proofs.row_gap.Lts as lts
-use Rattle.point.proofs.square_apart.Reads as square-apart-reads
+use Rattle.weight.proofs.square_apart.Reads as square-apart-reads
 
 -- where the grid row stands
 row-at : (s : lts.Start (square-apart-reads.Asked, square-apart-reads.Learnt) reads.Pre reads.Post) → toZ w32 (64 * s .args .j) ≡ pos (64 * s .args .j)

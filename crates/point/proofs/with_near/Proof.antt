@@ -15,7 +15,7 @@ use Rattle.point.proofs.with_near.Tie as tie
 use Rattle.point.proofs.with_near.Reads as reads
 use Rattle.point.proofs.with_near.Lts as lts
 use Rattle.point.proofs.more.Reads as more-reads
-use Rattle.point.proofs.squared_distance.Reads as squared-distance-reads
+use Rattle.weight.proofs.squared_distance.Reads as squared-distance-reads
 
 module _ (s : lts.Start (squared-distance-reads.Asked, squared-distance-reads.Learnt, more-reads.Asked, more-reads.Learnt) reads.Pre reads.Post) where
   here : Sized (s .args .lx .now) (s .args .ly .now) (s .args .ld .now) (s .args .t)
