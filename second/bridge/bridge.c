@@ -2,8 +2,8 @@
  * bridge.c: calls of the archive libclause.a, asked for on standard input and answered on standard output.
  *
  * The archive is x86-64 code and the second program runs on any processor, so the two meet over pipes. The other end is
- * second/src/bridge.rs. Every number is 32 bits, little-endian, as it lies in memory here. A column is its length and
- * then its numbers. A call is the number of its function and then what the function asks for:
+ * second/src/bridge.rs. A column is its length and then its numbers. A call is the number of its function and then what
+ * the function asks for:
  *
  *   0, greet     nothing. The answer is GREETING.
  *   1, analyse   whether empty slices get null; the byte that fills results and guards; nx, ny, scans, smooth, time,
@@ -19,12 +19,11 @@
  * Bit r of the flags is set where the archive wrote outside result r, and bit RESULTS + c where it changed column c.
  * The last three have no results, and bit c stands for column c: field, then support.
  */
+#include "ends.h"
 #include "sosnyavik.h"
 
-#include <stdio.h>
 #include <stdlib.h>
 #include <string.h>
-#include <sys/resource.h>
 
 enum function { GREET = 0, ANALYSE = 1, WINDOW = 2, KIND = 3, VALUE_AT = 4, SUMMARY = 5 };
 enum column_name { FIRST_GUESS, X, Y, VALUE, OBSERVED, FROM, UNTIL, RADIUS, LIMIT, COLUMNS };
@@ -72,24 +71,6 @@ static void *allocate(size_t size) {
         fail("out of memory");
     return block;
 }
-
-static void take(void *to, size_t size) {
-    if (fread(to, 1, size, stdin) != size)
-        fail("a call ends before all of it has come");
-}
-
-static uint32_t take_number(void) {
-    uint32_t number;
-    take(&number, sizeof number);
-    return number;
-}
-
-static void give(const void *from, size_t size) {
-    if (fwrite(from, 1, size, stdout) != size)
-        fail("an answer cannot be written");
-}
-
-static void give_number(uint32_t number) { give(&number, sizeof number); }
 
 static struct column take_column(size_t cell, bool null) {
     struct column column = {.length = take_number()};
@@ -278,14 +259,6 @@ static void answer_query(enum function function) {
     release_column(&q.support);
 }
 
-/* The number of the next call's function, unless the input ends before it. */
-static bool next_call(uint32_t *function) {
-    size_t size = fread(function, 1, sizeof *function, stdin);
-    if (size != 0 && size != sizeof *function)
-        fail("the input ends inside the number of a function");
-    return size != 0;
-}
-
 static void answer(uint32_t function) {
     switch (function) {
     case GREET:
@@ -304,21 +277,15 @@ static void answer(uint32_t function) {
         fail("a call names no function of the bridge");
     }
     /* Only now, after the blocks are freed: a heap that the archive damaged shows in the call that did it. */
-    if (fflush(stdout) != 0)
-        fail("an answer cannot be written");
-}
-
-/* The second program makes a crash small by many more crashes; each could leave a file behind. */
-static void leave_no_core_files(void) {
-    struct rlimit none = {0, 0};
-    if (setrlimit(RLIMIT_CORE, &none) != 0)
-        fail("core files cannot be turned off");
+    send_answer();
 }
 
 int main(void) {
     uint32_t function;
+    asked = stdin;
+    answered = stdout;
     leave_no_core_files();
-    while (next_call(&function))
+    while (next_request(&function))
         answer(function);
     return 0;
 }

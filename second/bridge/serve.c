@@ -3,20 +3,17 @@
  *
  * It is linked with the object of the program and the linker's option --wrap=main, so that it starts here. Each text
  * has a process of its own, as when the program is started anew, but an emulator need not load and translate it again.
- * The other end is second/src/serve.rs. Every number is 32 bits, little-endian, as it lies in memory here. A request is
- * a number and what belongs to it:
+ * The other end is second/src/serve.rs. A request is a number and what belongs to it:
  *
  *   0, greet     nothing. The answer is GREETING.
  *   1, run       the length of a text, and its bytes. The answer is how the process ended, as wait(2) has it; the
  *                length of its standard output, and its bytes; the length of its standard error, and its bytes.
  */
 #define _GNU_SOURCE
-#include <stdbool.h>
-#include <stdint.h>
-#include <stdio.h>
+#include "ends.h"
+
 #include <stdlib.h>
 #include <sys/mman.h>
-#include <sys/resource.h>
 #include <sys/wait.h>
 #include <unistd.h>
 
@@ -33,8 +30,8 @@ enum { LEARNT = 50 };
 int __real_main(int count, char **words);
 int __wrap_main(void);
 
-/* This process's own ends, moved away from 0, 1 and 2, where the program has its own. */
-static FILE *asked, *answered, *told;
+/* Where this process says what is wrong. Its own ends are moved away from 0, 1 and 2, where the program has its own. */
+static FILE *told;
 
 static _Noreturn void fail(const char *reason) {
     fprintf(told, "serve: %s\n", reason);
@@ -49,24 +46,6 @@ static FILE *moved(int end, const char *mode) {
         _exit(2);
     return stream;
 }
-
-static void take(void *to, size_t size) {
-    if (fread(to, 1, size, asked) != size)
-        fail("a request ends before all of it has come");
-}
-
-static uint32_t take_number(void) {
-    uint32_t number;
-    take(&number, sizeof number);
-    return number;
-}
-
-static void give(const void *from, size_t size) {
-    if (fwrite(from, 1, size, answered) != size)
-        fail("an answer cannot be written");
-}
-
-static void give_number(uint32_t number) { give(&number, sizeof number); }
 
 /* The three ends of the program are files in memory: a pipe would fill while nobody reads. */
 struct ends {
@@ -159,13 +138,6 @@ static void answer_run(void) {
     release_ends(&ends);
 }
 
-static bool next_request(uint32_t *request) {
-    size_t size = fread(request, 1, sizeof *request, asked);
-    if (size != 0 && size != sizeof *request)
-        fail("the input ends inside the number of a request");
-    return size != 0;
-}
-
 static void answer(uint32_t request) {
     switch (request) {
     case GREET:
@@ -178,15 +150,7 @@ static void answer(uint32_t request) {
         fail("a request has a number that means nothing");
     }
     /* Nothing is left in the stream when the next process is forked, which would have a copy of it. */
-    if (fflush(answered) != 0)
-        fail("an answer cannot be written");
-}
-
-/* The second program makes a crash small by many more crashes; each could leave a file behind. */
-static void leave_no_core_files(void) {
-    struct rlimit none = {0, 0};
-    if (setrlimit(RLIMIT_CORE, &none) != 0)
-        fail("core files cannot be turned off");
+    send_answer();
 }
 
 int __wrap_main(void) {
