@@ -1,12 +1,15 @@
 -- The first bad place of a search.
 use Prim.Native.Nat.{ℕ, zero, suc, _+_, _≤_, _<_}
 use native.Mathlib.Omega.{arith}
-use mathlib.Core.Path.{_≡_, refl, sym}
+use mathlib.Core.Path.{_≡_, refl, sym, ap, _∙_}
 use mathlib.Core.Logic.{_⊎_, inl, inr}
 use mathlib.Core.Bool.{Bool, true, false, cond}
+use mathlib.Core.List.{List, [], _∷_}
 use borrow.Author.Tests.{lt-ltb, le-ltb}
 use lib.Dec.{ltb}
+use lib.ListN.{length, getD}
 use Rattle.lists.specs.Tests.{lt-or-le, true-or-false}
+use Rattle.lists.specs.Tab.{tab, length-tab, getD-tab}
 
 pub data Found : Type 0 where
   nowhere : Found
@@ -21,6 +24,14 @@ orNext (at k) next = at k
 unfoldable pub first : ℕ → (ℕ → Bool) → Found
 first zero bad = nowhere
 first (suc n) bad = orNext (first n bad) (cond (bad n) (at n) nowhere)
+
+-- the first bad element of a list, whose own first stands at k; and of a whole list
+unfoldable pub firstFrom : {A : Type 0} → ℕ → (A → Bool) → List A → Found
+firstFrom k bad [] = nowhere
+firstFrom k bad (a ∷ l) = cond (bad a) (at k) (firstFrom (suc k) bad l)
+
+abbrev pub firstIn : {A : Type 0} → (A → Bool) → List A → Found
+firstIn bad l = firstFrom 0 bad l
 
 -- a search over n places that ends at r: there, or past them all
 abbrev pub ended : ℕ → ℕ → Found
@@ -96,3 +107,48 @@ ends-at n bad k h g b = rw (lt-ltb k n h) (sym (bad-first n bad k (record { insi
 
 pub ends-past : (n : ℕ) (bad : ℕ → Bool) (k : ℕ) → n ≤ k → Good n bad → ended n k ≡ first n bad
 ends-past n bad k h g = rw (le-ltb k n h) (sym (good-first n bad g))
+
+-- ---- a search of a list is one of its places
+
+module _ {A : Type 0} (bad : A → Bool) (o : A) where
+  abbrev badAt : List A → ℕ → Bool
+  badAt l k = bad (getD l k o)
+
+  from-good : (l : List A) (k : ℕ) → Good (length l) (badAt l) → firstFrom k bad l ≡ nowhere
+  unfolding firstFrom
+  from-good [] k g = refl
+  from-good (a ∷ l) k g = let e : bad a ≡ false = g 0 (omega arith) in rw e (from-good l (suc k) (λ i h. g (suc i) (omega arith)))
+
+  from-bad : (l : List A) (k i : ℕ) → FirstAt (length l) (badAt l) i → firstFrom k bad l ≡ at (k + i)
+  unfolding firstFrom
+  from-bad [] k i f = absurd (omega (arith, f .inside))
+  from-bad (a ∷ l) k zero f = let e : bad a ≡ true = f .here in let n : k ≡ k + 0 = omega arith in rw e (ap at n)
+  from-bad (a ∷ l) k (suc i) f =
+      let e : bad a ≡ false = f .before 0 (omega arith) in
+      let n : suc k + i ≡ k + suc i = omega arith in
+      rw e (from-bad l (suc k) i (record { inside = omega (arith, f .inside); here = f .here; before = λ m h. f .before (suc m) (omega arith) }) ∙ ap at n)
+
+  pub in-places : (l : List A) → firstIn bad l ≡ first (length l) (badAt l)
+  in-places l = go (search (length l) (badAt l))
+    where
+      go : Search (length l) (badAt l) → firstIn bad l ≡ first (length l) (badAt l)
+      go (all-good e g) = from-good l 0 g ∙ sym e
+      go (bad-at k e f) = from-bad l 0 k f ∙ ap at (let n : 0 + k ≡ k = omega arith in n) ∙ sym e
+
+pub first-same : (n : ℕ) (p q : ℕ → Bool) → ((k : ℕ) → k < n → p k ≡ q k) → first n p ≡ first n q
+unfolding first
+first-same zero p q h = refl
+first-same (suc n) p q h = rw (first-same n p q (λ k l. h k (omega arith)), h n (omega arith))
+
+pub in-table : {A : Type 0} (bad : A → Bool) (n : ℕ) (f : ℕ → A) → firstIn bad (tab n f) ≡ first n (λ k. bad (f k))
+in-table bad n f =
+    in-places bad (f 0) (tab n f)
+    ∙ ap (λ (m : ℕ). first m (λ k. bad (getD (tab n f) k (f 0)))) (length-tab n f)
+    ∙ first-same n (λ k. bad (getD (tab n f) k (f 0))) (λ k. bad (f k)) (λ k h. ap bad (getD-tab n f k (f 0) h))
+
+-- no element is bad
+pub none-bad : {A : Type 0} (bad : A → Bool) (o : A) (l : List A) → firstIn bad l ≡ nowhere → (k : ℕ) → k < length l → bad (getD l k o) ≡ false
+none-bad bad o l e = first-good (length l) (λ k. bad (getD l k o)) (sym (in-places bad o l) ∙ e)
+
+pub all-fine : {A : Type 0} (bad : A → Bool) (o : A) (l : List A) → ((k : ℕ) → k < length l → bad (getD l k o) ≡ false) → firstIn bad l ≡ nowhere
+all-fine bad o l g = in-places bad o l ∙ good-first (length l) (λ k. bad (getD l k o)) g

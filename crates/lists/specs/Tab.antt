@@ -27,6 +27,12 @@ module _ {A : Type 0} where
   getD-tab (suc n) f zero o h = refl
   getD-tab (suc n) f (suc k) o h = getD-tab n (λ i. f (suc i)) k o (le-of-suc-le-suc h)
 
+  -- inside a list nothing past its end is seen
+  pub getD-any : (l : List A) (k : ℕ) (o o' : A) → k < length l → getD l k o ≡ getD l k o'
+  getD-any [] k o o' h = absurd (omega arith)
+  getD-any (a ∷ l) zero o o' h = refl
+  getD-any (a ∷ l) (suc k) o o' h = getD-any l k o o' (le-of-suc-le-suc h)
+
   -- a list is the table of its elements
   pub tab-getD : (l : List A) (o : A) → tab (length l) (λ k. getD l k o) ≡ l
   unfolding tab

@@ -10,10 +10,11 @@ use lib.ListN.{length, getD}
 use lib.IntN.{ℤ, pos, negsuc, natAbs}
 use lib.Signed.{leZ, ltZ}
 use Rattle.lists.specs.Tests.{and-true, or-false, not-both}
-use Rattle.lists.specs.First.{Found, nowhere, at, first-good, good-first}
+use Rattle.lists.specs.First.{Found, nowhere, at, first-good, good-first, firstIn, none-bad, all-fine}
 use Rattle.lists.specs.Members.{All, none, more}
-use Rattle.scheme.specs.Units.{Request, Columns, Station, stationAt, among, sideInRange, mostValue, mostPosition, isMissing, mostStations, mostScans, mostRadius, mostLimit, R, E}
-use Rattle.scheme.specs.Refusals.{Refusal, accepted, refused, inOrder, refusedIf, refusedAt, Lengths, Window, badShape, pointsOf, badWindow, badLengths, badWindowLengths, badColumns, badScans, rising, badScan, badGuess, badStation, fromFour, analysisRefusal, windowRefusal, rightLengths}
+use Rattle.lists.specs.Tab.{length-tab, getD-tab}
+use Rattle.scheme.specs.Units.{among, within, mostValue, isMissing, leastSide, mostSide, mostStations, Station, mostPosition, Columns, stationAt, stationsOf, mostScans, mostRadius, mostLimit, Plan, R, E, Request, Call, asked}
+use Rattle.scheme.specs.Refusals.{Refusal, accepted, refused, inOrder, refusedIf, refusedAt, badShape, Span, Window, badSpan, badWindow, pointsAlong, badLengths, badColumns, badScans, rising, badScan, badGuess, badStation, fromFive, analysisRefusal, windowRefusal}
 
 -- ---- lists of tests
 
@@ -47,8 +48,8 @@ pub same-shape : {nx ny n : ℕ} → Shaped nx ny n → (m : ℕ) → m ≡ nx *
 same-shape h m e =
     record { two-columns = h .two-columns; few-columns = h .few-columns; two-rows = h .two-rows; few-rows = h .few-rows; whole = e }
 
-side : (n : ℕ) → not (sideInRange n) ≡ false → (2 ≤ n) × (n ≤ 64)
-side n e = let (p, r) = and-true _ _ (not-false _ e) in (leb-true 2 n p, leb-true n 64 r)
+side : (n : ℕ) → not (among leastSide mostSide n) ≡ false → (2 ≤ n) × (n ≤ 64)
+side n e = let (p, r) = and-true _ _ (not-false _ e) in (leb-true leastSide n p, leb-true n mostSide r)
 
 pub shaped : (nx ny len : ℕ) → badShape nx ny len ≡ false → Shaped nx ny len
 unfolding badShape
@@ -105,30 +106,30 @@ natural low high (pos n) e =
     (refl, leb-true low n p, leb-true n high r)
 natural low high (negsuc n) e = absurd (not-both e)
 
-pub record Scanned (q : Request) (m : ℕ) : Type 0 where
-  pub radius-is : getD (q .radius) m (pos 0) ≡ pos (R q m)
-  pub radius-some : 1 ≤ R q m
-  pub radius-most : R q m ≤ mostRadius
-  pub not-rising : rising q m ≡ false
-  pub limit-is : getD (q .limit) m (pos 0) ≡ pos (E q m)
-  pub limit-most : E q m ≤ mostLimit
+pub record Scanned (p : Plan) (m : ℕ) : Type 0 where
+  pub radius-is : getD (p .radius) m (pos 0) ≡ pos (R p m)
+  pub radius-some : 1 ≤ R p m
+  pub radius-most : R p m ≤ mostRadius
+  pub not-rising : rising p m ≡ false
+  pub limit-is : getD (p .limit) m (pos 0) ≡ pos (E p m)
+  pub limit-most : E p m ≤ mostLimit
 
-pub scanned : (q : Request) (m : ℕ) → badScan q m ≡ false → Scanned q m
+pub scanned : (p : Plan) (m : ℕ) → badScan p m ≡ false → Scanned p m
 unfolding badScan R E
-scanned q m e =
+scanned p m e =
     let (e1, c) = or-false _ _ e in
     let (a, b) = or-false _ _ e1 in
-    let (r, r1, r2) = natural 1 mostRadius (getD (q .radius) m (pos 0)) a in
-    let (l, l1, l2) = natural 0 mostLimit (getD (q .limit) m (pos 0)) c in
+    let (r, r1, r2) = natural 1 mostRadius (getD (p .radius) m (pos 0)) a in
+    let (l, l1, l2) = natural 0 mostLimit (getD (p .limit) m (pos 0)) c in
     record { radius-is = r; radius-some = r1; radius-most = r2; not-rising = b; limit-is = l; limit-most = l2 }
 
 -- radii do not rise
-pub fallen : (q : Request) (m : ℕ) → badScan q m ≡ false → badScan q (suc m) ≡ false → R q (suc m) ≤ R q m
+pub fallen : (p : Plan) (m : ℕ) → badScan p m ≡ false → badScan p (suc m) ≡ false → R p (suc m) ≤ R p m
 unfolding rising
-fallen q m e f = go (scanned q m e .radius-is) (scanned q (suc m) f .radius-is) (scanned q (suc m) f .not-rising)
+fallen p m e f = go (scanned p m e .radius-is) (scanned p (suc m) f .radius-is) (scanned p (suc m) f .not-rising)
   where
     go : {a b : ℤ} {r s : ℕ} → a ≡ pos r → b ≡ pos s → ltZ a b ≡ false → s ≤ r
-    go {r = r} {s = s} p t h = ltb-false r s (rw (p, t) at h)
+    go {r = r} {s = s} u t h = ltb-false r s (rw (u, t) at h)
 
 -- ---- 8: a station
 
@@ -155,101 +156,173 @@ stationed s e =
     there true v e h = absurd (not-both h)
     there false v e h = e
 
--- ---- a request with none of the faults 1 and 4 to 8
+-- ---- a plan, a request and a call with none of the faults
+
+pub record Planned (p : Plan) : Type 0 where
+  pub scans-some : 1 ≤ p .scans
+  pub scans-few : p .scans ≤ mostScans
+  pub radii : p .scans ≤ length (p .radius)
+  pub limits : p .scans ≤ length (p .limit)
+  pub scan : (m : ℕ) → m < p .scans → Scanned p m
+  pub falls : (m : ℕ) → suc m < p .scans → R p (suc m) ≤ R p m
+
+-- where there is no row
+abbrev pub noStation : Station
+noStation = record { x = pos 0; y = pos 0; value = pos 0; observed = 0; from = 0; until = 0 }
 
 pub record Sound (q : Request) : Type 0 where
   pub shape : Shaped (q .nx) (q .ny) (length (q .firstGuess))
-  pub columns : Equal (q .columns)
-  pub scans-some : 1 ≤ q .scans
-  pub scans-few : q .scans ≤ mostScans
-  pub radii : q .scans ≤ length (q .radius)
-  pub limits : q .scans ≤ length (q .limit)
-  pub plan : (m : ℕ) → m < q .scans → Scanned q m
-  pub falls : (m : ℕ) → suc m < q .scans → R q (suc m) ≤ R q m
+  pub few-stations : length (q .stations) ≤ mostStations
+  pub plan : Planned (q .plan)
   pub first-guess : (k : ℕ) → k < length (q .firstGuess) → natAbs (getD (q .firstGuess) k (pos 0)) ≤ mostValue
-  pub stations : (k : ℕ) → k < length (q .columns .x) → Stationed (stationAt (q .columns) k)
+  pub stations : (k : ℕ) → k < length (q .stations) → Stationed (getD (q .stations) k noStation)
 
-sound : (q : Request) → badShape (q .nx) (q .ny) (length (q .firstGuess)) ≡ false → All (λ r. r ≡ accepted) (fromFour q) → Sound q
-unfolding fromFour badScans badGuess
-sound q one (more four (more five (more six (more seven (more eight none))))) =
-    let (some, few, radii, limits) = scans-fit (q .scans) (length (q .radius)) (length (q .limit)) (not-refused 5 _ five) in
-    let plan = first-good (q .scans) (badScan q) (nowhere-refused 6 _ six) in
-    let values = first-good (length (q .firstGuess)) (badGuess q) (nowhere-refused 7 _ seven) in
-    let rows = first-good (length (q .columns .x)) (λ k. badStation (stationAt (q .columns) k)) (nowhere-refused 8 _ eight) in
+pub record SoundCall (c : Call) : Type 0 where
+  pub request : Sound (asked c)
+  pub columns : Equal (c .columns)
+  pub stations : (k : ℕ) → k < length (c .columns .x) → Stationed (stationAt (c .columns) k)
+
+-- the rows of a station list are those of its columns
+pub rows-of : (c : Columns) → length (stationsOf c) ≡ length (c .x)
+unfolding stationsOf
+rows-of c = length-tab (length (c .x)) (stationAt c)
+
+pub row-of : (c : Columns) (k : ℕ) (o : Station) → k < length (c .x) → getD (stationsOf c) k o ≡ stationAt c k
+unfolding stationsOf
+row-of c k o l = getD-tab (length (c .x)) (stationAt c) k o l
+
+planned : (p : Plan) → badScans p ≡ false → ((m : ℕ) → m < p .scans → badScan p m ≡ false) → Planned p
+unfolding badScans
+planned p five plan =
+    let (some, few, radii, limits) = scans-fit (p .scans) (length (p .radius)) (length (p .limit)) five in
     record {
-      shape = shaped _ _ _ one;
-      columns = equal _ (not-refused 4 _ four);
       scans-some = some;
       scans-few = few;
       radii = radii;
       limits = limits;
-      plan = λ m h. scanned q m (plan m h);
-      falls = λ m h. fallen q m (plan m (omega arith)) (plan (suc m) h);
-      first-guess = λ k h. leb-true _ _ (not-false _ (values k h));
-      stations = λ k h. stationed (stationAt (q .columns) k) (rows k h);
+      scan = λ m h. scanned p m (plan m h);
+      falls = λ m h. fallen p m (plan m (omega arith)) (plan (suc m) h);
     }
 
-pub analysis-sound : (q : Request) (l : Lengths) → analysisRefusal q l ≡ accepted → Sound q
-unfolding analysisRefusal
-analysis-sound q l e = go (all-accepted _ e)
-  where
-    go : All (λ r. r ≡ accepted) (refusedIf 1 (badShape (q .nx) (q .ny) (length (q .firstGuess))) ∷ refusedIf 3 (badLengths q l) ∷ fromFour q) → Sound q
-    go (more one (more three rest)) = sound q (not-refused 1 _ one) rest
+-- from the rows of the table that are left when the shape and the number of stations are right
+pub sound : (q : Request) → badShape (q .nx) (q .ny) (length (q .firstGuess)) ≡ false → length (q .stations) ≤ mostStations
+    → All (λ r. r ≡ accepted) (fromFive q) → Sound q
+unfolding fromFive badGuess
+sound q one few (more five (more six (more seven (more eight none)))) =
+    record {
+      shape = shaped _ _ _ one;
+      few-stations = few;
+      plan = planned (q .plan) (not-refused 5 _ five) (first-good (q .plan .scans) (badScan (q .plan)) (nowhere-refused 6 _ six));
+      first-guess = λ k h. leb-true _ _ (not-false _ (none-bad badGuess (pos 0) (q .firstGuess) (nowhere-refused 7 _ seven) k h));
+      stations = λ k h. stationed _ (none-bad badStation noStation (q .stations) (nowhere-refused 8 _ eight) k h);
+    }
 
-pub window-sound : (q : Request) (w : Window) (grid support : ℕ) → windowRefusal q w grid support ≡ accepted → Sound q
-unfolding windowRefusal
-window-sound q w grid support e = go (all-accepted _ e)
+sound-call : (c : Call) → badShape (c .nx) (c .ny) (length (c .firstGuess)) ≡ false → badColumns (c .columns) ≡ false
+    → All (λ r. r ≡ accepted) (fromFive (asked c)) → SoundCall c
+sound-call c one four rest =
+    let columns = equal (c .columns) four in
+    let s = sound (asked c) one (omega (arith, rows-of (c .columns), columns .few)) rest in
+    record {
+      request = s;
+      columns = columns;
+      stations = λ k h. rw (← row-of (c .columns) k noStation h) (s .stations k (omega (arith, rows-of (c .columns))));
+    }
+
+-- the first rows of the table, as the two calls have them
+abbrev analysisRows : Call → (grid support verdict : ℕ) → List Refusal
+analysisRows c grid support verdict =
+    refusedIf 1 (badShape (c .nx) (c .ny) (length (c .firstGuess)))
+    ∷ refusedIf 3 (badLengths (c .nx * c .ny) grid support || not (eqb verdict (length (c .columns .x))))
+    ∷ refusedIf 4 (badColumns (c .columns))
+    ∷ fromFive (asked c)
+
+abbrev windowRows : Call → Window → (grid support : ℕ) → List Refusal
+windowRows c w grid support =
+    refusedIf 1 (badShape (c .nx) (c .ny) (length (c .firstGuess)))
+    ∷ refusedIf 2 (badWindow (c .nx) (c .ny) w)
+    ∷ refusedIf 3 (badLengths (pointsAlong (w .columns) * pointsAlong (w .rows)) grid support)
+    ∷ refusedIf 4 (badColumns (c .columns))
+    ∷ fromFive (asked c)
+
+-- results of the right length
+long : (points grid support : ℕ) → badLengths points grid support ≡ false → (grid ≡ points) × (support ≡ points)
+unfolding badLengths
+long points grid support e = let (g, s) = or-false _ _ e in (same _ _ g, same _ _ s)
+
+pub record CallAccepted (c : Call) (grid support verdict : ℕ) : Type 0 where
+  pub sound : SoundCall c
+  pub grid-long : grid ≡ c .nx * c .ny
+  pub support-long : support ≡ c .nx * c .ny
+  pub verdict-long : verdict ≡ length (c .columns .x)
+
+pub analysis-accepted : (c : Call) (grid support verdict : ℕ) → analysisRefusal c grid support verdict ≡ accepted → CallAccepted c grid support verdict
+unfolding analysisRefusal
+analysis-accepted c grid support verdict e = go (all-accepted _ e)
   where
-    go : All (λ r. r ≡ accepted) (refusedIf 1 (badShape (q .nx) (q .ny) (length (q .firstGuess))) ∷ refusedIf 2 (badWindow q w) ∷ refusedIf 3 (badWindowLengths w grid support) ∷ fromFour q) → Sound q
-    go (more one (more two (more three rest))) = sound q (not-refused 1 _ one) rest
+    go : All (λ r. r ≡ accepted) (analysisRows c grid support verdict) → CallAccepted c grid support verdict
+    go (more one (more three (more four rest))) =
+        let (l, v) = or-false _ _ (not-refused 3 _ three) in
+        let (g, s) = long _ _ _ l in
+        record {
+          sound = sound-call c (not-refused 1 _ one) (not-refused 4 _ four) rest;
+          grid-long = g;
+          support-long = s;
+          verdict-long = same _ _ v;
+        }
+
+pub analysis-sound : (c : Call) (grid support verdict : ℕ) → analysisRefusal c grid support verdict ≡ accepted → Sound (asked c)
+analysis-sound c grid support verdict e = analysis-accepted c grid support verdict e .sound .request
 
 -- ---- 2 and 3: the window is on the grid, and its results are as long as it is
 
-pub record OnGrid (q : Request) (w : Window) : Type 0 where
-  pub across : w .left ≤ w .right
-  pub down : w .top ≤ w .bottom
-  pub right : w .right < q .nx
-  pub bottom : w .bottom < q .ny
+pub record OnGrid (nx ny : ℕ) (w : Window) : Type 0 where
+  pub across : w .columns .first ≤ w .columns .last
+  pub down : w .rows .first ≤ w .rows .last
+  pub right : w .columns .last < nx
+  pub bottom : w .rows .last < ny
 
-pub on-grid : (q : Request) (w : Window) → badWindow q w ≡ false → OnGrid q w
+on-axis : (n : ℕ) (s : Span) → badSpan n s ≡ false → (s .first ≤ s .last) × (s .last < n)
+on-axis n s e = let (a, b) = or-false _ _ e in (ltb-false (s .last) (s .first) a, leb-false n (s .last) b)
+
+pub on-grid : (nx ny : ℕ) (w : Window) → badWindow nx ny w ≡ false → OnGrid nx ny w
 unfolding badWindow
-on-grid q w e =
-    let (e1, d) = or-false _ _ e in
-    let (e2, c) = or-false _ _ e1 in
-    let (a, b) = or-false _ _ e2 in
-    record {
-      across = ltb-false (w .right) (w .left) a;
-      down = ltb-false (w .bottom) (w .top) b;
-      right = leb-false (q .nx) (w .right) c;
-      bottom = leb-false (q .ny) (w .bottom) d;
-    }
+on-grid nx ny w e =
+    let (a, b) = or-false _ _ e in
+    let (across, right) = on-axis nx (w .columns) a in
+    let (down, bottom) = on-axis ny (w .rows) b in
+    record { across = across; down = down; right = right; bottom = bottom }
 
-pub window-on-grid : (q : Request) (w : Window) (grid support : ℕ) → windowRefusal q w grid support ≡ accepted
-    → OnGrid q w × (grid ≡ pointsOf w) × (support ≡ pointsOf w)
-unfolding windowRefusal badWindowLengths
-window-on-grid q w grid support e = go (all-accepted _ e)
+pub record QueryAccepted (c : Call) (w : Window) (grid support : ℕ) : Type 0 where
+  pub sound : SoundCall c
+  pub on-grid : OnGrid (c .nx) (c .ny) w
+  pub grid-long : grid ≡ pointsAlong (w .columns) * pointsAlong (w .rows)
+  pub support-long : support ≡ pointsAlong (w .columns) * pointsAlong (w .rows)
+
+pub window-accepted : (c : Call) (w : Window) (grid support : ℕ) → windowRefusal c w grid support ≡ accepted → QueryAccepted c w grid support
+unfolding windowRefusal
+window-accepted c w grid support e = go (all-accepted _ e)
   where
-    go : All (λ r. r ≡ accepted) (refusedIf 1 (badShape (q .nx) (q .ny) (length (q .firstGuess))) ∷ refusedIf 2 (badWindow q w) ∷ refusedIf 3 (badWindowLengths w grid support) ∷ fromFour q)
-        → OnGrid q w × (grid ≡ pointsOf w) × (support ≡ pointsOf w)
-    go (more one (more two (more three rest))) =
-        let (g, s) = or-false _ _ (not-refused 3 _ three) in
-        (on-grid q w (not-refused 2 _ two), eqb-true _ _ (not-false _ g), eqb-true _ _ (not-false _ s))
+    go : All (λ r. r ≡ accepted) (windowRows c w grid support) → QueryAccepted c w grid support
+    go (more one (more two (more three (more four rest)))) =
+        let (g, s) = long _ _ _ (not-refused 3 _ three) in
+        record {
+          sound = sound-call c (not-refused 1 _ one) (not-refused 4 _ four) rest;
+          on-grid = on-grid _ _ w (not-refused 2 _ two);
+          grid-long = g;
+          support-long = s;
+        }
 
--- ---- and back: no test refuses a sound request
+-- ---- and back: no test refuses a sound call
 
-side-good : (n : ℕ) → 2 ≤ n → n ≤ 64 → sideInRange n ≡ true
-side-good n h k = rw (le-leb 2 n h, le-leb n 64 k)
+side-good : (n : ℕ) → leastSide ≤ n → n ≤ mostSide → among leastSide mostSide n ≡ true
+side-good n h k = rw (le-leb leastSide n h, le-leb n mostSide k)
 
-shape-good : {nx ny len : ℕ} → Shaped nx ny len → badShape nx ny len ≡ false
+pub shape-good : {nx ny len : ℕ} → Shaped nx ny len → badShape nx ny len ≡ false
 unfolding badShape
 shape-good {nx} {ny} {len} s =
     rw (side-good nx (s .two-columns) (s .few-columns), side-good ny (s .two-rows) (s .few-rows), eq-eqb len (nx * ny) (s .whole))
 
-lengths-good : (q : Request) → badLengths q (rightLengths q) ≡ false
-unfolding badLengths
-lengths-good q = rw (eq-eqb (q .nx * q .ny) (q .nx * q .ny) refl, eq-eqb (length (q .columns .x)) (length (q .columns .x)) refl)
-
-columns-good : (c : Columns) → Equal c → badColumns c ≡ false
+pub columns-good : (c : Columns) → Equal c → badColumns c ≡ false
 unfolding badColumns
 columns-good c e =
     rw (
@@ -261,10 +334,14 @@ columns-good c e =
       le-ltb mostStations (length (c .x)) (e .few),
     )
 
-scan-good : (q : Request) (m : ℕ) → Scanned q m → badScan q m ≡ false
+pub lengths-good : (points grid support : ℕ) → grid ≡ points → support ≡ points → badLengths points grid support ≡ false
+unfolding badLengths
+lengths-good points grid support g s = rw (eq-eqb grid points g, eq-eqb support points s)
+
+scan-good : (p : Plan) (m : ℕ) → Scanned p m → badScan p m ≡ false
 unfolding badScan
-scan-good q m s =
-    rw (s .radius-is, s .limit-is, s .not-rising, le-leb 0 (E q m) (omega arith), le-leb 1 (R q m) (s .radius-some), le-leb (R q m) mostRadius (s .radius-most), le-leb (E q m) mostLimit (s .limit-most))
+scan-good p m s =
+    rw (s .radius-is, s .limit-is, s .not-rising, le-leb 0 (E p m) (omega arith), le-leb 1 (R p m) (s .radius-some), le-leb (R p m) mostRadius (s .radius-most), le-leb (E p m) mostLimit (s .limit-most))
 
 station-good : (s : Station) → Stationed s → badStation s ≡ false
 unfolding badStation
@@ -272,22 +349,19 @@ station-good s t =
     rw (le-leb (natAbs (s .x)) mostPosition (t .x), le-leb (natAbs (s .y)) mostPosition (t .y), lt-leb (s .until) (s .from) (t .served))
     (go (isMissing (s .value)) (t .value))
   where
-    go : (m : Bool) → (m ≡ false → natAbs (s .value) ≤ mostValue) → (not m && not (leb (natAbs (s .value)) mostValue)) || false || false || false ≡ false
+    go : (m : Bool) → (m ≡ false → natAbs (s .value) ≤ mostValue) → (not m && not (within mostValue (s .value))) || false || false || false ≡ false
     go true f = refl
     go false f = rw (le-leb (natAbs (s .value)) mostValue (f refl))
 
-pub sound-accepted : (q : Request) → Sound q → analysisRefusal q (rightLengths q) ≡ accepted
-unfolding analysisRefusal fromFour inOrder refusedIf refusedAt badScans
-sound-accepted q s =
+pub request-good : (q : Request) → Sound q → inOrder (fromFive q) ≡ accepted
+unfolding fromFive inOrder refusedIf refusedAt badScans
+request-good q s =
     rw (
-      shape-good (s .shape),
-      lengths-good q,
-      columns-good (q .columns) (s .columns),
-      le-leb 1 (q .scans) (s .scans-some),
-      le-leb (q .scans) mostScans (s .scans-few),
-      le-ltb (length (q .radius)) (q .scans) (s .radii),
-      le-ltb (length (q .limit)) (q .scans) (s .limits),
-      good-first (q .scans) (badScan q) (λ m h. scan-good q m (s .plan m h)),
-      good-first (length (q .firstGuess)) (badGuess q) (λ k h. unfold badGuess in rw (le-leb _ mostValue (s .first-guess k h))),
-      good-first (length (q .columns .x)) (λ k. badStation (stationAt (q .columns) k)) (λ k h. station-good _ (s .stations k h)),
+      le-leb 1 (q .plan .scans) (s .plan .scans-some),
+      le-leb (q .plan .scans) mostScans (s .plan .scans-few),
+      le-ltb (length (q .plan .radius)) (q .plan .scans) (s .plan .radii),
+      le-ltb (length (q .plan .limit)) (q .plan .scans) (s .plan .limits),
+      good-first (q .plan .scans) (badScan (q .plan)) (λ m h. scan-good (q .plan) m (s .plan .scan m h)),
+      all-fine badGuess (pos 0) (q .firstGuess) (λ k h. unfold badGuess in rw (le-leb _ mostValue (s .first-guess k h))),
+      all-fine badStation noStation (q .stations) (λ k h. station-good _ (s .stations k h)),
     )

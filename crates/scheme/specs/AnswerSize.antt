@@ -9,10 +9,9 @@ use lib.Dec.{ltb}
 use lib.ListN.{length, take, drop, length-append, length-take, length-map}
 use lib.IntN.{ℤ, natAbs}
 use Rattle.lists.specs.Tests.{cond-both}
-use Rattle.lists.specs.Tab.{length-tab}
 use Rattle.lists.specs.Members.{All, none, more, all-map, all-of, all-take, all-drop, all-tab}
-use Rattle.scheme.specs.Units.{Request, Station, stored, stationAt, stations, E}
-use Rattle.scheme.specs.Refusals.{accepted, Lengths, analysisRefusal}
+use Rattle.scheme.specs.Units.{Station, stored, E, Request, Call, asked}
+use Rattle.scheme.specs.Refusals.{accepted, analysisRefusal}
 use Rattle.scheme.specs.Verdicts.{isAccepted, firstThatFits, beforeScans}
 use Rattle.scheme.specs.Difference.{Row, afterTest, judged}
 use Rattle.scheme.specs.Scan.{State, start, rowsJudged, scan, after, analysis}
@@ -20,6 +19,7 @@ use Rattle.scheme.specs.Text.{firstTwo, analysisText}
 use Rattle.scheme.specs.Text.Pieces.{ascii}
 use Rattle.scheme.specs.Text.Printed.{spelled, decimal, integer, mark, cells, keyed, gridLines}
 use Rattle.scheme.specs.Accepted.{Sound, analysis-sound}
+use Rattle.scheme.specs.Lengths.{verdict-long}
 use Rattle.scheme.specs.Bounds.{fields-stay-within}
 use Rattle.scheme.specs.Support.{support-small}
 use Rattle.scheme.specs.Decimals.{decimal-length, integer-length}
@@ -40,34 +40,22 @@ abbrev Small : Row → Type 0
 Small r = r .verdict ≤ 16
 
 module _ (q : Request) where
-  before-small : (s : Station) → beforeScans q s ≤ 16
+  before-small : (s : Station) → beforeScans (q .nx) (q .ny) (q .T) (q .A) s ≤ 16
   unfolding beforeScans
   before-small s = fits-small 16 (more (omega arith) (more (omega arith) (more (omega arith) (more (omega arith) (more (omega arith) none)))))
 
   first-small : All Small (start q .rows)
   unfolding start
-  first-small = all-map (λ s. beforeScans q s ≤ 16) Small _ (λ s h. h) (all-of _ before-small (stations q))
+  first-small = all-map (λ s. beforeScans (q .nx) (q .ny) (q .T) (q .A) s ≤ 16) Small _ (λ s h. h) (all-of _ before-small (q .stations))
 
   scan-small : (m : ℕ) (found : State) → m < 6 → All Small (found .rows) → All Small (scan q m found .rows)
   unfolding scan rowsJudged judged
-  scan-small m found h r = all-map Small Small _ (λ o k. test-small (m + 1) (E q m) _ (o .verdict) (omega arith) k) r
+  scan-small m found h r = all-map Small Small _ (λ o k. test-small (m + 1) (E (q .plan) m) _ (o .verdict) (omega arith) k) r
 
   verdicts-small : (m : ℕ) → m ≤ 6 → All Small (after q m .rows)
   unfolding after
   verdicts-small zero h = first-small
   verdicts-small (suc m) h = scan-small m (after q m) h (verdicts-small m (omega arith))
-
-  -- a row for each station
-  scan-rows : (m : ℕ) (found : State) → length (scan q m found .rows) ≡ length (found .rows)
-  unfolding scan rowsJudged
-  scan-rows m found = length-map (found .rows) (judged q m (found .field))
-
-  rows-many : (m : ℕ) → length (after q m .rows) ≡ length (q .columns .x)
-  unfolding after start stations
-  rows-many zero =
-      length-map (stations q) (λ (s : Station). record { station = s; verdict = beforeScans q s })
-      ∙ length-tab (length (q .columns .x)) (stationAt (q .columns))
-  rows-many (suc m) = scan-rows m (after q m) ∙ rows-many m
 
 -- ---- the lengths of lines
 
@@ -114,21 +102,17 @@ module _ (q : Request) (sound : Sound q) where
   unfolding analysis stored
   grid-shows =
       all-tab (λ z. length (integer z) ≤ 9) (q .nx * q .ny) _
-      (λ k. integer-length 7 _ (omega (arith, fields-stay-within q sound (q .scans) (omega arith) (k % q .nx) (k / q .nx))))
+      (λ k. integer-length 7 _ (omega (arith, fields-stay-within q sound (q .plan .scans) (omega arith) (k % q .nx) (k / q .nx))))
 
   support-shows : All (λ n. length (decimal n) ≤ 2) (analysis q .support)
   unfolding analysis stored
   support-shows =
       all-tab (λ n. length (decimal n) ≤ 2) (q .nx * q .ny) _
-      (λ k. decimal-length 1 _ (omega (arith, support-small q (k % q .nx) (k / q .nx) (q .scans), pow-le-pow-right {n = 2} (omega arith) {i = q .scans} (sound .scans-few))))
+      (λ k. decimal-length 1 _ (omega (arith, support-small q (k % q .nx) (k / q .nx) (q .plan .scans), pow-le-pow-right {n = 2} (omega arith) {i = q .plan .scans} (sound .plan .scans-few))))
 
   verdict-shows : All (λ n. length (decimal n) ≤ 2) (analysis q .verdict)
   unfolding analysis
-  verdict-shows = all-map Small (λ n. length (decimal n) ≤ 2) _ (λ r h. decimal-length 1 (r .verdict) (omega arith)) (verdicts-small q (q .scans) (sound .scans-few))
-
-  verdict-long : length (analysis q .verdict) ≡ length (q .columns .x)
-  unfolding analysis
-  verdict-long = length-map (after q (q .scans) .rows) _ ∙ rows-many q (q .scans)
+  verdict-shows = all-map Small (λ n. length (decimal n) ≤ 2) _ (λ r h. decimal-length 1 (r .verdict) (omega arith)) (verdicts-small q (q .plan .scans) (sound .plan .scans-few))
 
   pub sound-answer-is-short : length (analysisText (q .nx) (q .ny) (analysis q)) < 56000
   unfolding analysisText
@@ -145,12 +129,13 @@ module _ (q : Request) (sound : Sound q) where
         lines-length integer 9 (ascii "row=") (q .nx) (q .ny) grid-shows,
         lines-length decimal 2 (ascii "sup=") (q .nx) (q .ny) support-shows,
         keyed-length decimal 2 (ascii "ver=") verdict-shows,
-        verdict-long,
-        sound .columns .few,
+        verdict-long q,
+        sound .few-stations,
         mul-le-mul (sound .shape .few-rows) (sound .shape .few-columns),
         sound .shape .few-rows,
       )
 
 -- an accepted request is answered in fewer than 56,000 bytes
-pub accepted-answer-is-short : (q : Request) (l : Lengths) → analysisRefusal q l ≡ accepted → length (analysisText (q .nx) (q .ny) (analysis q)) < 56000
-accepted-answer-is-short q l e = sound-answer-is-short q (analysis-sound q l e)
+pub accepted-answer-is-short : (c : Call) (grid support verdict : ℕ) → analysisRefusal c grid support verdict ≡ accepted
+    → length (analysisText (c .nx) (c .ny) (analysis (asked c))) < 56000
+accepted-answer-is-short c grid support verdict e = sound-answer-is-short (asked c) (analysis-sound c grid support verdict e)

@@ -7,7 +7,7 @@ use Rattle.integers.specs.Parts.{up, dn, minus-parts}
 use Rattle.integers.specs.Sizes.{apart}
 use Rattle.scheme.specs.Units.{Field, step}
 use Rattle.scheme.specs.Value.{place}
-use Rattle.scheme.specs.Reach.{Span, pointsAlong}
+use Rattle.scheme.specs.Refusals.{Span, pointsAlong}
 
 pub record Axis : Type 0 where
   pub n : ℕ

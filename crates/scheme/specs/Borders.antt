@@ -37,10 +37,10 @@ around-point w ρ i a p q h =
     inside : (l : ℕ) → 0 < i → i + 1 < l → i + a - 1 < l
     inside l s t = omega arith
 
-    low : (o : ℕ) → 0 < i → w .first ≤ i + o + ρ → w .first ≤ i + a - 1 + o + (1 + ρ)
+    low : (o : ℕ) → 0 < i → w .window .first ≤ i + o + ρ → w .window .first ≤ i + a - 1 + o + (1 + ρ)
     low o s t = omega arith
 
-    high : (o : ℕ) → i + o ≤ w .last + ρ → i + a - 1 + o ≤ w .last + (1 + ρ)
+    high : (o : ℕ) → i + o ≤ w .window .last + ρ → i + a - 1 + o ≤ w .window .last + (1 + ρ)
     high o t = omega arith
 
 module _ (S : Scheme) (law : Laws S) (across down : Side) (ρ : ℕ) (z z' : Field (S .Value)) where

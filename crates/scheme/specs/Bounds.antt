@@ -9,24 +9,23 @@ use mathlib.Core.List.{List}
 use borrow.Author.Tests.{ltb-false, eqb-true}
 use lib.Dec.{ltb, eqb}
 use lib.ListN.{length, getD, List·getD-eq-default}
-use lib.IntN.{ℤ, pos, natAbs, _*ℤ_}
+use lib.IntN.{ℤ, pos, natAbs, _-ℤ_, _*ℤ_}
 use Rattle.integers.specs.Sizes.{size-add, size-mul}
 use Rattle.lists.specs.Tests.{lt-or-le, true-or-false, not-both, cond-both}
 use Rattle.lists.specs.Sums.{total, upTo, upTo-size}
 use Rattle.lists.specs.Members.{All, none, more, all-map, all-of}
-use Rattle.scheme.specs.Units.{Request, Station, Field, fieldOf, guess, R, E, mostValue, mostLimit}
-use Rattle.scheme.specs.Refusals.{accepted, Lengths, analysisRefusal}
+use Rattle.scheme.specs.Units.{Field, fieldOf, step, Station, mostValue, mostLimit, R, E, Request, guess, Call, asked}
+use Rattle.scheme.specs.Refusals.{accepted, analysisRefusal}
 use Rattle.scheme.specs.Verdicts.{isAccepted}
 use Rattle.scheme.specs.Rounding.{rounded}
-use Rattle.scheme.specs.Difference.{Row, difference, afterTest, judged}
-use Rattle.scheme.specs.Correction.{Sums, weightOf, share, sums, correction}
+use Rattle.scheme.specs.Difference.{Row, afterTest, judged}
+use Rattle.scheme.specs.Correction.{Sums, nothing, gift, share, sums, correction}
 use Rattle.scheme.specs.Smoothing.{patternAt, patternRow, patternSum, inner, smoothed}
-use Rattle.scheme.specs.Scan.{State, start, rowsJudged, sumsAt, corrected, scan, after}
+use Rattle.scheme.specs.Scan.{State, differences, start, rowsJudged, sumsAt, corrected, scan, after}
+use Rattle.scheme.specs.Most.{mostField}
 use Rattle.scheme.specs.Nearest.{rounded-size}
+use Rattle.scheme.specs.Gifts.{gift-size}
 use Rattle.scheme.specs.Accepted.{Sound, analysis-sound}
-
-abbrev pub mostField : ℕ
-mostField = 13000000
 
 -- a field whose values are all of that size at most
 abbrev pub Within : ℕ → Field ℤ → Type 0
@@ -56,33 +55,21 @@ was-accepted scan limit D verdict e = go (true-or-false (isAccepted verdict))
     go (inl v) = v
     go (inr v) = absurd (not-both (sym (rw v at e) ∙ v))
 
-all-passed : (q : Request) (m : ℕ) (found : State) → All (Passed (E q m) (difference q (found .field))) (rowsJudged q m found)
+all-passed : (q : Request) (m : ℕ) (found : State) → All (Passed (E (q .plan) m) (differences q found)) (rowsJudged q m found)
 unfolding rowsJudged judged
 all-passed q m found =
-    all-map (λ r. Unit {0}) (Passed (E q m) (difference q (found .field))) (judged q m (found .field))
-    (λ r u. passed (m + 1) (E q m) (difference q (found .field) (r .station)) (r .verdict))
+    all-map (λ r. Unit {0}) (Passed (E (q .plan) m) (differences q found)) (judged (m + 1) (E (q .plan) m) (differences q found))
+    (λ r u. passed (m + 1) (E (q .plan) m) (differences q found (r .station)) (r .verdict))
     (all-of (λ r. Unit {0}) (λ r. tt) (found .rows))
 
 -- ---- so the sum of weight·D is at most E times the sum of weights, and their quotient at most E
 
-no-weight : (radius i j : ℕ) (r : Row) → isAccepted (r .verdict) ≡ false → weightOf radius i j r ≡ 0
-unfolding weightOf
-no-weight radius i j r e = rw e
-
 share-size : (radius limit : ℕ) (D : Station → ℤ) (i j : ℕ) (r : Row) → Passed limit D r
     → natAbs (share radius D i j r .pulls) ≤ limit * share radius D i j r .weights
 unfolding share
-share-size radius limit D i j r h = go (true-or-false (isAccepted (r .verdict)))
-  where
-    go : (isAccepted (r .verdict) ≡ true) ⊎ (isAccepted (r .verdict) ≡ false)
-        → natAbs (pos (weightOf radius i j r) *ℤ D (r .station)) ≤ limit * weightOf radius i j r
-    go (inl e) =
-        omega (
-          arith,
-          size-mul (pos (weightOf radius i j r)) (D (r .station)),
-          mul-le-mul-left (weightOf radius i j r) (h e),
-        )
-    go (inr e) = rw (no-weight radius i j r e) (omega (arith, size-mul (pos 0) (D (r .station))))
+share-size radius limit D i j r h =
+    cond-both (λ (s : Sums). natAbs (s .pulls) ≤ limit * s .weights) (isAccepted (r .verdict)) _ nothing
+    (λ e. gift-size (radius * radius) limit (D (r .station)) _ _ (h e)) (λ e. omega arith)
 
 sums-size : (radius limit : ℕ) (D : Station → ℤ) (i j : ℕ) {rows : List Row} → All (Passed limit D) rows
     → natAbs (sums radius D rows i j .pulls) ≤ limit * sums radius D rows i j .weights
@@ -103,10 +90,10 @@ correction-size limit s h =
     (λ e. omega arith) (λ e. rounded-size (s .pulls) (s .weights) limit h)
 
 -- each correction is at most E in size, whatever state the scan finds
-pub correction-at-most-E : (q : Request) (m : ℕ) (found : State) (i j : ℕ) → natAbs (correction (sumsAt q m found i j)) ≤ E q m
+pub correction-at-most-E : (q : Request) (m : ℕ) (found : State) (i j : ℕ) → natAbs (correction (sumsAt q m found i j)) ≤ E (q .plan) m
 unfolding sumsAt
 correction-at-most-E q m found i j =
-    correction-size (E q m) _ (sums-size (R q m) (E q m) (difference q (found .field)) i j (all-passed q m found))
+    correction-size (E (q .plan) m) _ (sums-size (R (q .plan) m) (E (q .plan) m) (differences q found) i j (all-passed q m found))
 
 -- ---- smoothing makes nothing larger
 
@@ -136,13 +123,13 @@ smoothed-within most nx ny z h i j =
 
 -- ---- a scan adds at most E
 
-scan-within : (most : ℕ) (q : Request) (m : ℕ) (found : State) → Within most (found .field) → Within (most + E q m) (scan q m found .field)
+scan-within : (most : ℕ) (q : Request) (m : ℕ) (found : State) → Within most (found .field) → Within (most + E (q .plan) m) (scan q m found .field)
 unfolding scan
 scan-within most q m found h =
-    cond-both (Within (most + E q m)) (q .smooth) (smoothed (q .nx) (q .ny) (corrected q m found)) (corrected q m found)
-    (λ e. smoothed-within (most + E q m) (q .nx) (q .ny) (corrected q m found) added) (λ e. added)
+    cond-both (Within (most + E (q .plan) m)) (q .plan .smooth) (smoothed (q .nx) (q .ny) (corrected q m found)) (corrected q m found)
+    (λ e. smoothed-within (most + E (q .plan) m) (q .nx) (q .ny) (corrected q m found) added) (λ e. added)
   where
-    added : Within (most + E q m) (corrected q m found)
+    added : Within (most + E (q .plan) m) (corrected q m found)
     added i j =
         unfold corrected in
         omega (
@@ -152,7 +139,18 @@ scan-within most q m found h =
           correction-at-most-E q m found i j,
         )
 
--- ---- the run
+-- ---- the run: whatever the grid, the stations and the radii, the first guess's bound and the limits' for each scan made
+
+pub run-stays-within : (q : Request) (most limit : ℕ) → Within most (guess q) → (n : ℕ) → ((m : ℕ) → m < n → E (q .plan) m ≤ limit)
+    → Within (most + n * limit) (after q n .field)
+unfolding after start
+run-stays-within q most limit first zero limits = λ i j. omega (arith, first i j)
+run-stays-within q most limit first (suc n) limits =
+    λ i j. omega (
+      arith,
+      scan-within (most + n * limit) q n (after q n) (run-stays-within q most limit first n (λ m h. limits m (omega arith))) i j,
+      limits n (omega arith),
+    )
 
 module _ (q : Request) (sound : Sound q) where
   pub guess-within : Within mostValue (guess q)
@@ -165,20 +163,13 @@ module _ (q : Request) (sound : Sound q) where
       go (inr h) = rw (List·getD-eq-default (q .firstGuess) (pos 0) h) (omega arith)
 
   -- after m scans
-  pub after-within : (m : ℕ) → m ≤ q .scans → Within (mostValue + m * mostLimit) (after q m .field)
-  unfolding after start
-  after-within zero h = λ i j. omega (arith, guess-within i j)
-  after-within (suc m) h =
-      λ i j. omega (
-        arith,
-        scan-within (mostValue + m * mostLimit) q m (after q m) (after-within m (omega arith)) i j,
-        sound .plan m h .limit-most,
-      )
+  pub after-within : (m : ℕ) → m ≤ q .plan .scans → Within (mostValue + m * mostLimit) (after q m .field)
+  after-within m h = run-stays-within q mostValue mostLimit guess-within m (λ k l. sound .plan .scan k (omega arith) .limit-most)
 
-  pub fields-stay-within : (m : ℕ) → m ≤ q .scans → Within mostField (after q m .field)
-  fields-stay-within m h i j = omega (arith, after-within m h i j, sound .scans-few)
+  pub fields-stay-within : (m : ℕ) → m ≤ q .plan .scans → Within mostField (after q m .field)
+  fields-stay-within m h i j = omega (arith, after-within m h i j, sound .plan .scans-few)
 
 -- every field of an accepted run stays within -13,000,000..13,000,000
-pub accepted-run-stays-within : (q : Request) (l : Lengths) → analysisRefusal q l ≡ accepted → (m : ℕ) → m ≤ q .scans
-    → Within mostField (after q m .field)
-accepted-run-stays-within q l e = fields-stay-within q (analysis-sound q l e)
+pub accepted-run-stays-within : (c : Call) (grid support verdict : ℕ) → analysisRefusal c grid support verdict ≡ accepted
+    → (m : ℕ) → m ≤ c .plan .scans → Within mostField (after (asked c) m .field)
+accepted-run-stays-within c grid support verdict e = fields-stay-within (asked c) (analysis-sound c grid support verdict e)

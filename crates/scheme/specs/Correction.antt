@@ -3,17 +3,13 @@ use Prim.Native.Nat.{ℕ, _+_, _*_, _^_}
 use mathlib.Core.Bool.{cond}
 use mathlib.Core.List.{List}
 use lib.Dec.{ltb, eqb}
-use lib.IntN.{ℤ, pos, _+ℤ_, _*ℤ_}
+use lib.IntN.{ℤ, pos, _+ℤ_, _-ℤ_, _*ℤ_}
 use Rattle.lists.specs.Sums.{total}
-use Rattle.scheme.specs.Units.{Station}
+use Rattle.scheme.specs.Units.{Station, step}
 use Rattle.scheme.specs.Verdicts.{isAccepted}
 use Rattle.scheme.specs.Rounding.{rounded}
 use Rattle.scheme.specs.Difference.{Row}
-use Rattle.scheme.specs.Weight.{squaredDistance, weight}
-
--- the weight that a row has at point (i, j): none, unless it is accepted
-unfoldable pub weightOf : (radius i j : ℕ) → Row → ℕ
-weightOf radius i j r = cond (isAccepted (r .verdict)) (weight (radius * radius) (squaredDistance i j (r .station))) 0
+use Rattle.scheme.specs.Weight.{weight, square, inside}
 
 -- the sum of weights, and the sum of weight·D
 pub record Sums : Type 0 where
@@ -26,11 +22,19 @@ nothing = record { weights = 0; pulls = pos 0 }
 abbrev pub plus : Sums → Sums → Sums
 plus a b = record { weights = a .weights + b .weights; pulls = a .pulls +ℤ b .pulls }
 
--- what a row gives to point (i, j)
+-- what a station of weight w and difference D gives
+abbrev pub weighed : ℕ → ℤ → Sums
+weighed w D = record { weights = w; pulls = pos w *ℤ D }
+
+-- and one that is dx and dy off the point
+unfoldable pub gift : (r2 : ℕ) (D dx dy : ℤ) → Sums
+gift r2 D dx dy = cond (inside r2 dx dy) (weighed (weight r2 (square dx + square dy)) D) nothing
+
+-- what a row gives to point (i, j): nothing, unless it is accepted
 unfoldable pub share : (radius : ℕ) (D : Station → ℤ) (i j : ℕ) → Row → Sums
 share radius D i j r =
-    let w = weightOf radius i j r in
-    record { weights = w; pulls = pos w *ℤ D (r .station) }
+    let s = r .station in
+    cond (isAccepted (r .verdict)) (gift (radius * radius) (D s) (s .x -ℤ pos (step * i)) (s .y -ℤ pos (step * j))) nothing
 
 unfoldable pub sums : (radius : ℕ) (D : Station → ℤ) → List Row → (i j : ℕ) → Sums
 sums radius D rows i j = total nothing plus (share radius D i j) rows

@@ -1,30 +1,28 @@
 -- Document 01 as a scheme: its pieces keep the laws, and its run goes by them.
 use Prim.Native.Nat.{ℕ, _+_, _-_, _*_, _≤_, _<_}
 use native.Mathlib.Omega.{arith}
-use native.Mathlib.Nat.{mul-le-mul}
 use mathlib.Core.Path.{_≡_, refl, sym, ap, fun-ext}
 use mathlib.Core.Logic.{_⊎_, inl, inr}
 use mathlib.Core.Bool.{Bool, true, false, not, cond, _&&_}
-use mathlib.Core.List.{List}
 use borrow.Author.Tests.{leb-true, le-leb}
-use lib.Dec.{leb}
-use lib.IntN.{ℤ, pos, negsuc, natAbs, _+ℤ_, _-ℤ_, _*ℤ_, zero-*ℤ}
+use lib.Dec.{leb, ltb}
+use lib.IntN.{ℤ, pos, negsuc, natAbs, _+ℤ_, _-ℤ_, _*ℤ_}
 use Rattle.integers.specs.Ring.{pos-minus}
 use Rattle.lists.specs.Tests.{and-true, not-both}
 use Rattle.lists.specs.Sums.{total, upTo-same}
 use Rattle.lists.specs.Parted.{each-map}
-use Rattle.scheme.specs.Units.{Request, Station, Field, step, guess, stations, R, E}
-use Rattle.scheme.specs.Verdicts.{isAccepted, serves, missing, outOfService, observedAfter, tooOld, onAxis, offGrid, firstThatFits, beforeScans}
+use Rattle.scheme.specs.Units.{isMissing, Field, step, Station, R, E, Request, guess}
+use Rattle.scheme.specs.Refusals.{Window}
+use Rattle.scheme.specs.Verdicts.{isAccepted, serves, outOfService, onAxis, offGrid, firstThatFits, beforeScans}
 use Rattle.scheme.specs.Rounding.{rounded}
 use Rattle.scheme.specs.Value.{place, valueAt}
 use Rattle.scheme.specs.Difference.{Row, difference, afterTest, judged}
-use Rattle.scheme.specs.Weight.{square, squaredDistance, weight}
-use Rattle.scheme.specs.Correction.{Sums, nothing, plus, weightOf, share, sums, correction, backedBy}
+use Rattle.scheme.specs.Correction.{Sums, nothing, plus, gift, share, sums, correction, backedBy}
 use Rattle.scheme.specs.Smoothing.{patternAt, patternRow, patternSum, smoothed}
-use Rattle.scheme.specs.Scan.{start, rowsJudged, sumsAt, corrected, scan, after}
-use Rattle.scheme.specs.Reach.{onSpan, counted}
-use Rattle.scheme.specs.Weights.{weight-beyond}
+use Rattle.scheme.specs.Scan.{begins, start, differences, rowsJudged, sumsAt, corrected, scan, after}
+use Rattle.scheme.specs.Reach.{onSpan, onWindow, counted}
 use Rattle.scheme.specs.Adding.{nothing-plus}
+use Rattle.scheme.specs.Gifts.{gift-far}
 use Rattle.scheme.specs.Cells.{place-on}
 use Rattle.scheme.specs.Axes.{Axis, off, len, fromFirst, On, SameBeside, place-counted}
 use Rattle.scheme.specs.Laws.{Influence, Scheme, States, Run, given, gathered, smoothedIf, Placed, Ranged, Laws}
@@ -32,38 +30,23 @@ use Rattle.scheme.specs.Shares.{sum-local}
 
 -- ---- the pieces
 
+-- the part of the grid along two stretches of its axes
+abbrev pub part : Axis → Axis → Window
+part a b = record { columns = a .span; rows = b .span }
+
 -- no station is judged by another
 abbrev alone : Influence Station ℤ
 alone = record { Sum = Unit; nil = tt; plus = λ a b. b; range = λ m. 0; give = λ m s d dx dy. tt }
 
-abbrev weighed : ℕ → ℤ → Sums
-weighed w d = record { weights = w; pulls = pos w *ℤ d }
-
 module _ (q : Request) where
-  -- the request on a grid of another size
-  abbrev sized : (nx ny : ℕ) → Request
-  sized nx ny =
-      record {
-        nx = nx;
-        ny = ny;
-        firstGuess = q .firstGuess;
-        columns = q .columns;
-        scans = q .scans;
-        radius = q .radius;
-        limit = q .limit;
-        smooth = q .smooth;
-        T = q .T;
-        A = q .A;
-      }
-
   abbrev pull : Influence Station ℤ
   pull =
       record {
         Sum = Sums;
         nil = nothing;
         plus = plus;
-        range = R q;
-        give = λ m s d dx dy. weighed (weight (R q m * R q m) (square dx + square dy)) d;
+        range = R (q .plan);
+        give = λ m s D dx dy. gift (R (q .plan) m * R (q .plan) m) D dx dy;
       }
 
   abbrev pub cressman : Scheme
@@ -78,31 +61,27 @@ module _ (q : Request) where
         Value = ℤ;
         Diff = ℤ;
         Mark = ℕ;
-        keeps = λ a b s. onSpan (a .span) (s .x) && onSpan (b .span) (s .y);
-        counted = λ a b s. counted (a .span) (b .span) s;
-        begins = λ nx ny s. record { station = s; verdict = beforeScans (sized nx ny) s };
-        difference = λ nx ny guess z s. difference (sized nx ny) z s;
+        keeps = λ a b. onWindow (part a b);
+        counted = λ a b. counted (part a b);
+        begins = λ nx ny. begins nx ny (q .T) (q .A);
+        difference = λ nx ny guess z. difference nx ny z;
         buddies = alone;
-        judge = λ m d h v. afterTest (m + 1) (E q m) d v;
-        judged = λ m D r others. record { station = r .station; verdict = afterTest (m + 1) (E q m) (D (r .station)) (r .verdict) };
+        judge = λ m d h v. afterTest (m + 1) (E (q .plan) m) d v;
+        judged = λ m D r others. judged (m + 1) (E (q .plan) m) D r;
         pull = pull;
         correct = λ m s z. z +ℤ correction s;
         unmarked = 0;
         mark = backedBy;
-        smooth = q .smooth;
+        smooth = q .plan .smooth;
         around = λ z i j. rounded (patternSum z i j) 16;
       }
 
 -- ---- the run
 
 module _ (q : Request) where
-  given-share : (m i j : ℕ) (D : Station → ℤ) (r : Row) → share (R q m) D i j r ≡ given (cressman q) (pull q) m D (pos (step * i)) (pos (step * j)) r
-  unfolding share weightOf squaredDistance given
-  given-share m i j D r = go (isAccepted (r .verdict)) (weight (R q m * R q m) (square (r .station .x -ℤ pos (step * i)) + square (r .station .y -ℤ pos (step * j)))) (D (r .station))
-    where
-      go : (b : Bool) (w : ℕ) (d : ℤ) → weighed (cond b w 0) d ≡ cond b (weighed w d) nothing
-      go true w d = refl
-      go false w d = cc (zero-*ℤ d)
+  given-share : (m i j : ℕ) (D : Station → ℤ) (r : Row) → share (R (q .plan) m) D i j r ≡ given (cressman q) (pull q) m D (pos (step * i)) (pos (step * j)) r
+  unfolding share given
+  given-share m i j D r = refl
 
   choice : {A : Type 0} (b : Bool) (f g : Field A) (i j : ℕ) → cond b f g i j ≡ cond b (f i j) (g i j)
   choice true f g i j = refl
@@ -117,29 +96,24 @@ module _ (q : Request) where
         sums = λ m. sumsAt q m (after q m);
       }
 
-  pub run : (ss : List Station) → stations q ≡ ss → Run (cressman q) (q .nx) (q .ny) (guess q) ss states
+  pub run : Run (cressman q) (q .nx) (q .ny) (guess q) (q .stations) states
   unfolding after start
-  run ss e =
+  run =
       record {
         field-first = λ i j. refl;
         support-first = λ i j. refl;
-        rows-first = rw e;
-        rows-next = λ m. unfold after scan rowsJudged judged in sym (each-map (judged q m (after q m .field)) (after q m .rows));
+        rows-first = refl;
+        rows-next = λ m. unfold after scan rowsJudged in sym (each-map (judged (m + 1) (E (q .plan) m) (differences q (after q m))) (after q m .rows));
         sums-are =
             λ m i j. unfold sumsAt sums gathered after scan in
-            ap (λ (f : Row → Sums). total nothing plus f (rowsJudged q m (after q m))) (fun-ext (given-share m i j (difference q (after q m .field))));
+            ap (λ (f : Row → Sums). total nothing plus f (rowsJudged q m (after q m))) (fun-ext (given-share m i j (differences q (after q m))));
         field-next =
             λ m i j. unfold after scan corrected smoothed smoothedIf in
-            choice (q .smooth) (smoothed (q .nx) (q .ny) (corrected q m (after q m))) (corrected q m (after q m)) i j;
+            choice (q .plan .smooth) (smoothed (q .nx) (q .ny) (corrected q m (after q m))) (corrected q m (after q m)) i j;
         support-next = λ m i j. unfold after scan in refl;
       }
 
 -- ---- the laws
-
--- as far off as R along one axis: no weight
-far-weight : (radius : ℕ) (dx dy : ℤ) → (radius ≤ natAbs dx) ⊎ (radius ≤ natAbs dy) → weight (radius * radius) (square dx + square dy) ≡ 0
-far-weight radius dx dy (inl h) = weight-beyond _ _ (omega (arith, mul-le-mul h h))
-far-weight radius dx dy (inr h) = weight-beyond _ _ (omega (arith, mul-le-mul h h))
 
 -- a position on the stretch is its own place, there and on the grid
 pub on-span : (a : Axis) (x : ℤ) → onSpan (a .span) x ≡ true → On a (place (a .n) x)
@@ -176,10 +150,10 @@ axis-on-span a (pos x) e h = go x (rw (place-on (a .n) x (leb-true _ _ e)) at h)
 axis-on-span a (negsuc x) e h = absurd (not-both (sym e))
 
 -- only a station on the grid is accepted
-accepted-on-grid : (q : Request) (s : Station) → isAccepted (beforeScans q s) ≡ true → (onAxis (q .nx) (s .x) ≡ true) × (onAxis (q .ny) (s .y) ≡ true)
+accepted-on-grid : (nx ny T A : ℕ) (s : Station) → isAccepted (beforeScans nx ny T A s) ≡ true → (onAxis nx (s .x) ≡ true) × (onAxis ny (s .y) ≡ true)
 unfolding beforeScans firstThatFits offGrid
-accepted-on-grid q s e =
-    and-true _ _ (go (missing s) (outOfService q s) (observedAfter q s) (tooOld q s) (onAxis (q .nx) (s .x) && onAxis (q .ny) (s .y)) e)
+accepted-on-grid nx ny T A s e =
+    and-true _ _ (go (isMissing (s .value)) (outOfService T s) (ltb T (s .observed)) (ltb A (T - s .observed)) (onAxis nx (s .x) && onAxis ny (s .y)) e)
   where
     go : (a b c d on : Bool) → isAccepted (cond a 1 (cond b 2 (cond c 3 (cond d 4 (cond (not on) 5 0))))) ≡ true → on ≡ true
     go true b c d on e = absurd (not-both (sym e))
@@ -194,31 +168,31 @@ module _ (q : Request) where
   pull-ranged =
       record {
         nil-plus = nothing-plus;
-        far = λ m s d dx dy h. rw (far-weight (R q m) dx dy h) (cc (zero-*ℤ d));
+        far = λ m s D dx dy h. gift-far (R (q .plan) m) D dx dy h;
         give-counted = λ a b m s d dx dy. refl;
       }
 
   alone-ranged : Ranged (cressman q) alone
   alone-ranged = record { nil-plus = λ t. refl; far = λ m s d dx dy h. refl; give-counted = λ a b m s d dx dy. refl }
 
-  begins-counted : (a b : Axis) (s : Station) → onSpan (a .span) (s .x) && onSpan (b .span) (s .y) ≡ true
-      → beforeScans (sized q (a .n) (b .n)) s ≡ beforeScans (sized q (len a) (len b)) (counted (a .span) (b .span) s)
-  unfolding beforeScans serves missing outOfService observedAfter tooOld offGrid counted
+  begins-counted : (a b : Axis) (s : Station) → onWindow (part a b) s ≡ true
+      → beforeScans (a .n) (b .n) (q .T) (q .A) s ≡ beforeScans (len a) (len b) (q .T) (q .A) (counted (part a b) s)
+  unfolding beforeScans serves outOfService offGrid counted
   begins-counted a b s e =
       let (ex, ey) = and-true _ _ e in
       let (x, x') = span-on-axis a (s .x) ex in
       let (y, y') = span-on-axis b (s .y) ey in
       rw (x, x', y, y')
 
-  placed-kept : (a b : Axis) (s : Station) → isAccepted (beforeScans (sized q (a .n) (b .n)) s) ≡ true → Placed (cressman q) a b s
-      → onSpan (a .span) (s .x) && onSpan (b .span) (s .y) ≡ true
+  placed-kept : (a b : Axis) (s : Station) → isAccepted (beforeScans (a .n) (b .n) (q .T) (q .A) s) ≡ true → Placed (cressman q) a b s
+      → onWindow (part a b) s ≡ true
   placed-kept a b s e p =
-      let (x, y) = accepted-on-grid (sized q (a .n) (b .n)) s e in
+      let (x, y) = accepted-on-grid (a .n) (b .n) (q .T) (q .A) s e in
       rw (axis-on-span a (s .x) x (p .along-x), axis-on-span b (s .y) y (p .along-y))
 
-  difference-local : (a b : Axis) (s : Station) → onSpan (a .span) (s .x) && onSpan (b .span) (s .y) ≡ true → (z z' : Field ℤ)
+  difference-local : (a b : Axis) (s : Station) → onWindow (part a b) s ≡ true → (z z' : Field ℤ)
       → SameBeside a b (place (a .n) (s .x)) (place (b .n) (s .y)) z z'
-      → difference (sized q (a .n) (b .n)) z s ≡ difference (sized q (len a) (len b)) z' (counted (a .span) (b .span) s)
+      → difference (a .n) (b .n) z s ≡ difference (len a) (len b) z' (counted (part a b) s)
   unfolding difference valueAt counted
   difference-local a b s e z z' ag =
       let (ex, ey) = and-true _ _ e in
@@ -227,7 +201,7 @@ module _ (q : Request) where
       ap (λ (t : ℤ). s .value -ℤ rounded t 4096)
       (sum-local a b z z' _ _ _ _ on-x on-y (place-counted a (s .x) on-x) (place-counted b (s .y) on-y) ag)
 
-  rejected-stays : (m : ℕ) (d : ℤ) (v : ℕ) → isAccepted v ≡ false → isAccepted (afterTest (m + 1) (E q m) d v) ≡ false
+  rejected-stays : (m : ℕ) (d : ℤ) (v : ℕ) → isAccepted v ≡ false → isAccepted (afterTest (m + 1) (E (q .plan) m) d v) ≡ false
   unfolding afterTest
   rejected-stays m d v e = rw e e
 
@@ -256,8 +230,8 @@ module _ (q : Request) where
         begins-counted = begins-counted;
         placed-kept = placed-kept;
         difference-local = λ a b s e guess guess' z z' g ag. difference-local a b s e z z' ag;
-        judged-station = λ m D r others. refl;
-        judged-verdict = λ m D r others. refl;
+        judged-station = λ m D r others. unfold judged in refl;
+        judged-verdict = λ m D r others. unfold judged in refl;
         rejected-stays = λ m d h v e. rejected-stays m d v e;
         around-local = around-local;
       }

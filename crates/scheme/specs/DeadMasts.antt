@@ -6,49 +6,50 @@ use mathlib.Core.Path.{_≡_, refl, sym, ap, fun-ext, _∙_}
 use mathlib.Core.Bool.{Bool, false, cond, _&&_}
 use mathlib.Core.List.{List, [], _∷_, map}
 use lib.ListN.{getD, List·getD-map}
-use lib.IntN.{ℤ, pos, _+ℤ_, zero-*ℤ}
-use Rattle.lists.specs.Tab.{tab}
+use lib.IntN.{ℤ, _+ℤ_}
 use Rattle.lists.specs.Members.{All, all-map, all-also, all-of}
 use Rattle.lists.specs.Keep.{keep, total-keep, keep-map}
-use Rattle.scheme.specs.Units.{Request, Station, Field, stored, stationAt, stations, withStations, guess, R, E}
-use Rattle.scheme.specs.Verdicts.{isAccepted, missing, serves, outOfService, observedAfter, tooOld, offGrid, firstThatFits, beforeScans}
-use Rattle.scheme.specs.Value.{valueAt}
+use Rattle.scheme.specs.Units.{isMissing, Field, stored, Station, R, E, Request, guess}
+use Rattle.scheme.specs.Verdicts.{isAccepted, serves, outOfService, firstThatFits, beforeScans}
 use Rattle.scheme.specs.Difference.{Row, difference, afterTest, judged}
-use Rattle.scheme.specs.Correction.{Sums, nothing, plus, weightOf, share, sums, correction, backedBy}
+use Rattle.scheme.specs.Correction.{Sums, nothing, plus, share, sums, correction, backedBy}
 use Rattle.scheme.specs.Smoothing.{smoothed}
+use Rattle.scheme.specs.Scan.{begins, start, differences, rowsJudged, sumsAt, corrected, scan, after, analysis}
+use Rattle.scheme.specs.Accepted.{noStation}
 use Rattle.scheme.specs.Adding.{nothing-plus}
-use Rattle.scheme.specs.Scan.{start, rowsJudged, sumsAt, corrected, scan, after, analysis}
+use Rattle.scheme.specs.Gifts.{rejected-gives-nothing}
 
--- ---- a row that is not accepted
+-- ---- a row that is not accepted stays as it is, whatever it is judged by
 
--- it stays as it is
-rejected-stays : (q : Request) (m : ℕ) (z : Field ℤ) (r : Row) → isAccepted (r .verdict) ≡ false → judged q m z r ≡ r
+rejected-stays : (scan limit : ℕ) (D : Station → ℤ) (r : Row) → isAccepted (r .verdict) ≡ false → judged scan limit D r ≡ r
 unfolding judged afterTest
-rejected-stays q m z r e = rw e
-
--- and gives nothing to any point
-rejected-gives-nothing : (radius : ℕ) (D : Station → ℤ) (i j : ℕ) (r : Row) → isAccepted (r .verdict) ≡ false → share radius D i j r ≡ nothing
-unfolding share weightOf
-rejected-gives-nothing radius D i j r e = rw e (cc (zero-*ℤ (D (r .station))))
+rejected-stays scan limit D r e = rw e
 
 -- ---- row n of a run
 
 -- where there is no row n, there is no accepted one
 abbrev noRow : Row
-noRow = record { station = record { x = pos 0; y = pos 0; value = pos 0; observed = 0; from = 0; until = 0 }; verdict = 1 }
+noRow = record { station = noStation; verdict = 1 }
 
 abbrev pub rowAfter : Request → ℕ → ℕ → Row
 rowAfter q m n = getD (after q m .rows) n noRow
 
 -- its weight at point (i, j) in scan number m + 1
 abbrev pub weightIn : Request → (m n i j : ℕ) → ℕ
-weightIn q m n i j = weightOf (R q m) i j (getD (rowsJudged q m (after q m)) n noRow)
+weightIn q m n i j = share (R (q .plan) m) (differences q (after q m)) i j (getD (rowsJudged q m (after q m)) n noRow) .weights
 
-row-next : (q : Request) (m n : ℕ) → rowAfter q (suc m) n ≡ judged q m (after q m .field) (rowAfter q m n)
+-- how scan number m + 1 judges a row
+abbrev judgedIn : Request → ℕ → Row → Row
+judgedIn q m = judged (m + 1) (E (q .plan) m) (differences q (after q m))
+
+stays-in : (q : Request) (m : ℕ) (r : Row) → isAccepted (r .verdict) ≡ false → judgedIn q m r ≡ r
+stays-in q m = rejected-stays (m + 1) (E (q .plan) m) (differences q (after q m))
+
+row-next : (q : Request) (m n : ℕ) → rowAfter q (suc m) n ≡ judgedIn q m (rowAfter q m n)
 unfolding after scan rowsJudged
 row-next q m n =
-    ap (λ (o : Row). getD (map (judged q m (after q m .field)) (after q m .rows)) n o) (sym (rejected-stays q m (after q m .field) noRow refl))
-    ∙ List·getD-map (judged q m (after q m .field)) (after q m .rows) n noRow
+    ap (λ (o : Row). getD (map (judgedIn q m) (after q m .rows)) n o) (sym (stays-in q m noRow refl))
+    ∙ List·getD-map (judgedIn q m) (after q m .rows) n noRow
 
 row-judged : (q : Request) (m n : ℕ) → getD (rowsJudged q m (after q m)) n noRow ≡ rowAfter q (suc m) n
 unfolding after scan
@@ -62,17 +63,17 @@ rejected-for-good q m n (suc t) e =
     let same = rejected-for-good q m n t e in
     ap (λ (k : ℕ). rowAfter q k n) s
     ∙ row-next q (m + t) n
-    ∙ ap (judged q (m + t) (after q (m + t) .field)) same
-    ∙ rejected-stays q (m + t) (after q (m + t) .field) (rowAfter q m n) e
+    ∙ ap (judgedIn q (m + t)) same
+    ∙ stays-in q (m + t) (rowAfter q m n) e
 
 -- so a row that is not accepted after the judging of scan number k + 1 has no weight in that scan and in every later one
 pub rejected-has-no-weight : (q : Request) (k n t i j : ℕ) → isAccepted (rowAfter q (suc k) n .verdict) ≡ false → weightIn q (k + t) n i j ≡ 0
-unfolding weightOf
 rejected-has-no-weight q k n t i j e =
     let s : suc (k + t) ≡ suc k + t = omega arith in
     let same : getD (rowsJudged q (k + t) (after q (k + t))) n noRow ≡ rowAfter q (suc k) n =
     row-judged q (k + t) n ∙ ap (λ (m : ℕ). rowAfter q m n) s ∙ rejected-for-good q (suc k) n t e in
-    rw (same, e)
+    let gone : isAccepted (getD (rowsJudged q (k + t) (after q (k + t))) n noRow .verdict) ≡ false = rw same e in
+    rw (rejected-gives-nothing (R (q .plan) (k + t)) (differences q (after q (k + t))) i j (getD (rowsJudged q (k + t) (after q (k + t))) n noRow) gone, weightIn)
 
 -- ---- a mast that is dead before the first scan: verdicts 1 to 5
 
@@ -87,40 +88,25 @@ dead-mast-has-no-weight q n t i j e =
     ∙ rejected-has-no-weight q 0 n t i j (ap (λ (r : Row). isAccepted (r .verdict)) (rejected-for-good q 0 n 1 e) ∙ e)
 
 -- a mast that was taken down by T, or was by the minute of its reading, is out of service whatever else holds of its reading
-pub taken-down-is-out-of-service : (q : Request) (s : Station) → missing s ≡ false → (serves s (s .observed) && serves s (q .T)) ≡ false
-    → beforeScans q s ≡ 2
+pub taken-down-is-out-of-service : (nx ny T A : ℕ) (s : Station) → isMissing (s .value) ≡ false → (serves s (s .observed) && serves s T) ≡ false
+    → beforeScans nx ny T A s ≡ 2
 unfolding beforeScans firstThatFits outOfService
-taken-down-is-out-of-service q s there gone = rw (there, gone)
+taken-down-is-out-of-service nx ny T A s there gone = rw (there, gone)
 
 -- ---- deleting every dead mast changes no value and no support
 
--- the station list of a list's columns is the list
-pub stations-of-columns : (q : Request) (ss : List Station) → stations (withStations q ss) ≡ ss
-unfolding stations tab stationAt
-stations-of-columns q [] = refl
-stations-of-columns q (s ∷ ss) = ap (λ (rest : List Station). s ∷ rest) (stations-of-columns q ss)
-
--- no row is judged by the others
-module _ (q : Request) (ss : List Station) where
-  first-verdict-alone : (s : Station) → beforeScans (withStations q ss) s ≡ beforeScans q s
-  unfolding beforeScans outOfService observedAfter tooOld offGrid
-  first-verdict-alone s = refl
-
-  difference-alone : (z : Field ℤ) → difference (withStations q ss) z ≡ difference q z
-  unfolding difference valueAt
-  difference-alone z = refl
-
-  judged-alone : (m : ℕ) (z : Field ℤ) → judged (withStations q ss) m z ≡ judged q m z
-  unfolding judged difference valueAt E
-  judged-alone m z = refl
+-- the same request with other stations
+abbrev pub withStations : Request → List Station → Request
+withStations q ss =
+    record { nx = q .nx; ny = q .ny; firstGuess = q .firstGuess; stations = ss; plan = q .plan; T = q .T; A = q .A }
 
 module _ (q : Request) where
   -- a mast that none of the verdicts 1 to 5 fits
   abbrev pub alive : Station → Bool
-  alive s = isAccepted (beforeScans q s)
+  alive s = isAccepted (beforeScans (q .nx) (q .ny) (q .T) (q .A) s)
 
   abbrev pub withoutDeadMasts : Request
-  withoutDeadMasts = withStations q (keep alive (stations q))
+  withoutDeadMasts = withStations q (keep alive (q .stations))
 
   abbrev aliveRow : Row → Bool
   aliveRow r = alive (r .station)
@@ -136,59 +122,49 @@ module _ (q : Request) where
     rows : after withoutDeadMasts m .rows ≡ keep aliveRow (after q m .rows)
     dead : All Dead (after q m .rows)
 
-  begins : Request → Station → Row
-  begins p s = record { station = s; verdict = beforeScans p s }
+  abbrev begun : Station → Row
+  begun = begins (q .nx) (q .ny) (q .T) (q .A)
 
   alike-start : Alike 0
-  unfolding after start guess begins
+  unfolding after start guess
   alike-start =
       record {
         field = refl;
         support = refl;
-        rows =
-            ap (map (begins withoutDeadMasts)) (stations-of-columns q (keep alive (stations q)))
-            ∙ ap (λ (b : Station → Row). map b (keep alive (stations q))) (fun-ext same)
-            ∙ sym (keep-map alive aliveRow (begins q) (λ s. refl) (stations q));
-        dead = all-map (λ s. Unit {0}) Dead (begins q) (λ s u e. e) (all-of (λ s. Unit {0}) (λ s. tt) (stations q));
+        rows = sym (keep-map alive aliveRow begun (λ s. refl) (q .stations));
+        dead = all-map (λ s. Unit {0}) Dead begun (λ s u e. e) (all-of (λ s. Unit {0}) (λ s. tt) (q .stations));
       }
-    where
-      same : (s : Station) → begins withoutDeadMasts s ≡ begins q s
-      same s = unfold begins in (cc (first-verdict-alone q (keep alive (stations q)) s))
 
   module _ (m : ℕ) (h : Alike m) where
+    -- the differences of the scan
+    same-D : differences withoutDeadMasts (after withoutDeadMasts m) ≡ differences q (after q m)
+    same-D = ap (difference (q .nx) (q .ny)) (h .field)
+
     judged-rows : rowsJudged withoutDeadMasts m (after withoutDeadMasts m) ≡ keep aliveRow (rowsJudged q m (after q m))
     unfolding rowsJudged judged
     judged-rows =
-        ap (λ (f : Row → Row). map f (after withoutDeadMasts m .rows)) (judged-alone q (keep alive (stations q)) m (after withoutDeadMasts m .field))
-        ∙ ap (λ (z : Field ℤ). map (judged q m z) (after withoutDeadMasts m .rows)) (h .field)
-        ∙ ap (map (judged q m (after q m .field))) (h .rows)
-        ∙ sym (keep-map aliveRow aliveRow (judged q m (after q m .field)) (λ r. refl) (after q m .rows))
+        ap (λ (D : Station → ℤ). map (judged (m + 1) (E (q .plan) m) D) (after withoutDeadMasts m .rows)) same-D
+        ∙ ap (map (judgedIn q m)) (h .rows)
+        ∙ sym (keep-map aliveRow aliveRow (judgedIn q m) (λ r. refl) (after q m .rows))
 
     judged-dead : All Dead (rowsJudged q m (after q m))
     unfolding rowsJudged
-    judged-dead = all-map Dead Dead (judged q m (after q m .field)) stays (h .dead)
+    judged-dead = all-map Dead Dead (judgedIn q m) stays (h .dead)
       where
-        stays : (r : Row) → Dead r → Dead (judged q m (after q m .field) r)
-        stays r d = unfold judged in (λ e. ap (λ (s : Row). isAccepted (s .verdict)) (rejected-stays q m (after q m .field) r (d e)) ∙ d e)
+        stays : (r : Row) → Dead r → Dead (judgedIn q m r)
+        stays r d = unfold judged in (λ e. ap (λ (s : Row). isAccepted (s .verdict)) (stays-in q m r (d e)) ∙ d e)
 
-    -- the differences of the scan
-    abbrev D : Station → ℤ
-    D = difference q (after q m .field)
-
-    same-D : difference withoutDeadMasts (after withoutDeadMasts m .field) ≡ D
-    same-D = difference-alone q (keep alive (stations q)) (after withoutDeadMasts m .field) ∙ ap (difference q) (h .field)
-
-    gone : (i j : ℕ) → All (λ r. aliveRow r ≡ false → share (R q m) D i j r ≡ nothing) (rowsJudged q m (after q m))
+    gone : (i j : ℕ) → All (λ r. aliveRow r ≡ false → share (R (q .plan) m) (differences q (after q m)) i j r ≡ nothing) (rowsJudged q m (after q m))
     gone i j =
-        all-also Dead (λ r. aliveRow r ≡ false → share (R q m) D i j r ≡ nothing)
-        (λ r d e. rejected-gives-nothing (R q m) D i j r (d e)) judged-dead
+        all-also Dead (λ r. aliveRow r ≡ false → share (R (q .plan) m) (differences q (after q m)) i j r ≡ nothing)
+        (λ r d e. rejected-gives-nothing (R (q .plan) m) (differences q (after q m)) i j r (d e)) judged-dead
 
     same-sums-at : (i j : ℕ) → sumsAt withoutDeadMasts m (after withoutDeadMasts m) i j ≡ sumsAt q m (after q m) i j
-    unfolding sumsAt sums R
+    unfolding sumsAt sums
     same-sums-at i j =
-        ap (λ (d : Station → ℤ). sums (R q m) d (rowsJudged withoutDeadMasts m (after withoutDeadMasts m)) i j) same-D
-        ∙ ap (λ (rows : List Row). sums (R q m) D rows i j) judged-rows
-        ∙ total-keep nothing plus nothing-plus (share (R q m) D i j) aliveRow (gone i j)
+        ap (λ (D : Station → ℤ). sums (R (q .plan) m) D (rowsJudged withoutDeadMasts m (after withoutDeadMasts m)) i j) same-D
+        ∙ ap (λ (rows : List Row). sums (R (q .plan) m) (differences q (after q m)) rows i j) judged-rows
+        ∙ total-keep nothing plus nothing-plus (share (R (q .plan) m) (differences q (after q m)) i j) aliveRow (gone i j)
 
     same-sums : sumsAt withoutDeadMasts m (after withoutDeadMasts m) ≡ sumsAt q m (after q m)
     same-sums = fun-ext (λ i. fun-ext (same-sums-at i))
@@ -197,7 +173,7 @@ module _ (q : Request) where
     unfolding after scan corrected
     alike-next =
         record {
-          field = ap (λ (z : Field ℤ). cond (q .smooth) (smoothed (q .nx) (q .ny) z) z) same-corrected;
+          field = ap (λ (z : Field ℤ). cond (q .plan .smooth) (smoothed (q .nx) (q .ny) z) z) same-corrected;
           support =
               ap (λ (f : Field Sums). λ i j. backedBy m (f i j) (after withoutDeadMasts m .support i j)) same-sums
               ∙ ap (λ (f : Field ℕ). λ i j. backedBy m (sumsAt q m (after q m) i j) (f i j)) (h .support);
@@ -217,8 +193,8 @@ module _ (q : Request) where
 
   pub removing-dead-masts-changes-no-value : analysis withoutDeadMasts .grid ≡ analysis q .grid
   unfolding analysis
-  removing-dead-masts-changes-no-value = ap (stored (q .nx) (q .ny)) (alike (q .scans) .field)
+  removing-dead-masts-changes-no-value = ap (stored (q .nx) (q .ny)) (alike (q .plan .scans) .field)
 
   pub removing-dead-masts-changes-no-support : analysis withoutDeadMasts .support ≡ analysis q .support
   unfolding analysis
-  removing-dead-masts-changes-no-support = ap (stored (q .nx) (q .ny)) (alike (q .scans) .support)
+  removing-dead-masts-changes-no-support = ap (stored (q .nx) (q .ny)) (alike (q .plan .scans) .support)

@@ -32,7 +32,7 @@ use Rattle.scheme.specs.declared.Units.{Units}
 use Rattle.scheme.specs.Units.{Field, fieldOf}
 use Rattle.scheme.specs.Refusals.{accepted, refused, unlessRefused, readingRefusal, refusedIf, badShape}
 use Rattle.scheme.specs.Verdicts.{onAxis}
-use Rattle.scheme.specs.Value.{place, cell, interpolationSum, sumAt}
+use Rattle.scheme.specs.Value.{place, cell, corners, sumAt}
 use Rattle.scheme.specs.Readings.{double, positiveZero, readingValue, isBacked, readingIn, reading, lesser, greater, lowest, highest, unitsOf}
 use Rattle.scheme.specs.Accepted.{Shaped, shaped}
 use Rattle.scheme.specs.Cells.{cell-low, cell-high}
@@ -145,7 +145,7 @@ shares-size most i j k l p q r s e hp hq hr hs =
 
 pub sum-size : (most nx ny x y : ℕ) (z : Field ℤ) → Within most z → 2 ≤ nx → 2 ≤ ny → x ≤ 64 * (nx - 1) → y ≤ 64 * (ny - 1)
     → natAbs (sumAt nx ny z x y) ≤ most * 4096
-unfolding sumAt interpolationSum
+unfolding sumAt corners
 sum-size most nx ny x y z h two-columns two-rows on-x on-y =
     let m = cell nx x in
     let n = cell ny y in

@@ -16,15 +16,19 @@ pub mod Readings
 pub mod Text
 pub mod Promises
 -- PROVED: theorems about the definitions above.
+pub mod Most
 pub mod OneOutcome
 pub mod Accepted
+pub mod Calls
 pub mod Places
 pub mod Nearest
 pub mod Weights
+pub mod Gifts
 pub mod Adding
 pub mod Cells
 pub mod Decimals
 pub mod Stored
+pub mod Lengths
 pub mod Bounds
 pub mod Exact
 pub mod Support

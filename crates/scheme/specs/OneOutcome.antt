@@ -1,24 +1,34 @@
 -- For each public call: any two outcomes that its promise admits are one, the answer and all that is left in the memory it was lent.
 use Prim.Native.Nat.{ℕ}
-use mathlib.Core.Path.{_≡_}
+use mathlib.Core.Path.{_≡_, sym, ap₂, _∙_}
 use mathlib.Core.List.{List}
 use lib.IntN.{ℤ}
 use lib.Ieee.{Float}
 use Rattle.scheme.specs.declared.Reading.{Reading}
 use Rattle.scheme.specs.declared.Summary.{Summary}
-use Rattle.scheme.specs.Units.{Request}
+use Rattle.scheme.specs.Units.{Call}
 use Rattle.scheme.specs.Refusals.{Window}
 use Rattle.scheme.specs.Scan.{Analysis}
 use Rattle.scheme.specs.Reach.{Tile}
-use Rattle.scheme.specs.Promises.{one-outcome, Analyses, Queries, Reads, ReadsKind, ReadsValue, Summarises, Replies}
+use Rattle.scheme.specs.Promises.{Promised, Analyses, Queries, Reads, ReadsKind, ReadsValue, Summarises, Replies}
 
-pub analysis-has-one-outcome : (q : Request) (found : Analysis) (answer answer' : ℕ) (left left' : Analysis)
-    → Analyses q found answer left → Analyses q found answer' left' → _≡_ {A = ℕ × Analysis} (answer, left) (answer', left')
-analysis-has-one-outcome q found answer answer' left left' = one-outcome
+-- what every promise has in common
+pub one-outcome : {O : Type 0} {right outcome outcome' : O} → Promised right outcome → Promised right outcome' → outcome ≡ outcome'
+one-outcome p p' = p ∙ sym p'
 
-pub window-has-one-outcome : (q : Request) (w : Window) (found : Tile) (answer answer' : ℕ) (left left' : Tile)
-    → Queries q w found answer left → Queries q w found answer' left' → _≡_ {A = ℕ × Tile} (answer, left) (answer', left')
-window-has-one-outcome q w found answer answer' left left' = one-outcome
+-- an outcome is right if its two parts are
+pub both : {A B : Type 0} {a a' : A} {b b' : B} → a ≡ a' → b ≡ b' → _≡_ {A = A × B} (a, b) (a', b')
+both {A = A} {B = B} e f = ap₂ (λ (a : A) (b : B). (a, b)) e f
+
+-- ---- call by call
+
+pub analysis-has-one-outcome : (c : Call) (found : Analysis) (answer answer' : ℕ) (left left' : Analysis)
+    → Analyses c found answer left → Analyses c found answer' left' → _≡_ {A = ℕ × Analysis} (answer, left) (answer', left')
+analysis-has-one-outcome c found answer answer' left left' = one-outcome
+
+pub window-has-one-outcome : (c : Call) (w : Window) (found : Tile) (answer answer' : ℕ) (left left' : Tile)
+    → Queries c w found answer left → Queries c w found answer' left' → _≡_ {A = ℕ × Tile} (answer, left) (answer', left')
+window-has-one-outcome c w found answer answer' left left' = one-outcome
 
 module _ (nx ny : ℕ) (field : List ℤ) where
   module _ (support : List ℕ) (x y : ℤ) where

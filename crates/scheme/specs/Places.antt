@@ -6,11 +6,12 @@ use mathlib.Core.Path.{_≡_, refl}
 use mathlib.Core.Bool.{Bool, true, false}
 use mathlib.Core.List.{List, [], _∷_}
 use lib.Arith.{digits-div, digits-mod}
-use lib.ListN.{length}
-use Rattle.lists.specs.First.{first, Search, all-good, bad-at, search}
-use Rattle.scheme.specs.Units.{Request}
-use Rattle.scheme.specs.Refusals.{Refusal, numberOf, placeOf, asOne, inOrder, refusedIf, refusedAt, Lengths, badShape, badLengths, badColumns, badScans, fromFour, analysisRefusal, Window, badWindow, badWindowLengths, windowRefusal}
-use Rattle.scheme.specs.Accepted.{Shaped, shaped, equal, scans-fit}
+use lib.ListN.{length, getD}
+use lib.IntN.{pos}
+use Rattle.lists.specs.First.{first, firstIn, Search, all-good, bad-at, search, in-places}
+use Rattle.scheme.specs.Units.{mostStations, Request, Call, asked}
+use Rattle.scheme.specs.Refusals.{Refusal, numberOf, placeOf, asOne, inOrder, refusedIf, refusedAt, badShape, Window, badWindow, badColumns, badScans, badGuess, badStation, fromFive, analysisRefusal, windowRefusal}
+use Rattle.scheme.specs.Accepted.{Shaped, shaped, equal, scans-fit, noStation, rows-of}
 
 abbrev Small : Refusal → Type 0
 Small r = placeOf r < 65536
@@ -30,17 +31,26 @@ small-at number n bad rest few h = go (search n bad)
     go (all-good e g) = rw e h
     go (bad-at k e f) = rw e (omega (arith, f .inside))
 
+-- a test of each element of a list
+small-in : {A : Type 0} (number : ℕ) (bad : A → Bool) (o : A) (l : List A) (rest : List Refusal) → length l ≤ 65536 → Small (inOrder rest)
+    → Small (inOrder (refusedAt number (firstIn bad l) ∷ rest))
+small-in number bad o l rest few h = rw (in-places bad o l) (small-at number (length l) (λ k. bad (getD l k o)) rest few h)
+
 small-none : Small (inOrder [])
 unfolding inOrder
 small-none = omega arith
 
-small-from-four : (q : Request) → Shaped (q .nx) (q .ny) (length (q .firstGuess)) → Small (inOrder (fromFour q))
-unfolding fromFour badScans
-small-from-four q shape =
-    small-if 4 (badColumns (q .columns)) _ (λ four. small-if 5 (badScans q) _ (λ five.
-    small-at 6 (q .scans) _ _ (omega (arith, scans-fit (q .scans) (length (q .radius)) (length (q .limit)) five))
-    (small-at 7 (length (q .firstGuess)) _ _ (omega (arith, shape .whole, mul-le-mul (shape .few-columns) (shape .few-rows)))
-    (small-at 8 (length (q .columns .x)) _ [] (omega (arith, equal (q .columns) four .few)) small-none))))
+small-from-five : (q : Request) → Shaped (q .nx) (q .ny) (length (q .firstGuess)) → length (q .stations) ≤ mostStations → Small (inOrder (fromFive q))
+unfolding fromFive badScans
+small-from-five q shape few =
+    small-if 5 (badScans (q .plan)) _ (λ five.
+    small-at 6 (q .plan .scans) _ _ (omega (arith, scans-fit (q .plan .scans) (length (q .plan .radius)) (length (q .plan .limit)) five))
+    (small-in 7 badGuess (pos 0) (q .firstGuess) _ (omega (arith, shape .whole, mul-le-mul (shape .few-columns) (shape .few-rows)))
+    (small-in 8 badStation noStation (q .stations) [] (omega arith) small-none)))
+
+small-from-four : (c : Call) → Shaped (c .nx) (c .ny) (length (c .firstGuess)) → Small (inOrder (refusedIf 4 (badColumns (c .columns)) ∷ fromFive (asked c)))
+small-from-four c shape =
+    small-if 4 (badColumns (c .columns)) _ (λ four. small-from-five (asked c) shape (omega (arith, rows-of (c .columns), equal (c .columns) four .few)))
 
 -- refusal and place, read back from the one number
 abbrev pub Tells : Refusal → Type 0
@@ -49,20 +59,19 @@ Tells r = (asOne r / 65536 ≡ numberOf r) × (asOne r % 65536 ≡ placeOf r)
 told : (r : Refusal) → Small r → Tells r
 told r h = (digits-div (numberOf r) h, digits-mod (numberOf r) h)
 
-analysis-small : (q : Request) (l : Lengths) → Small (analysisRefusal q l)
+analysis-small : (c : Call) (grid support verdict : ℕ) → Small (analysisRefusal c grid support verdict)
 unfolding analysisRefusal
-analysis-small q l =
-    small-if 1 (badShape (q .nx) (q .ny) (length (q .firstGuess))) _ (λ one.
-    small-if 3 (badLengths q l) _ (λ three. small-from-four q (shaped _ _ _ one)))
+analysis-small c grid support verdict =
+    small-if 1 (badShape (c .nx) (c .ny) (length (c .firstGuess))) _ (λ one. small-if 3 _ _ (λ three. small-from-four c (shaped _ _ _ one)))
 
-window-small : (q : Request) (w : Window) (grid support : ℕ) → Small (windowRefusal q w grid support)
+window-small : (c : Call) (w : Window) (grid support : ℕ) → Small (windowRefusal c w grid support)
 unfolding windowRefusal
-window-small q w grid support =
-    small-if 1 (badShape (q .nx) (q .ny) (length (q .firstGuess))) _ (λ one. small-if 2 (badWindow q w) _ (λ two.
-    small-if 3 (badWindowLengths w grid support) _ (λ three. small-from-four q (shaped _ _ _ one))))
+window-small c w grid support =
+    small-if 1 (badShape (c .nx) (c .ny) (length (c .firstGuess))) _ (λ one. small-if 2 (badWindow (c .nx) (c .ny) w) _ (λ two.
+    small-if 3 _ _ (λ three. small-from-four c (shaped _ _ _ one))))
 
-pub analysis-tells-refusal-and-place : (q : Request) (l : Lengths) → Tells (analysisRefusal q l)
-analysis-tells-refusal-and-place q l = told (analysisRefusal q l) (analysis-small q l)
+pub analysis-tells-refusal-and-place : (c : Call) (grid support verdict : ℕ) → Tells (analysisRefusal c grid support verdict)
+analysis-tells-refusal-and-place c grid support verdict = told (analysisRefusal c grid support verdict) (analysis-small c grid support verdict)
 
-pub window-tells-refusal-and-place : (q : Request) (w : Window) (grid support : ℕ) → Tells (windowRefusal q w grid support)
-window-tells-refusal-and-place q w grid support = told (windowRefusal q w grid support) (window-small q w grid support)
+pub window-tells-refusal-and-place : (c : Call) (w : Window) (grid support : ℕ) → Tells (windowRefusal c w grid support)
+window-tells-refusal-and-place c w grid support = told (windowRefusal c w grid support) (window-small c w grid support)

@@ -1,6 +1,6 @@
 -- What each public call promises: its answer and what it leaves in the memory it is lent, from what it is handed and what it finds there.
 use Prim.Native.Nat.{ℕ}
-use mathlib.Core.Path.{_≡_, sym, ap₂, _∙_}
+use mathlib.Core.Path.{_≡_}
 use mathlib.Core.Bool.{Bool}
 use mathlib.Core.List.{List, _++_}
 use lib.ListN.{length, drop}
@@ -8,45 +8,27 @@ use lib.IntN.{ℤ}
 use lib.Ieee.{Float}
 use Rattle.scheme.specs.declared.Reading.{Reading}
 use Rattle.scheme.specs.declared.Summary.{Summary}
-use Rattle.scheme.specs.Units.{Request, Columns}
-use Rattle.scheme.specs.Refusals.{Refusal, asOne, unlessRefused, Lengths, Window, analysisRefusal, windowRefusal}
+use Rattle.scheme.specs.Units.{Columns, Plan, Call, asked}
+use Rattle.scheme.specs.Refusals.{Refusal, asOne, unlessRefused, Window, analysisRefusal, windowRefusal}
 use Rattle.scheme.specs.Scan.{Analysis, analysis}
 use Rattle.scheme.specs.Reach.{Tile, wholeAt}
 use Rattle.scheme.specs.Readings.{reading, kindOf, valueOf, summary}
 use Rattle.scheme.specs.Text.{answerText}
 
--- the six columns and the request, from the arguments of a call
+-- what a call is handed, from its arguments
 abbrev pub sixColumns : (x y value : List ℤ) (observed from until : List ℕ) → Columns
 sixColumns x y value observed from until =
     record { x = x; y = y; value = value; observed = observed; from = from; until = until }
 
-abbrev pub requestOf : (nx ny : ℕ) (firstGuess x y value : List ℤ) (observed from until : List ℕ) (scans : ℕ) (radius limit : List ℤ) → Bool → (T A : ℕ) → Request
-requestOf nx ny firstGuess x y value observed from until scans radius limit smooth T A =
-    record {
-      nx = nx;
-      ny = ny;
-      firstGuess = firstGuess;
-      columns = sixColumns x y value observed from until;
-      scans = scans;
-      radius = radius;
-      limit = limit;
-      smooth = smooth;
-      T = T;
-      A = A;
-    }
+abbrev pub callOf : (nx ny : ℕ) (firstGuess : List ℤ) → Columns → (scans : ℕ) (radius limit : List ℤ) → Bool → (T A : ℕ) → Call
+callOf nx ny firstGuess columns scans radius limit smooth T A =
+    let plan : Plan = record { scans = scans; radius = radius; limit = limit; smooth = smooth } in
+    record { nx = nx; ny = ny; firstGuess = firstGuess; columns = columns; plan = plan; T = T; A = A }
 
 -- ---- the shape of every promise: the outcome of the call is the one that document 01 gives
 
 abbrev pub Promised : {O : Type 0} → (right outcome : O) → Type 0
 Promised right outcome = outcome ≡ right
-
--- so it admits one outcome
-pub one-outcome : {O : Type 0} {right outcome outcome' : O} → Promised right outcome → Promised right outcome' → outcome ≡ outcome'
-one-outcome p p' = p ∙ sym p'
-
--- an outcome is right if its two parts are
-pub both : {A B : Type 0} {a a' : A} {b b' : B} → a ≡ a' → b ≡ b' → _≡_ {A = A × B} (a, b) (a', b')
-both {A = A} {B = B} e f = ap₂ (λ (a : A) (b : B). (a, b)) e f
 
 -- Of a call that is lent memory the outcome is its answer and what it leaves there. It answers refusal·65,536 + place and leaves its result;
 -- refused, it writes to none of the memory
@@ -66,25 +48,27 @@ Stands text found bytes left = Promised (putFirst text found) (bytes, left)
 abbrev pub slices : List ℤ → (support verdict : List ℕ) → Analysis
 slices grid support verdict = record { grid = grid; support = support; verdict = verdict }
 
-abbrev pub lengthsOf : Analysis → Lengths
-lengthsOf a = record { grid = length (a .grid); support = length (a .support); verdict = length (a .verdict) }
+-- the refusal of a call that is lent these
+abbrev pub refusalOf : Call → Analysis → Refusal
+refusalOf c found = analysisRefusal c (length (found .grid)) (length (found .support)) (length (found .verdict))
 
-abbrev pub Analyses : Request → Analysis → ℕ → Analysis → Type 0
-Analyses q found answer left = Settles (analysisRefusal q (lengthsOf found)) (analysis q) found answer left
+abbrev pub Analyses : Call → Analysis → ℕ → Analysis → Type 0
+Analyses c found answer left = Settles (refusalOf c found) (analysis (asked c)) found answer left
 
 -- ---- the window query
 
 -- the window, and what stands in the two slices that the results go to
 abbrev pub windowAt : (left right top bottom : ℕ) → Window
-windowAt left right top bottom = record { left = left; right = right; top = top; bottom = bottom }
+windowAt left right top bottom =
+    record { columns = record { first = left; last = right }; rows = record { first = top; last = bottom } }
 
 abbrev pub tile : List ℤ → List ℕ → Tile
 tile grid support = record { grid = grid; support = support }
 
 -- the numbers of the whole grid
-abbrev pub Queries : Request → Window → Tile → ℕ → Tile → Type 0
-Queries q w found answer left =
-    Settles (windowRefusal q w (length (found .grid)) (length (found .support))) (wholeAt q w) found answer left
+abbrev pub Queries : Call → Window → Tile → ℕ → Tile → Type 0
+Queries c w found answer left =
+    Settles (windowRefusal c w (length (found .grid)) (length (found .support))) (wholeAt (asked c) w) found answer left
 
 -- ---- the point reading, and the two calls by which it crosses to C; they and the summary are lent no memory to write to
 

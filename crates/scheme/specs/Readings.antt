@@ -1,5 +1,5 @@
 -- "Readings as doubles": the point reading, the summary, and the numbers by which both and the refusals cross to C.
-use Prim.Native.Nat.{ℕ, _+_, _-_, _*_}
+use Prim.Native.Nat.{ℕ}
 use mathlib.Core.Bool.{Bool, not, cond, _&&_, _||_}
 use mathlib.Core.List.{List, [], _∷_}
 use lib.Dec.{eqb}
@@ -11,10 +11,10 @@ use Rattle.scheme.specs.declared.Reading.{Reading}
 use Rattle.scheme.specs.declared.Reading.the-variants.{Backed, FirstGuess, OffGrid, Refused}
 use Rattle.scheme.specs.declared.Units.{Units}
 use Rattle.scheme.specs.declared.Summary.{Summary}
-use Rattle.scheme.specs.Units.{Field, partsOfUnit, fieldOf, step}
+use Rattle.scheme.specs.Units.{Field, partsOfUnit, fieldOf}
 use Rattle.scheme.specs.Refusals.{numberOf, placeOf, unlessRefused, readingRefusal, summaryRefusal}
 use Rattle.scheme.specs.Verdicts.{onAxis}
-use Rattle.scheme.specs.Value.{place, cell, sumAt}
+use Rattle.scheme.specs.Value.{place, cornersAt, sumAt}
 
 -- n / d as a double
 unfoldable pub double : ℤ → ℕ → Float
@@ -30,20 +30,9 @@ positiveZero = ofInt binary64 (pos 0)
 unfoldable pub readingValue : (nx ny : ℕ) → Field ℤ → (x y : ℕ) → Float
 readingValue nx ny z x y = double (sumAt nx ny z x y) 262144
 
--- a corner with a share of that many parts: a nonzero one needs a nonzero support byte
-unfoldable pub cornerBacked : (share support : ℕ) → Bool
-cornerBacked share support = eqb share 0 || not (eqb support 0)
-
 -- every corner with a nonzero share has a nonzero support byte
 unfoldable pub isBacked : (nx ny : ℕ) → Field ℕ → (x y : ℕ) → Bool
-isBacked nx ny support x y =
-    let m = cell nx x in
-    let n = cell ny y in
-    let a = x - step * m in
-    let b = y - step * n in
-    cornerBacked ((64 - a) * (64 - b)) (support m n) && cornerBacked (a * (64 - b)) (support (m + 1) n)
-    && cornerBacked ((64 - a) * b) (support m (n + 1))
-    && cornerBacked (a * b) (support (m + 1) (n + 1))
+isBacked nx ny support x y = cornersAt nx ny x y _&&_ (λ share i j. eqb share 0 || not (eqb (support i j) 0))
 
 -- It says 'backed' with the value, 'first guess' with the value if not, or 'off grid'
 unfoldable pub readingIn : (nx ny : ℕ) → Field ℤ → Field ℕ → (x y : ℤ) → Reading

@@ -1,14 +1,14 @@
 -- "Refusal numbers, tested in this order": a test for each row of the table, and for each call the first that refuses, with its place.
--- Rows 9 and 10, the program's, are in Text.
+-- Rows 1 to 4 test what a call is handed, rows 5 to 8 the request that it asks. Rows 9 and 10, the program's, are in Text.
 use Prim.Native.Nat.{ℕ, zero, suc, _+_, _-_, _*_}
 use mathlib.Core.Bool.{Bool, false, not, cond, _&&_, _||_}
 use mathlib.Core.List.{List, [], _∷_}
 use lib.Dec.{leb, ltb, eqb}
 use lib.ListN.{length, getD}
-use lib.IntN.{pos}
+use lib.IntN.{ℤ, pos}
 use lib.Signed.{ltZ}
-use Rattle.lists.specs.First.{Found, nowhere, at, first}
-use Rattle.scheme.specs.Units.{Request, Columns, Station, stationAt, amongℤ, among, sideInRange, valueInRange, positionInRange, isMissing, mostStations, mostScans, mostRadius, mostLimit}
+use Rattle.lists.specs.First.{Found, nowhere, at, first, firstIn}
+use Rattle.scheme.specs.Units.{among, amongℤ, within, mostValue, isMissing, leastSide, mostSide, mostStations, Station, mostPosition, Columns, mostScans, mostRadius, mostLimit, Plan, Request, Call, asked}
 
 pub data Refusal : Type 0 where
   accepted : Refusal
@@ -47,41 +47,33 @@ unfoldable pub refusedAt : ℕ → Found → Refusal
 refusedAt number nowhere = accepted
 refusedAt number (at place) = refused number place
 
--- The lengths of the results that a call is lent
-pub record Lengths : Type 0 where
-  pub grid : ℕ
-  pub support : ℕ
-  pub verdict : ℕ
-
--- A window: its four ends count from 0 and are inside it
-pub record Window : Type 0 where
-  pub left : ℕ
-  pub right : ℕ
-  pub top : ℕ
-  pub bottom : ℕ
-
 -- ---- the table
 
 -- 1: nx or ny out of 2..64, or the field is not nx·ny long
 unfoldable pub badShape : ℕ → ℕ → ℕ → Bool
-badShape nx ny len = not (sideInRange nx) || not (sideInRange ny) || not (eqb len (nx * ny))
+badShape nx ny len = not (among leastSide mostSide nx) || not (among leastSide mostSide ny) || not (eqb len (nx * ny))
 
--- 2: left > right, top > bottom, or past the grid
-unfoldable pub badWindow : Request → Window → Bool
-badWindow q w =
-    ltb (w .right) (w .left) || ltb (w .bottom) (w .top) || leb (q .nx) (w .right) || leb (q .ny) (w .bottom)
+-- 2: window (its four ends count from 0 and are inside it) with left > right, top > bottom, or past the grid
+pub record Span : Type 0 where
+  pub first : ℕ
+  pub last : ℕ
 
--- 3: a result slice of the wrong length (verdicts are measured against the x column)
-unfoldable pub badLengths : Request → Lengths → Bool
-badLengths q l =
-    not (eqb (l .grid) (q .nx * q .ny)) || not (eqb (l .support) (q .nx * q .ny))
-    || not (eqb (l .verdict) (length (q .columns .x)))
+pub record Window : Type 0 where
+  pub columns : Span
+  pub rows : Span
 
-abbrev pub pointsOf : Window → ℕ
-pointsOf w = (w .right - w .left + 1) * (w .bottom - w .top + 1)
+abbrev pub badSpan : ℕ → Span → Bool
+badSpan n s = ltb (s .last) (s .first) || leb n (s .last)
 
-unfoldable pub badWindowLengths : Window → (grid support : ℕ) → Bool
-badWindowLengths w grid support = not (eqb grid (pointsOf w)) || not (eqb support (pointsOf w))
+unfoldable pub badWindow : (nx ny : ℕ) → Window → Bool
+badWindow nx ny w = badSpan nx (w .columns) || badSpan ny (w .rows)
+
+-- 3: a result slice of the wrong length: that many points, and of the whole analysis a verdict for each row of the x column
+unfoldable pub badLengths : (points grid support : ℕ) → Bool
+badLengths points grid support = not (eqb grid points) || not (eqb support points)
+
+abbrev pub pointsAlong : Span → ℕ
+pointsAlong s = s .last - s .first + 1
 
 -- 4: station columns unequal, or more than 512
 unfoldable pub badColumns : Columns → Bool
@@ -91,57 +83,59 @@ badColumns c =
     || not (eqb (length (c .from)) n) || not (eqb (length (c .until)) n) || ltb mostStations n
 
 -- 5: scan count out of 1..6, or in C a plan column shorter than it
-unfoldable pub badScans : Request → Bool
-badScans q =
-    not (among 1 mostScans (q .scans)) || ltb (length (q .radius)) (q .scans) || ltb (length (q .limit)) (q .scans)
+unfoldable pub badScans : Plan → Bool
+badScans p = not (among 1 mostScans (p .scans)) || ltb (length (p .radius)) (p .scans) || ltb (length (p .limit)) (p .scans)
 
 -- 6: R out of range or rising, or E out of range, at scan m
-unfoldable pub rising : Request → ℕ → Bool
-rising q zero = false
-rising q (suc m) = ltZ (getD (q .radius) m (pos 0)) (getD (q .radius) (suc m) (pos 0))
+unfoldable pub rising : Plan → ℕ → Bool
+rising p zero = false
+rising p (suc m) = ltZ (getD (p .radius) m (pos 0)) (getD (p .radius) (suc m) (pos 0))
 
-unfoldable pub badScan : Request → ℕ → Bool
-badScan q m =
-    not (amongℤ (pos 1) (pos mostRadius) (getD (q .radius) m (pos 0))) || rising q m
-    || not (amongℤ (pos 0) (pos mostLimit) (getD (q .limit) m (pos 0)))
+unfoldable pub badScan : Plan → ℕ → Bool
+badScan p m =
+    not (amongℤ (pos 1) (pos mostRadius) (getD (p .radius) m (pos 0))) || rising p m
+    || not (amongℤ (pos 0) (pos mostLimit) (getD (p .limit) m (pos 0)))
 
--- 7: first-guess value out of range, at point k
-unfoldable pub badGuess : Request → ℕ → Bool
-badGuess q k = not (valueInRange (getD (q .firstGuess) k (pos 0)))
+-- 7: first-guess value out of range
+unfoldable pub badGuess : ℤ → Bool
+badGuess v = not (within mostValue v)
 
 -- 8: station value (not the mark) out of range, position out of range, or from not below until
 unfoldable pub badStation : Station → Bool
 badStation s =
-    (not (isMissing (s .value)) && not (valueInRange (s .value))) || not (positionInRange (s .x))
-    || not (positionInRange (s .y))
+    (not (isMissing (s .value)) && not (within mostValue (s .value))) || not (within mostPosition (s .x))
+    || not (within mostPosition (s .y))
     || leb (s .until) (s .from)
 
--- ---- the rows from 4 on, which the whole analysis and the window query share
+-- ---- the rows from 5 on, of the request itself
 
-unfoldable pub fromFour : Request → List Refusal
-fromFour q =
-    refusedIf 4 (badColumns (q .columns))
-    ∷ refusedIf 5 (badScans q)
-    ∷ refusedAt 6 (first (q .scans) (badScan q))
-    ∷ refusedAt 7 (first (length (q .firstGuess)) (badGuess q))
-    ∷ refusedAt 8 (first (length (q .columns .x)) (λ k. badStation (stationAt (q .columns) k)))
+unfoldable pub fromFive : Request → List Refusal
+fromFive q =
+    refusedIf 5 (badScans (q .plan))
+    ∷ refusedAt 6 (first (q .plan .scans) (badScan (q .plan)))
+    ∷ refusedAt 7 (firstIn badGuess (q .firstGuess))
+    ∷ refusedAt 8 (firstIn badStation (q .stations))
     ∷ []
 
 -- ---- for each call the first refusal and its place
 
-unfoldable pub analysisRefusal : Request → Lengths → Refusal
-analysisRefusal q l =
+unfoldable pub analysisRefusal : Call → (grid support verdict : ℕ) → Refusal
+analysisRefusal c grid support verdict =
     inOrder
-    (refusedIf 1 (badShape (q .nx) (q .ny) (length (q .firstGuess))) ∷ refusedIf 3 (badLengths q l) ∷ fromFour q)
+    (refusedIf 1 (badShape (c .nx) (c .ny) (length (c .firstGuess)))
+    ∷ refusedIf 3 (badLengths (c .nx * c .ny) grid support || not (eqb verdict (length (c .columns .x))))
+    ∷ refusedIf 4 (badColumns (c .columns))
+    ∷ fromFive (asked c))
 
 -- Only the window query gives 2
-unfoldable pub windowRefusal : Request → Window → (grid support : ℕ) → Refusal
-windowRefusal q w grid support =
+unfoldable pub windowRefusal : Call → Window → (grid support : ℕ) → Refusal
+windowRefusal c w grid support =
     inOrder
-    (refusedIf 1 (badShape (q .nx) (q .ny) (length (q .firstGuess)))
-    ∷ refusedIf 2 (badWindow q w)
-    ∷ refusedIf 3 (badWindowLengths w grid support)
-    ∷ fromFour q)
+    (refusedIf 1 (badShape (c .nx) (c .ny) (length (c .firstGuess)))
+    ∷ refusedIf 2 (badWindow (c .nx) (c .ny) w)
+    ∷ refusedIf 3 (badLengths (pointsAlong (w .columns) * pointsAlong (w .rows)) grid support)
+    ∷ refusedIf 4 (badColumns (c .columns))
+    ∷ fromFive (asked c))
 
 -- The point reading and the summary give only 1, tested on the field they are handed
 unfoldable pub summaryRefusal : (nx ny field : ℕ) → Refusal
@@ -150,8 +144,3 @@ summaryRefusal nx ny field = refusedIf 1 (badShape nx ny field)
 -- (the reading also on its support, which must be as long)
 unfoldable pub readingRefusal : (nx ny field support : ℕ) → Refusal
 readingRefusal nx ny field support = refusedIf 1 (badShape nx ny field || not (eqb support field))
-
--- ---- a request is accepted if its results have the right length and no test refuses it
-
-abbrev pub rightLengths : Request → Lengths
-rightLengths q = record { grid = q .nx * q .ny; support = q .nx * q .ny; verdict = length (q .columns .x) }

@@ -1,9 +1,9 @@
 -- "One scan", whole, and the run of scans.
-use Prim.Native.Nat.{ℕ, zero, suc}
+use Prim.Native.Nat.{ℕ, zero, suc, _+_}
 use mathlib.Core.Bool.{cond}
 use mathlib.Core.List.{List, map}
 use lib.IntN.{ℤ, _+ℤ_}
-use Rattle.scheme.specs.Units.{Request, Field, stored, guess, stations, R}
+use Rattle.scheme.specs.Units.{Station, Field, stored, R, E, Request, guess}
 use Rattle.scheme.specs.Verdicts.{beforeScans}
 use Rattle.scheme.specs.Difference.{Row, difference, judged}
 use Rattle.scheme.specs.Correction.{Sums, sums, correction, backedBy}
@@ -15,23 +15,26 @@ pub record State : Type 0 where
   pub support : Field ℕ
   pub rows : List Row
 
+-- a row before the first scan
+abbrev pub begins : (nx ny T A : ℕ) → Station → Row
+begins nx ny T A s = record { station = s; verdict = beforeScans nx ny T A s }
+
 unfoldable pub start : Request → State
-start q =
-    record {
-      field = guess q;
-      support = λ i j. 0;
-      rows = map (λ s. record { station = s; verdict = beforeScans q s }) (stations q);
-    }
+start q = record { field = guess q; support = λ i j. 0; rows = map (begins (q .nx) (q .ny) (q .T) (q .A)) (q .stations) }
 
 -- ---- scan number m + 1, from the state that it finds
+
+-- its differences, from the field as it finds it
+abbrev pub differences : Request → State → Station → ℤ
+differences q found = difference (q .nx) (q .ny) (found .field)
 
 module _ (q : Request) (m : ℕ) (found : State) where
   -- All stations are judged before any point changes
   unfoldable pub rowsJudged : List Row
-  rowsJudged = map (judged q m (found .field)) (found .rows)
+  rowsJudged = map (judged (m + 1) (E (q .plan) m) (differences q found)) (found .rows)
 
   unfoldable pub sumsAt : Field Sums
-  sumsAt i j = sums (R q m) (difference q (found .field)) rowsJudged i j
+  sumsAt i j = sums (R (q .plan) m) (differences q found) rowsJudged i j
 
   -- All points change together
   unfoldable pub corrected : Field ℤ
@@ -40,16 +43,19 @@ module _ (q : Request) (m : ℕ) (found : State) where
   unfoldable pub scan : State
   scan =
       record {
-        field = cond (q .smooth) (smoothed (q .nx) (q .ny) corrected) corrected;
+        field = cond (q .plan .smooth) (smoothed (q .nx) (q .ny) corrected) corrected;
         support = λ i j. backedBy m (sumsAt i j) (found .support i j);
         rows = rowsJudged;
       }
 
--- ---- the state after the first m scans
+-- ---- the state after the first m scans, and at the end
 
 unfoldable pub after : Request → ℕ → State
 after q zero = start q
 after q (suc m) = scan q m (after q m)
+
+abbrev pub atEnd : Request → State
+atEnd q = after q (q .plan .scans)
 
 -- ---- The work gives the analysed grid, the support of each point and a verdict for each station
 
@@ -60,9 +66,8 @@ pub record Analysis : Type 0 where
 
 unfoldable pub analysis : Request → Analysis
 analysis q =
-    let end = after q (q .scans) in
     record {
-      grid = stored (q .nx) (q .ny) (end .field);
-      support = stored (q .nx) (q .ny) (end .support);
-      verdict = map (λ r. r .verdict) (end .rows);
+      grid = stored (q .nx) (q .ny) (atEnd q .field);
+      support = stored (q .nx) (q .ny) (atEnd q .support);
+      verdict = map (λ r. r .verdict) (atEnd q .rows);
     }

@@ -7,9 +7,13 @@ use mathlib.Core.Logic.{_⊎_, inl, inr}
 use lib.IntN.{ℤ, pos, _+ℤ_, _*ℤ_, zero-*ℤ, +ℤ-idl, +ℤ-idr}
 use Rattle.lists.specs.Tests.{lt-or-le}
 use Rattle.scheme.specs.Units.{Field, step}
-use Rattle.scheme.specs.Value.{cell, interpolationSum, sumAt}
+use Rattle.scheme.specs.Value.{cell, corners, sumAt}
 use Rattle.scheme.specs.Cells.{cell-inside, cell-low, cell-high}
 use Rattle.scheme.specs.Axes.{Axis, off, len, On, Beside, SameBeside}
+
+-- the sum of the corners of the cell at (m, n)
+abbrev interpolationSum : Field ℤ → (m n a b : ℕ) → ℤ
+interpolationSum z = corners _+ℤ_ (λ share i j. pos share *ℤ z i j)
 
 -- the sum at (x, y) from the cell with the lower corner (m, n)
 abbrev sumFrom : Field ℤ → (m n x y : ℕ) → ℤ
@@ -23,11 +27,11 @@ record Holds (m x : ℕ) : Type 0 where
 
 -- with a share of 0 or 64 along an axis, two of the corners have none
 column-next : (z : Field ℤ) (m n b : ℕ) → interpolationSum z m n 64 b ≡ interpolationSum z (m + 1) n 0 b
-unfolding interpolationSum
+unfolding corners
 column-next z m n b = simp (zero-mul, zero-*ℤ, +ℤ-idl, +ℤ-idr)
 
 row-next : (z : Field ℤ) (m n a : ℕ) → interpolationSum z m n a 64 ≡ interpolationSum z m (n + 1) a 0
-unfolding interpolationSum
+unfolding corners
 row-next z m n a = simp (mul-zero, zero-*ℤ, +ℤ-idl, +ℤ-idr)
 
 -- what one cell and the next have in common, all cells that hold the position have
@@ -75,7 +79,7 @@ module _ (z z' : Field ℤ) (m n m' n' a b : ℕ)
     (low-low : 0 < 64 - a → 0 < 64 - b → z m n ≡ z' m' n') (high-low : 0 < a → 0 < 64 - b → z (m + 1) n ≡ z' (m' + 1) n')
     (low-high : 0 < 64 - a → 0 < b → z m (n + 1) ≡ z' m' (n' + 1)) (high-high : 0 < a → 0 < b → z (m + 1) (n + 1) ≡ z' (m' + 1) (n' + 1)) where
   sums-agree : interpolationSum z m n a b ≡ interpolationSum z' m' n' a b
-  unfolding interpolationSum
+  unfolding corners
   sums-agree =
       let e1 = term ((64 - a) * (64 - b)) _ _ (λ h. low-low (factors (64 - a) (64 - b) h .0) (factors (64 - a) (64 - b) h .1)) in
       let e2 = term (a * (64 - b)) _ _ (λ h. high-low (factors a (64 - b) h .0) (factors a (64 - b) h .1)) in

@@ -15,7 +15,7 @@ use Rattle.lists.specs.Tab.{tab, getD-tab, length-tab, tab-same}
 use Rattle.lists.specs.Sums.{upTo-same}
 use Rattle.scheme.specs.Units.{Field, stored, fieldOf}
 use Rattle.scheme.specs.Rounding.{rounded}
-use Rattle.scheme.specs.Value.{cell, interpolationSum, sumAt}
+use Rattle.scheme.specs.Value.{cell, corners, sumAt}
 use Rattle.scheme.specs.Smoothing.{patternAt, patternRow, patternSum, inner, smoothed}
 use Rattle.scheme.specs.Cells.{cell-inside}
 
@@ -55,7 +55,7 @@ module _ {A : Type 0} (nx ny : ℕ) where
 
 -- the interpolation sum sees only points of the grid
 pub sum-same : (nx ny : ℕ) (z z' : Field ℤ) → 2 ≤ nx → 2 ≤ ny → Same nx ny z z' → (x y : ℕ) → sumAt nx ny z x y ≡ sumAt nx ny z' x y
-unfolding sumAt interpolationSum
+unfolding sumAt corners
 sum-same nx ny z z' hx hy h x y =
     let cx = cell-inside nx x hx in
     let cy = cell-inside ny y hy in

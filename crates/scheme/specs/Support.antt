@@ -10,16 +10,17 @@ use mathlib.Core.List.{List, [], _∷_, map}
 use borrow.Author.Tests.{ltb-true, ltb-false, lt-ltb, eq-eqb}
 use lib.Dec.{ltb, eqb}
 use lib.Pow.{pow-pos, pow-add}
-use lib.IntN.{ℤ, pos, _+ℤ_, +ℤ-idr}
+use lib.IntN.{ℤ, pos, _+ℤ_, _-ℤ_, +ℤ-idr}
 use Rattle.lists.specs.Tests.{lt-or-le, true-or-false}
 use Rattle.lists.specs.Sums.{total}
 use Rattle.lists.specs.Members.{Some, some-also, some-share, share-some}
-use Rattle.scheme.specs.Units.{Request, Station, guess, stations, R}
+use Rattle.scheme.specs.Units.{step, Station, R, E, Request, guess}
 use Rattle.scheme.specs.Verdicts.{isAccepted}
-use Rattle.scheme.specs.Difference.{Row, difference, judged}
-use Rattle.scheme.specs.Weight.{squaredDistance, weight}
-use Rattle.scheme.specs.Correction.{Sums, weightOf, share, sums, correction, backedBy}
-use Rattle.scheme.specs.Scan.{start, rowsJudged, sumsAt, corrected, scan, after}
+use Rattle.scheme.specs.Difference.{Row, judged}
+use Rattle.scheme.specs.Weight.{weight, square}
+use Rattle.scheme.specs.Correction.{Sums, share, sums, correction, backedBy}
+use Rattle.scheme.specs.Gifts.{accepted-weight, rejected-gives-nothing}
+use Rattle.scheme.specs.Scan.{differences, start, rowsJudged, sumsAt, corrected, scan, after}
 
 -- bit k of a number
 unfoldable pub bit : ℕ → ℕ → Bool
@@ -85,43 +86,45 @@ module _ (q : Request) (i j : ℕ) where
 -- the row is accepted, and has a nonzero weight at point (i, j)
 pub record Weighs (radius i j : ℕ) (r : Row) : Type 0 where
   pub is-accepted : isAccepted (r .verdict) ≡ true
-  pub nonzero : 0 < weight (radius * radius) (squaredDistance i j (r .station))
+  pub nonzero : 0 < weight (radius * radius) (square (r .station .x -ℤ pos (step * i)) + square (r .station .y -ℤ pos (step * j)))
 
-weighs : (radius i j : ℕ) (r : Row) → 0 < weightOf radius i j r → Weighs radius i j r
-unfolding weightOf
-weighs radius i j r = go (true-or-false (isAccepted (r .verdict)))
-  where
-    go : (isAccepted (r .verdict) ≡ true) ⊎ (isAccepted (r .verdict) ≡ false)
-        → 0 < cond (isAccepted (r .verdict)) (weight (radius * radius) (squaredDistance i j (r .station))) 0 → Weighs radius i j r
-    go (inl e) h = record { is-accepted = e; nonzero = rw e at h }
-    go (inr e) h = absurd (let l : 0 < 0 = rw e at h in omega arith)
+module _ (radius : ℕ) (D : Station → ℤ) (i j : ℕ) where
+  -- the weight of a row at the point
+  abbrev weightOf : Row → ℕ
+  weightOf r = share radius D i j r .weights
 
-weighed : (radius i j : ℕ) (r : Row) → Weighs radius i j r → 0 < weightOf radius i j r
-unfolding weightOf
-weighed radius i j r w = rw (w .is-accepted) (w .nonzero)
+  weighs : (r : Row) → 0 < weightOf r → Weighs radius i j r
+  weighs r h = go (true-or-false (isAccepted (r .verdict)))
+    where
+      go : (isAccepted (r .verdict) ≡ true) ⊎ (isAccepted (r .verdict) ≡ false) → Weighs radius i j r
+      go (inl e) = record { is-accepted = e; nonzero = rw (← accepted-weight radius D i j r e) h }
+      go (inr e) = absurd (let l : weightOf r ≡ 0 = rw (rejected-gives-nothing radius D i j r e, weightOf) in omega arith)
 
-weights-total : (radius : ℕ) (D : Station → ℤ) (i j : ℕ) (rows : List Row) → sums radius D rows i j .weights ≡ total 0 _+_ (weightOf radius i j) rows
-unfolding sums total share
-weights-total radius D i j [] = refl
-weights-total radius D i j (r ∷ rows) = ap (λ (t : ℕ). weightOf radius i j r + t) (weights-total radius D i j rows)
+  weighed : (r : Row) → Weighs radius i j r → 0 < weightOf r
+  weighed r w = rw (accepted-weight radius D i j r (w .is-accepted)) (w .nonzero)
+
+  weights-total : (rows : List Row) → sums radius D rows i j .weights ≡ total 0 _+_ weightOf rows
+  unfolding sums total
+  weights-total [] = refl
+  weights-total (r ∷ rows) = ap (λ (t : ℕ). weightOf r + t) (weights-total rows)
 
 -- bit k, of a scan that has been made, is set exactly where some accepted row has a nonzero weight in that scan
 pub supported-exactly-where-a-mast-weighs : (q : Request) (m k i j : ℕ) → k < m
-    → (bit k (after q m .support i j) ≡ true) ↔ Some (Weighs (R q k) i j) (rowsJudged q k (after q k))
+    → (bit k (after q m .support i j) ≡ true) ↔ Some (Weighs (R (q .plan) k) i j) (rowsJudged q k (after q k))
 supported-exactly-where-a-mast-weighs q m k i j h = (there, back)
   where
-    same : weightsIn q i j k ≡ total 0 _+_ (weightOf (R q k) i j) (rowsJudged q k (after q k))
-    same = unfold sumsAt in weights-total (R q k) (difference q (after q k .field)) i j (rowsJudged q k (after q k))
+    same : weightsIn q i j k ≡ total 0 _+_ (weightOf (R (q .plan) k) (differences q (after q k)) i j) (rowsJudged q k (after q k))
+    same = unfold sumsAt in weights-total (R (q .plan) k) (differences q (after q k)) i j (rowsJudged q k (after q k))
 
-    there : bit k (after q m .support i j) ≡ true → Some (Weighs (R q k) i j) (rowsJudged q k (after q k))
+    there : bit k (after q m .support i j) ≡ true → Some (Weighs (R (q .plan) k) i j) (rowsJudged q k (after q k))
     there e =
         let l = ltb-true 0 (weightsIn q i j k) (sym (support-bit q i j m k h) ∙ e) in
-        some-also (λ r. 0 < weightOf (R q k) i j r) (Weighs (R q k) i j) (weighs (R q k) i j)
-        (some-share (weightOf (R q k) i j) (rowsJudged q k (after q k)) (rw same at l))
+        some-also (λ r. 0 < weightOf (R (q .plan) k) (differences q (after q k)) i j r) (Weighs (R (q .plan) k) i j) (weighs (R (q .plan) k) (differences q (after q k)) i j)
+        (some-share (weightOf (R (q .plan) k) (differences q (after q k)) i j) (rowsJudged q k (after q k)) (rw same at l))
 
-    back : Some (Weighs (R q k) i j) (rowsJudged q k (after q k)) → bit k (after q m .support i j) ≡ true
+    back : Some (Weighs (R (q .plan) k) i j) (rowsJudged q k (after q k)) → bit k (after q m .support i j) ≡ true
     back s =
-        let l = share-some (weightOf (R q k) i j) (some-also (Weighs (R q k) i j) (λ r. 0 < weightOf (R q k) i j r) (weighed (R q k) i j) s) in
+        let l = share-some (weightOf (R (q .plan) k) (differences q (after q k)) i j) (some-also (Weighs (R (q .plan) k) i j) (λ r. 0 < weightOf (R (q .plan) k) (differences q (after q k)) i j r) (weighed (R (q .plan) k) (differences q (after q k)) i j) s) in
         support-bit q i j m k h ∙ lt-ltb 0 (weightsIn q i j k) (rw same l)
 
 -- ---- without smoothing, a point with no support keeps its first guess
@@ -130,7 +133,7 @@ no-correction : (s : Sums) → s .weights ≡ 0 → correction s ≡ pos 0
 unfolding correction
 no-correction s e = rw (eq-eqb (s .weights) 0 e)
 
-module _ (q : Request) (rough : q .smooth ≡ false) (i j : ℕ) where
+module _ (q : Request) (rough : q .plan .smooth ≡ false) (i j : ℕ) where
   pub unsupported-point-keeps-first-guess : (m : ℕ) → after q m .support i j ≡ 0 → after q m .field i j ≡ guess q i j
   unfolding after start scan
   unsupported-point-keeps-first-guess zero e = refl
@@ -156,7 +159,7 @@ module _ (q : Request) (rough : q .smooth ≡ false) (i j : ℕ) where
 
 -- ---- with no stations there is no support
 
-module _ (q : Request) (empty : stations q ≡ []) where
+module _ (q : Request) (empty : q .stations ≡ []) where
   no-rows : (m : ℕ) → after q m .rows ≡ []
   unfolding after start scan rowsJudged
   no-rows zero = rw empty
@@ -165,7 +168,7 @@ module _ (q : Request) (empty : stations q ≡ []) where
   no-weights : (m i j : ℕ) → weightsIn q i j m ≡ 0
   unfolding sumsAt sums total rowsJudged
   no-weights m i j =
-      ap (λ (rows : List Row). sums (R q m) (difference q (after q m .field)) (map (judged q m (after q m .field)) rows) i j .weights)
+      ap (λ (rows : List Row). sums (R (q .plan) m) (differences q (after q m)) (map (judged (m + 1) (E (q .plan) m) (differences q (after q m))) rows) i j .weights)
       (no-rows m)
 
   pub no-stations-no-support : (m i j : ℕ) → after q m .support i j ≡ 0

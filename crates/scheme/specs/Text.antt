@@ -12,8 +12,8 @@ use Pieces.{ascii}
 use Lines.{gridLine, timeLine, ageLine, smoothLine, scansLine, scanLine, rowLine, stationsLine, stationLine}
 use Order.{Read, notInForm, read, Text, _>>=_, _>>_, gives, line, optional, lines, rows, nothingAfter}
 use Printed.{decimal, integer, keyed, gridLines}
-use Rattle.scheme.specs.Units.{Request, columnsOf}
-use Rattle.scheme.specs.Refusals.{Refusal, accepted, refused, analysisRefusal, rightLengths}
+use Rattle.scheme.specs.Units.{Request}
+use Rattle.scheme.specs.Refusals.{Refusal, accepted, refused, inOrder, fromFive}
 use Rattle.scheme.specs.Scan.{Analysis, analysis}
 
 -- `age` may be left out, which means 120
@@ -42,11 +42,8 @@ requestLines = do
         nx = size .nx;
         ny = size .ny;
         firstGuess = guess;
-        columns = columnsOf stations;
-        scans = scans;
-        radius = map (λ t. t .radius) plan;
-        limit = map (λ t. t .limit) plan;
-        smooth = eqb smooth 1;
+        stations = stations;
+        plan = record { scans = scans; radius = map (λ t. t .radius) plan; limit = map (λ t. t .limit) plan; smooth = eqb smooth 1 };
         T = time;
         A = age;
       })
@@ -64,7 +61,7 @@ tested q (refused number place) = refusedWith number place
 -- 9: request text not in form, at the first line not in form, counted from 1
 abbrev pub inForm : Read Request → Outcome
 inForm (notInForm k) = refusedWith 9 k
-inForm (read q k rest) = tested q (analysisRefusal q (rightLengths q))
+inForm (read q k rest) = tested q (inOrder (fromFive q))
 
 -- 10: request text over 65,536 bytes
 unfoldable pub outcome : List ℕ → Outcome

@@ -1,8 +1,8 @@
--- "Units and sizes": the numbers of the paper, each under a name, the grid, the station list, and a request as a call is handed it.
+-- "Units and sizes": the numbers of the paper, each under a name, the grid, the station list, the plan, and a request.
 use Prim.Native.Nat.{ℕ, _+_, _*_, _/_, _%_}
-use mathlib.Core.Bool.{Bool, false, _&&_}
-use mathlib.Core.List.{List, map}
-use lib.Dec.{leb, eqb}
+use mathlib.Core.Bool.{Bool, _&&_}
+use mathlib.Core.List.{List}
+use lib.Dec.{leb}
 use lib.ListN.{length, getD}
 use lib.IntN.{ℤ, pos, negsuc, natAbs}
 use lib.Signed.{leZ}
@@ -12,9 +12,12 @@ use Rattle.lists.specs.Tab.{tab}
 abbrev pub among : ℕ → ℕ → ℕ → Bool
 among low high n = leb low n && leb n high
 
--- the same of a number that may be negative
+-- the same of a number that may be negative, and of one in -most..most
 abbrev pub amongℤ : ℤ → ℤ → ℤ → Bool
 amongℤ low high z = leZ low z && leZ z high
+
+abbrev pub within : ℕ → ℤ → Bool
+within most z = leb (natAbs z) most
 
 -- ---- Values are whole numbers of 1/64 unit
 
@@ -25,21 +28,20 @@ partsOfUnit = 64
 abbrev pub mostValue : ℕ
 mostValue = 1000000
 
-abbrev pub valueInRange : ℤ → Bool
-valueInRange v = leb (natAbs v) mostValue
-
--- The lowest i32 marks a missing observation
+-- The lowest i32 marks a missing observation: it, and no other
 abbrev pub missingMark : ℤ
 missingMark = negsuc 2147483647
 
 unfoldable pub isMissing : ℤ → Bool
-isMissing (pos n) = false
-isMissing (negsuc n) = eqb n 2147483647
+isMissing v = amongℤ missingMark missingMark v
 
 -- ---- Grid: nx columns, ny rows, each 2..64
 
-abbrev pub sideInRange : ℕ → Bool
-sideInRange n = among 2 64 n
+abbrev pub leastSide : ℕ
+leastSide = 2
+
+abbrev pub mostSide : ℕ
+mostSide = 64
 
 -- what stands at each point: column i, row j
 abbrev pub Field : Type 0 → Type 0
@@ -56,18 +58,10 @@ fieldOf past nx l i j = getD l (j * nx + i) past
 abbrev pub step : ℕ
 step = 64
 
--- ---- Stations: 0..512 rows, given as six equal columns
+-- ---- Stations: 0..512 rows
 
 abbrev pub mostStations : ℕ
 mostStations = 512
-
-pub record Columns : Type 0 where
-  pub x : List ℤ
-  pub y : List ℤ
-  pub value : List ℤ
-  pub observed : List ℕ
-  pub from : List ℕ
-  pub until : List ℕ
 
 pub record Station : Type 0 where
   pub x : ℤ
@@ -77,7 +71,24 @@ pub record Station : Type 0 where
   pub from : ℕ
   pub until : ℕ
 
--- row k
+-- x, y: -1,000,000..1,000,000
+abbrev pub mostPosition : ℕ
+mostPosition = 1000000
+
+-- Until 4,294,967,295 means no end
+abbrev pub noEnd : ℕ
+noEnd = 4294967295
+
+-- given as six equal columns
+pub record Columns : Type 0 where
+  pub x : List ℤ
+  pub y : List ℤ
+  pub value : List ℤ
+  pub observed : List ℕ
+  pub from : List ℕ
+  pub until : List ℕ
+
+-- row k of them, and all rows
 unfoldable pub stationAt : Columns → ℕ → Station
 stationAt c k =
     record {
@@ -89,18 +100,10 @@ stationAt c k =
       until = getD (c .until) k 0;
     }
 
--- x, y: -1,000,000..1,000,000
-abbrev pub mostPosition : ℕ
-mostPosition = 1000000
+unfoldable pub stationsOf : Columns → List Station
+stationsOf c = tab (length (c .x)) (stationAt c)
 
-abbrev pub positionInRange : ℤ → Bool
-positionInRange p = leb (natAbs p) mostPosition
-
--- Until 4,294,967,295 means no end
-abbrev pub noEnd : ℕ
-noEnd = 4294967295
-
--- ---- Plan: 1..6 scans; each has a radius R in 1..1024 and a limit E in 0..2,000,000
+-- ---- Plan: 1..6 scans; each has a radius R in 1..1024 and a limit E in 0..2,000,000. One smoothing switch serves all scans
 
 abbrev pub mostScans : ℕ
 mostScans = 6
@@ -111,58 +114,45 @@ mostRadius = 1024
 abbrev pub mostLimit : ℕ
 mostLimit = 2000000
 
--- ---- A request: grid and first guess, stations, plan with one smoothing switch, analysis minute T, greatest age A
+pub record Plan : Type 0 where
+  pub scans : ℕ
+  pub radius : List ℤ
+  pub limit : List ℤ
+  pub smooth : Bool
+
+-- R and E of scan m, counted from 0. In an accepted plan neither is negative
+unfoldable pub R : Plan → ℕ → ℕ
+R p m = natAbs (getD (p .radius) m (pos 0))
+
+unfoldable pub E : Plan → ℕ → ℕ
+E p m = natAbs (getD (p .limit) m (pos 0))
+
+-- ---- A request: grid and first guess, stations, plan, analysis minute T, greatest age A
 
 pub record Request : Type 0 where
   pub nx : ℕ
   pub ny : ℕ
   pub firstGuess : List ℤ
-  pub columns : Columns
-  pub scans : ℕ
-  pub radius : List ℤ
-  pub limit : List ℤ
-  pub smooth : Bool
+  pub stations : List Station
+  pub plan : Plan
   pub T : ℕ
   pub A : ℕ
 
 unfoldable pub guess : Request → Field ℤ
 guess q = fieldOf (pos 0) (q .nx) (q .firstGuess)
 
--- the station list, in the order of its rows
-unfoldable pub stations : Request → List Station
-stations q = tab (length (q .columns .x)) (stationAt (q .columns))
+-- ---- A call is handed the same, with its stations in columns; the request that it asks
 
--- R and E of scan m, counted from 0. In an accepted plan neither is negative
-unfoldable pub R : Request → ℕ → ℕ
-R q m = natAbs (getD (q .radius) m (pos 0))
+pub record Call : Type 0 where
+  pub nx : ℕ
+  pub ny : ℕ
+  pub firstGuess : List ℤ
+  pub columns : Columns
+  pub plan : Plan
+  pub T : ℕ
+  pub A : ℕ
 
-unfoldable pub E : Request → ℕ → ℕ
-E q m = natAbs (getD (q .limit) m (pos 0))
-
--- ---- the same request with other stations
-
-abbrev pub columnsOf : List Station → Columns
-columnsOf ss =
-    record {
-      x = map (λ s. s .x) ss;
-      y = map (λ s. s .y) ss;
-      value = map (λ s. s .value) ss;
-      observed = map (λ s. s .observed) ss;
-      from = map (λ s. s .from) ss;
-      until = map (λ s. s .until) ss;
-    }
-
-abbrev pub withStations : Request → List Station → Request
-withStations q ss =
-    record {
-      nx = q .nx;
-      ny = q .ny;
-      firstGuess = q .firstGuess;
-      columns = columnsOf ss;
-      scans = q .scans;
-      radius = q .radius;
-      limit = q .limit;
-      smooth = q .smooth;
-      T = q .T;
-      A = q .A;
-    }
+abbrev pub asked : Call → Request
+asked c =
+    let stations = stationsOf (c .columns) in
+    record { nx = c .nx; ny = c .ny; firstGuess = c .firstGuess; stations = stations; plan = c .plan; T = c .T; A = c .A }

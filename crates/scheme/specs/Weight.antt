@@ -1,21 +1,20 @@
 -- "One scan", Weight.
 use Prim.Native.Nat.{ℕ, _+_, _-_, _*_, _/_}
-use mathlib.Core.Bool.{cond}
-use lib.Dec.{leb}
-use lib.IntN.{ℤ, pos, natAbs, _-ℤ_}
-use Rattle.scheme.specs.Units.{Station, step}
+use mathlib.Core.Bool.{Bool}
+use lib.Dec.{ltb}
+use lib.IntN.{ℤ, natAbs}
 
 -- a weight is in parts of this
 abbrev pub scale : ℕ
 scale = 100
 
--- the squared distance from point (i, j) to a station
+-- with r2 = R², for squared distance d2 from point to station: the whole part of 100(R² - d2)/(R² + d2)
+unfoldable pub weight : (r2 d2 : ℕ) → ℕ
+weight r2 d2 = scale * (r2 - d2) / (r2 + d2)
+
 abbrev pub square : ℤ → ℕ
 square z = natAbs z * natAbs z
 
-unfoldable pub squaredDistance : (i j : ℕ) → Station → ℕ
-squaredDistance i j s = square (s .x -ℤ pos (step * i)) + square (s .y -ℤ pos (step * j))
-
--- with r2 = R²: 0 if d2 ≥ R², else the whole part of 100(R² - d2)/(R² + d2)
-unfoldable pub weight : (r2 d2 : ℕ) → ℕ
-weight r2 d2 = cond (leb r2 d2) 0 (scale * (r2 - d2) / (r2 + d2))
+-- 0 if d2 ≥ R²: only a station inside the radius, dx and dy off the point, has weight
+abbrev pub inside : (r2 : ℕ) (dx dy : ℤ) → Bool
+inside r2 dx dy = ltb (square dx + square dy) r2

@@ -2,99 +2,102 @@
 -- every window on its grid.
 use Prim.Native.Nat.{ℕ, _+_, _-_, _*_, _≤_, _<_, min}
 use native.Mathlib.Omega.{arith}
-use mathlib.Core.Path.{_≡_, refl, sym, ap, _∙_}
-use mathlib.Core.Bool.{Bool, true, false, cond, _&&_}
+use mathlib.Core.Path.{_≡_, sym, ap, _∙_}
+use mathlib.Core.Bool.{true, false, cond, _&&_}
 use mathlib.Core.List.{List, map}
 use borrow.Author.Tests.{leb-true, le-leb}
 use lib.ListN.{length, getD, length-map, List·getD-map}
 use lib.IntN.{ℤ, pos, negsuc}
 use Rattle.lists.specs.Tests.{and-true, not-both}
-use Rattle.scheme.specs.Units.{Request, Station, step, guess, stations, stationAt, R, E}
-use Rattle.scheme.specs.Refusals.{accepted, Lengths, Window, badWindow, analysisRefusal, rightLengths}
-use Rattle.scheme.specs.Verdicts.{serves, outOfService, observedAfter, tooOld, offGrid, beforeScans}
-use Rattle.scheme.specs.Value.{place, valueAt}
-use Rattle.scheme.specs.Difference.{Row, difference}
-use Rattle.scheme.specs.Scan.{sumsAt, after, analysis}
-use Rattle.scheme.specs.Reach.{steps, reach, pointsAlong, widened, columnsCut, rowsCut, onSpan, onCut, counted, stationsCut, cut}
+use Rattle.scheme.specs.Units.{Field, stored, fieldOf, step, Station, Plan, R, Request, guess, Call, asked}
+use Rattle.scheme.specs.Refusals.{accepted, Span, Window, badWindow, pointsAlong, analysisRefusal}
+use Rattle.scheme.specs.Value.{place}
+use Rattle.scheme.specs.Difference.{Row}
+use Rattle.scheme.specs.Scan.{sumsAt, after, atEnd, analysis}
+use Rattle.scheme.specs.Reach.{steps, reach, widened, cutOf, onSpan, onWindow, counted, windowOf, cut}
 use Rattle.scheme.specs.Accepted.{Sound, OnGrid, on-grid, analysis-sound}
+use Rattle.scheme.specs.Calls.{Accepts}
 use Rattle.scheme.specs.Cells.{place-on}
-use Rattle.scheme.specs.Stored.{field-stored}
+use Rattle.scheme.specs.Stored.{place-in, length-stored, field-stored}
+use Rattle.scheme.specs.Lengths.{verdict-long}
 use Rattle.scheme.specs.Axes.{off, len}
 use Rattle.scheme.specs.Laws.{States, Run}
 use Rattle.scheme.specs.Near.{Side, cutAlong, Spot}
 use Rattle.scheme.specs.Gathered.{Near, Twin}
-use Rattle.scheme.specs.Locality.{agree-inside, keptStations, Runs, Alike, run-alike, twin-row, stations-stay}
-use Rattle.scheme.specs.Cut.{across, down, rowInCut, rows-of, row-of, stations-cut, window-row, cut-sound, cut-accepted}
+use Rattle.scheme.specs.Locality.{agree-inside, Runs, Alike, run-alike, twin-row, stations-stay}
+use Rattle.scheme.specs.Cut.{across, down, rowInCut, rows-cut, window-row, cut-sound, cut-accepted}
 use Rattle.scheme.specs.Cressman.{cressman, states, run, cressman-laws}
 
 -- ---- what it says
 
--- a station on the window itself, not widened
-abbrev pub onWindow : Window → Station → Bool
-onWindow w s =
-    onSpan (record { first = w .left; last = w .right }) (s .x) && onSpan (record { first = w .top; last = w .bottom }) (s .y)
+-- a point of the window
+pub record OfWindow (w : Window) (i j : ℕ) : Type 0 where
+  pub left : w .columns .first ≤ i
+  pub right : i ≤ w .columns .last
+  pub top : w .rows .first ≤ j
+  pub bottom : j ≤ w .rows .last
+
+-- where it stands in the lists of the cut's analysis
+abbrev pub placeInCut : Request → Window → (i j : ℕ) → ℕ
+placeInCut q w i j = (j - cutOf q w .rows .first) * cut q w .nx + (i - cutOf q w .columns .first)
 
 pub record Agrees (q : Request) (w : Window) : Type 0 where
   -- the cut is itself an accepted request, with two columns and rows at least
-  pub accepts : analysisRefusal (cut q w) (rightLengths (cut q w)) ≡ accepted
+  pub accepts : Accepts (cut q w)
   pub two-columns : 2 ≤ cut q w .nx
   pub two-rows : 2 ≤ cut q w .ny
-  -- each point of the window has there the whole grid's value and support
-  pub values : (i j : ℕ) → w .left ≤ i → i ≤ w .right → w .top ≤ j → j ≤ w .bottom
-      → after (cut q w) (q .scans) .field (i - columnsCut q w .first) (j - rowsCut q w .first) ≡ after q (q .scans) .field i j
-  pub supports : (i j : ℕ) → w .left ≤ i → i ≤ w .right → w .top ≤ j → j ≤ w .bottom
-      → after (cut q w) (q .scans) .support (i - columnsCut q w .first) (j - rowsCut q w .first) ≡ after q (q .scans) .support i j
+  -- each point of the window stands in the two lists of the cut's analysis, and has there the whole grid's value and support
+  pub inside : (i j : ℕ) → OfWindow w i j
+      → (placeInCut q w i j < length (analysis (cut q w) .grid)) × (placeInCut q w i j < length (analysis (cut q w) .support))
+  pub values : (i j : ℕ) → OfWindow w i j → getD (analysis (cut q w) .grid) (placeInCut q w i j) (pos 0) ≡ getD (analysis q .grid) (j * q .nx + i) (pos 0)
+  pub supports : (i j : ℕ) → OfWindow w i j → getD (analysis (cut q w) .support) (placeInCut q w i j) 0 ≡ getD (analysis q .support) (j * q .nx + i) 0
   -- each station on the window is kept; row k of the request is row `rowInCut` of the cut, and has there the same verdict
-  pub keeps : (s : Station) → onWindow w s ≡ true → onCut q w s ≡ true
-  pub inside : (k : ℕ) → k < length (q .columns .x) → onCut q w (stationAt (q .columns) k) ≡ true
-      → rowInCut q w k < length (cut q w .columns .x)
-  pub rows : (k : ℕ) → k < length (q .columns .x) → onCut q w (stationAt (q .columns) k) ≡ true
-      → stationAt (cut q w .columns) (rowInCut q w k) ≡ counted (columnsCut q w) (rowsCut q w) (stationAt (q .columns) k)
-  pub verdicts : (k : ℕ) → k < length (q .columns .x) → onWindow w (stationAt (q .columns) k) ≡ true
-      → getD (analysis (cut q w) .verdict) (rowInCut q w k) 0 ≡ getD (analysis q .verdict) k 0
+  pub keeps : (s : Station) → onWindow w s ≡ true → onWindow (cutOf q w) s ≡ true
+  pub rows : (k : ℕ) (o : Station) → k < length (q .stations) → onWindow (cutOf q w) (getD (q .stations) k o) ≡ true
+      → (rowInCut q w k < length (cut q w .stations))
+      × (getD (cut q w .stations) (rowInCut q w k) (counted (cutOf q w) o) ≡ counted (cutOf q w) (getD (q .stations) k o))
+  pub verdicts : (k : ℕ) (o : Station) → k < length (q .stations) → onWindow w (getD (q .stations) k o) ≡ true
+      → (rowInCut q w k < length (analysis (cut q w) .verdict)) × (getD (analysis (cut q w) .verdict) (rowInCut q w k) 0 ≡ getD (analysis q .verdict) k 0)
 
 -- ---- how it follows
 
 -- the steps of a scan cover its radius, and one more for smoothing
-steps-enough : (q : Request) (m : ℕ) → R q m + 0 + step * cond (q .smooth) 1 0 ≤ step * steps q m
+steps-enough : (p : Plan) (m : ℕ) → R p m + 0 + step * cond (p .smooth) 1 0 ≤ step * steps p m
 unfolding steps
-steps-enough q m = omega arith
+steps-enough p m = omega arith
 
 -- it is at no distance from the window, and on the cut
-span-spot : (v : Side) (x : ℤ) → onSpan (record { first = v .first; last = v .last }) x ≡ true → Spot v 0 (place (v .n) x)
+span-spot : (v : Side) (x : ℤ) → onSpan (v .window) x ≡ true → Spot v 0 (place (v .n) x)
 unfolding onSpan
 span-spot v (pos x) e =
     let (l, h) = and-true _ _ e in
     go (leb-true _ _ l) (leb-true _ _ h)
   where
-    go : step * v .first ≤ x → x ≤ step * v .last → Spot v 0 (place (v .n) (pos x))
+    go : step * v .window .first ≤ x → x ≤ step * v .window .last → Spot v 0 (place (v .n) (pos x))
     go l h = rw (place-on (v .n) x (omega (arith, v .inside))) (record { low = omega arith; high = omega arith })
 span-spot v (negsuc x) e = absurd (not-both (sym e))
 
-span-keeps : (v : Side) (x : ℤ) → onSpan (record { first = v .first; last = v .last }) x ≡ true
-    → onSpan (widened (v .wider) (v .n) (v .first) (v .last)) x ≡ true
+span-keeps : (v : Side) (x : ℤ) → onSpan (v .window) x ≡ true → onSpan (widened (v .wider) (v .n) (v .window)) x ≡ true
 unfolding onSpan widened
 span-keeps v (pos x) e =
     let (l, h) = and-true _ _ e in
     go (leb-true _ _ l) (leb-true _ _ h)
   where
-    go : step * v .first ≤ x → x ≤ step * v .last → onSpan (widened (v .wider) (v .n) (v .first) (v .last)) (pos x) ≡ true
-    go l h = unfold onSpan widened in rw (le-leb (step * (v .first - v .wider)) x (omega arith), le-leb x (step * min (v .last + v .wider) (v .n - 1)) (omega (arith, v .inside)))
+    go : step * v .window .first ≤ x → x ≤ step * v .window .last → onSpan (widened (v .wider) (v .n) (v .window)) (pos x) ≡ true
+    go l h =
+        unfold onSpan widened in
+        rw (
+          le-leb (step * (v .window .first - v .wider)) x (omega arith),
+          le-leb x (step * min (v .window .last + v .wider) (v .n - 1)) (omega (arith, v .inside)),
+        )
 span-keeps v (negsuc x) e = absurd (not-both (sym e))
 
-module _ (q : Request) (w : Window) (sound : Sound q) (on : OnGrid q w) where
+module _ (q : Request) (w : Window) (sound : Sound q) (on : OnGrid (q .nx) (q .ny) w) where
   abbrev wide : Side
   wide = across q w sound on
 
   abbrev tall : Side
   tall = down q w sound on
-
-  -- the stations of the cut, as the theorem has them
-  abbrev kept : List Station
-  kept = keptStations (cressman q) wide tall (stations q)
-
-  kept-are : stations (cut q w) ≡ kept
-  kept-are = unfold stationsCut onCut columnsCut rowsCut in stations-cut q w
 
   -- the run of the cut is one of the same scheme
   abbrev part : States (cressman q)
@@ -106,17 +109,15 @@ module _ (q : Request) (w : Window) (sound : Sound q) (on : OnGrid q w) where
         sums = λ m. sumsAt (cut q w) m (after (cut q w) m);
       }
 
-  cut-runs : Run (cressman q) (len (cutAlong wide)) (len (cutAlong tall)) (guess (cut q w)) kept part
-  cut-runs =
-      unfold cut columnsCut rowsCut R E beforeScans serves outOfService observedAfter tooOld offGrid difference valueAt in
-      run (cut q w) kept kept-are
+  cut-runs : Run (cressman q) (len (cutAlong wide)) (len (cutAlong tall)) (guess (cut q w)) (cut q w .stations) part
+  cut-runs = unfold cut in run (cut q w)
 
   same-guess : (i j : ℕ) → i < len (cutAlong wide) → j < len (cutAlong tall)
       → guess q (i + off (cutAlong wide)) (j + off (cutAlong tall)) ≡ guess (cut q w) i j
   same-guess i j hi hj =
-      unfold guess cut columnsCut rowsCut in
-      sym (field-stored (pointsAlong (columnsCut q w)) (pointsAlong (rowsCut q w)) (pos 0)
-      (λ i j. guess q (i + columnsCut q w .first) (j + rowsCut q w .first)) i j hi hj)
+      unfold guess cut windowOf in
+      sym (field-stored (pointsAlong (cutOf q w .columns)) (pointsAlong (cutOf q w .rows)) (pos 0)
+      (λ i j. guess q (i + cutOf q w .columns .first) (j + cutOf q w .rows .first)) i j hi hj)
 
   abbrev both : Runs (cressman q) wide tall
   both =
@@ -125,86 +126,112 @@ module _ (q : Request) (w : Window) (sound : Sound q) (on : OnGrid q w) where
         guess = guess q;
         guess' = guess (cut q w);
         same-guess = same-guess;
-        stations = stations q;
+        stations = q .stations;
         whole = states q;
-        whole-runs = run q (stations q) refl;
+        whole-runs = run q;
         part = part;
-        part-runs = cut-runs;
+        part-runs = unfold cut in cut-runs;
       }
 
-  alike : Alike (cressman q) wide tall both 0 (q .scans)
+  alike : Alike (cressman q) wide tall both 0 (q .plan .scans)
   alike =
-      run-alike (cressman q) wide tall both (steps q) (steps-enough q) (q .scans) 0
+      run-alike (cressman q) wide tall both (steps (q .plan)) (steps-enough (q .plan)) (q .plan .scans) 0
       (unfold reach in omega arith) (unfold reach in omega arith)
 
-  pub window-value : (i j : ℕ) → w .left ≤ i → i ≤ w .right → w .top ≤ j → j ≤ w .bottom
-      → after (cut q w) (q .scans) .field (i - columnsCut q w .first) (j - rowsCut q w .first) ≡ after q (q .scans) .field i j
-  window-value i j l r t b =
-      unfold columnsCut rowsCut in
-      agree-inside wide tall (after q (q .scans) .field) (after (cut q w) (q .scans) .field) (alike .fields) i j
-      (record { low = l; high = r }) (record { low = t; high = b })
+  pub window-value : (i j : ℕ) → OfWindow w i j
+      → after (cut q w) (q .plan .scans) .field (i - cutOf q w .columns .first) (j - cutOf q w .rows .first) ≡ after q (q .plan .scans) .field i j
+  window-value i j h =
+      agree-inside wide tall (after q (q .plan .scans) .field) (after (cut q w) (q .plan .scans) .field) (alike .fields) i j
+      (record { low = h .left; high = h .right }) (record { low = h .top; high = h .bottom })
 
-  pub window-support : (i j : ℕ) → w .left ≤ i → i ≤ w .right → w .top ≤ j → j ≤ w .bottom
-      → after (cut q w) (q .scans) .support (i - columnsCut q w .first) (j - rowsCut q w .first) ≡ after q (q .scans) .support i j
-  window-support i j l r t b =
-      unfold columnsCut rowsCut in
-      agree-inside wide tall (after q (q .scans) .support) (after (cut q w) (q .scans) .support) (alike .supports) i j
-      (record { low = l; high = r }) (record { low = t; high = b })
+  pub window-support : (i j : ℕ) → OfWindow w i j
+      → after (cut q w) (q .plan .scans) .support (i - cutOf q w .columns .first) (j - cutOf q w .rows .first) ≡ after q (q .plan .scans) .support i j
+  window-support i j h =
+      agree-inside wide tall (after q (q .plan .scans) .support) (after (cut q w) (q .plan .scans) .support) (alike .supports) i j
+      (record { low = h .left; high = h .right }) (record { low = h .top; high = h .bottom })
+
+  -- ---- the same of the stored lists
+
+  on-cut : (i j : ℕ) → OfWindow w i j → (i - cutOf q w .columns .first < cut q w .nx) × (j - cutOf q w .rows .first < cut q w .ny)
+  unfolding cut widened
+  on-cut i j h = (omega (arith, h .left, h .right, on .right), omega (arith, h .top, h .bottom, on .bottom))
+
+  on-whole : (i j : ℕ) → OfWindow w i j → (i < q .nx) × (j < q .ny)
+  on-whole i j h = (omega (arith, h .right, on .right), omega (arith, h .bottom, on .bottom))
+
+  stored-inside : {A : Type 0} (f : Field A) (i j : ℕ) → OfWindow w i j → placeInCut q w i j < length (stored (cut q w .nx) (cut q w .ny) f)
+  stored-inside f i j h =
+      let (x, y) = on-cut i j h in
+      rw (length-stored (cut q w .nx) (cut q w .ny) f) (place-in (cut q w .nx) (cut q w .ny) (i - cutOf q w .columns .first) (j - cutOf q w .rows .first) x y)
+
+  stored-agrees : {A : Type 0} (past : A) (f g : Field A) (i j : ℕ) → OfWindow w i j → f (i - cutOf q w .columns .first) (j - cutOf q w .rows .first) ≡ g i j
+      → getD (stored (cut q w .nx) (cut q w .ny) f) (placeInCut q w i j) past ≡ getD (stored (q .nx) (q .ny) g) (j * q .nx + i) past
+  unfolding fieldOf
+  stored-agrees past f g i j h e =
+      let (x, y) = on-cut i j h in
+      let (x', y') = on-whole i j h in
+      field-stored (cut q w .nx) (cut q w .ny) past f (i - cutOf q w .columns .first) (j - cutOf q w .rows .first) x y
+      ∙ e ∙ sym (field-stored (q .nx) (q .ny) past g i j x' y')
+
+  -- ---- stations
 
   -- the cut keeps the stations of the window
-  pub window-keeps : (s : Station) → onWindow w s ≡ true → onCut q w s ≡ true
-  unfolding onCut columnsCut rowsCut
+  pub window-keeps : (s : Station) → onWindow w s ≡ true → onWindow (cutOf q w) s ≡ true
   window-keeps s e =
       let (x, y) = and-true _ _ e in
       rw (span-keeps wide (s .x) x, span-keeps tall (s .y) y)
 
-  pub window-verdict : (k : ℕ) → k < length (q .columns .x) → onWindow w (stationAt (q .columns) k) ≡ true
+  window-verdict : (k : ℕ) (o : Station) → k < length (q .stations) → onWindow w (getD (q .stations) k o) ≡ true
       → getD (analysis (cut q w) .verdict) (rowInCut q w k) 0 ≡ getD (analysis q .verdict) k 0
-  window-verdict k l e =
+  window-verdict k o l e =
       unfold analysis cut in
-      (List·getD-map (λ (r : Row). r .verdict) (after (cut q w) (q .scans) .rows) (rowInCut q w k) o
+      (List·getD-map (λ (r : Row). r .verdict) (after (cut q w) (q .plan .scans) .rows) (rowInCut q w k) past
       ∙ sym (twin .verdicts near)
-      ∙ sym (List·getD-map (λ (r : Row). r .verdict) (after q (q .scans) .rows) k o))
+      ∙ sym (List·getD-map (λ (r : Row). r .verdict) (after q (q .plan .scans) .rows) k past))
     where
-      o : Row
-      o = record { station = stationAt (q .columns) k; verdict = 0 }
+      past : Row
+      past = record { station = o; verdict = 0 }
 
-      same : map (λ (r : Row). r .station) (after q (q .scans) .rows) ≡ stations q
-      same = stations-stay (cressman q) wide tall both (q .scans)
+      same : map (λ (r : Row). r .station) (after q (q .plan .scans) .rows) ≡ q .stations
+      same = stations-stay (cressman q) wide tall both (q .plan .scans)
 
-      station-is : getD (after q (q .scans) .rows) k o .station ≡ stationAt (q .columns) k
+      station-is : getD (after q (q .plan .scans) .rows) k past .station ≡ getD (q .stations) k o
       station-is =
-          sym (List·getD-map (λ (r : Row). r .station) (after q (q .scans) .rows) k o)
-          ∙ ap (λ (ss : List Station). getD ss k (stationAt (q .columns) k)) same
-          ∙ row-of q k (stationAt (q .columns) k) l
+          sym (List·getD-map (λ (r : Row). r .station) (after q (q .plan .scans) .rows) k past)
+          ∙ ap (λ (ss : List Station). getD ss k o) same
 
-      here : onWindow w (getD (after q (q .scans) .rows) k o .station) ≡ true
+      here : onWindow w (getD (after q (q .plan .scans) .rows) k past .station) ≡ true
       here = rw station-is e
 
-      near : Near (cressman q) wide tall (step * 0) (getD (after q (q .scans) .rows) k o .station)
+      near : Near (cressman q) wide tall (step * 0) (getD (after q (q .plan .scans) .rows) k past .station)
       near = let (x, y) = and-true _ _ here in record { along-x = span-spot wide _ x; along-y = span-spot tall _ y }
 
-      twin : Twin (cressman q) wide tall (step * 0) (getD (after q (q .scans) .rows) k o) (getD (after (cut q w) (q .scans) .rows) (rowInCut q w k) o)
+      twin : Twin (cressman q) wide tall (step * 0) (getD (after q (q .plan .scans) .rows) k past) (getD (after (cut q w) (q .plan .scans) .rows) (rowInCut q w k) past)
       twin =
-          unfold onCut columnsCut rowsCut in
-          twin-row (cressman q) wide tall both (q .scans) 0 alike o o k
-          (omega (arith, sym (length-map (after q (q .scans) .rows) (λ (r : Row). r .station)) ∙ ap length same ∙ rows-of q))
-          (window-keeps (getD (after q (q .scans) .rows) k o .station) here)
+          twin-row (cressman q) wide tall both (q .plan .scans) 0 alike past past k
+          (omega (arith, sym (length-map (after q (q .plan .scans) .rows) (λ (r : Row). r .station)) ∙ ap length same))
+          (window-keeps (getD (after q (q .plan .scans) .rows) k past .station) here)
 
 -- ---- the theorem
 
-pub windows-agree-with-the-whole : (q : Request) (w : Window) (l : Lengths) → analysisRefusal q l ≡ accepted → badWindow q w ≡ false → Agrees q w
-windows-agree-with-the-whole q w l e b =
-    let sound = analysis-sound q l e in
-    let on = on-grid q w b in
+pub agrees : (q : Request) (w : Window) → Sound q → OnGrid (q .nx) (q .ny) w → Agrees q w
+unfolding analysis
+agrees q w sound on =
     record {
       accepts = cut-accepted q w sound on;
       two-columns = cut-sound q w sound on .shape .two-columns;
       two-rows = cut-sound q w sound on .shape .two-rows;
-      values = window-value q w sound on;
-      supports = window-support q w sound on;
+      inside = λ i j h. (stored-inside q w sound on _ i j h, stored-inside q w sound on _ i j h);
+      values = λ i j h. unfold cut in stored-agrees q w sound on (pos 0) _ _ i j h (window-value q w sound on i j h);
+      supports = λ i j h. unfold cut in stored-agrees q w sound on 0 _ _ i j h (window-support q w sound on i j h);
       keeps = window-keeps q w sound on;
-      inside = λ k l t. window-row q w k l t .0;
-      rows = λ k l t. window-row q w k l t .1;
-      verdicts = window-verdict q w sound on;
+      rows = window-row q w;
+      verdicts = λ k o l e. (
+        rw (verdict-long (cut q w)) (window-row q w k o l (window-keeps q w sound on (getD (q .stations) k o) e) .0),
+        window-verdict q w sound on k o l e,
+      );
     }
+
+pub windows-agree-with-the-whole : (c : Call) (w : Window) (grid support verdict : ℕ) → analysisRefusal c grid support verdict ≡ accepted
+    → badWindow (c .nx) (c .ny) w ≡ false → Agrees (asked c) w
+windows-agree-with-the-whole c w grid support verdict e b = agrees (asked c) w (analysis-sound c grid support verdict e) (on-grid (c .nx) (c .ny) w b)

@@ -2,7 +2,7 @@
 use Prim.Native.Nat.{ℕ}
 use mathlib.Core.List.{List}
 use lib.IntN.{ℤ}
-use Rattle.scheme.specs.Units.{Station, missingMark, noEnd, mostScans, mostStations}
+use Rattle.scheme.specs.Units.{leastSide, mostSide, Station, missingMark, noEnd, mostScans, mostStations}
 use Rattle.scheme.specs.Text.Pieces.{ascii, Piece, word, comma, lineFeed, count, unsigned, signed, values, gives, _or_, _before_, _>>=_, _>>_}
 
 -- a number is the value
@@ -17,8 +17,8 @@ pub record Size : Type 0 where
 unfoldable pub gridLine : Piece Size
 gridLine = do
   word (ascii "grid=")
-  nx ← count 2 64 before comma
-  ny ← count 2 64 before lineFeed
+  nx ← count leastSide mostSide before comma
+  ny ← count leastSide mostSide before lineFeed
   gives (record { nx = nx; ny = ny })
 
 unfoldable pub timeLine : Piece ℕ
