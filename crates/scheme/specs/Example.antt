@@ -2,7 +2,7 @@
 use Prim.Native.Nat.{ℕ}
 use mathlib.Core.Path.{_≡_, refl}
 use mathlib.Core.Bool.{false}
-use mathlib.Core.List.{List, [], _∷_, _++_}
+use mathlib.Core.List.{List, [], _∷_, _++_, flatten}
 use lib.IntN.{ℤ, pos}
 use Rattle.lists.specs.Tab.{tab}
 use Rattle.lists.specs.Sums.{total}
@@ -18,9 +18,9 @@ use Rattle.scheme.specs.Correction.{weightOf, share, sums, correction, b
 use Rattle.scheme.specs.Scan.{Analysis, start, rowsJudged, sumsAt, corrected, scan, after, analysis}
 use Rattle.scheme.specs.Reach.{Tile, windowOf, wholeAt}
 use Rattle.scheme.specs.Promises.{slices, tile, windowAt}
-use Rattle.scheme.specs.Text.{requestLines, outcome, firstTwo, analysisText, printed, answerText}
-use Rattle.scheme.specs.Text.Pieces.{ascii, word, digits, positive, natural, between, count, unsigned, minus, negative, signed, values}
-use Rattle.scheme.specs.Text.Lines.{number, gridLine, timeLine, ageLine, smoothLine, scansLine, scanLine, rowLine, stationsLine, observation, end, stationLine}
+use Rattle.scheme.specs.Text.{requestLines, firstTwo, analysisText, replyText, answerText}
+use Rattle.scheme.specs.Text.Pieces.{ascii, word, digits, positive, natural, between, count, unsigned, negative, signed, values}
+use Rattle.scheme.specs.Text.Lines.{number, gridLine, scanLine, rowLine, observation, end, stationLine}
 use Rattle.scheme.specs.Text.Order.{lines, rows, nothingAfter}
 use Rattle.scheme.specs.Text.Printed.{spelled, decimal, integer, cells, keyed, gridLines}
 
@@ -118,5 +118,5 @@ unfolding analysis wholeAt windowOf stored tab after scan start rowsJudged sumsA
 example-analysis = (refl, refl, refl, refl)
 
 pub example-text : (answerText onceText ≡ onceAnswer) × (answerText twiceText ≡ twiceAnswer)
-unfolding answerText printed outcome requestLines lines rows nothingAfter gridLine timeLine ageLine smoothLine scansLine scanLine rowLine stationsLine stationLine number observation end word digits positive natural between count unsigned minus negative signed values analysisRefusal inOrder fromFour refusedIf refusedAt first orNext badShape badLengths badColumns badScans badScan rising badGuess badStation stationAt isMissing analysisText firstTwo gridLines keyed cells integer decimal spelled analysis stored tab after scan start rowsJudged sumsAt corrected guess fieldOf stations R E beforeScans firstThatFits missing outOfService serves observedAfter tooOld offGrid onAxis judged afterTest difference valueAt place sumAt cell interpolationSum rounded sums total share weightOf weight squaredDistance correction backedBy
+unfolding answerText replyText requestLines lines rows flatten nothingAfter gridLine scanLine rowLine stationLine number observation end word digits positive natural between count unsigned negative signed values analysisRefusal inOrder fromFour refusedIf refusedAt first orNext badShape badLengths badColumns badScans badScan rising badGuess badStation stationAt isMissing analysisText firstTwo gridLines keyed cells integer decimal spelled analysis stored tab after scan start rowsJudged sumsAt corrected guess fieldOf stations R E beforeScans firstThatFits missing outOfService serves observedAfter tooOld offGrid onAxis judged afterTest difference valueAt place sumAt cell interpolationSum rounded sums total share weightOf weight squaredDistance correction backedBy
 example-text = (refl, refl)
