@@ -6,7 +6,8 @@ use mathlib.Core.Path.{_≡_, refl, sym, ap, _∙_}
 use mathlib.Core.List.{List, [], _∷_, _++_, append-assoc}
 use lib.ListN.{length, take, drop, set, getD, length-append, length-take, length-drop, drop-of-length-le}
 use lib.Seq.{drop-cons, drop-drop}
-use Rattle.scheme.specs.Text.Printed.{mark, cells, keyed, gridLines}
+use Rattle.scheme.specs.Text.Pieces.{mark}
+use Rattle.scheme.specs.Text.Printed.{cells, keyed, gridLines}
 use Rattle.answer.specs.Written.{Written, Left, room-next, put-next, written-byte, written-then}
 
 -- ---- a word
