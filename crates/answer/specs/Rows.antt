@@ -58,6 +58,11 @@ module _ {A : Type 0} (shown : A → List ℕ) where
   keyed-none key [] h = refl
   keyed-none key (z ∷ zs) h = absurd (omega arith)
 
+  pub key-inside : (key : List ℕ) (zs : List A) → length key ≤ length (keyed key shown zs)
+  unfolding keyed
+  key-inside key [] = omega (arith, length-append key (10 ∷ []))
+  key-inside key (z ∷ zs) = omega (arith, length-append key (cells shown (z ∷ zs)))
+
   pub keyed-one : (key : List ℕ) (z : A) → keyed key shown (z ∷ []) ≡ key ++ (shown z ++ (10 ∷ []))
   unfolding keyed cells
   keyed-one key z = refl
