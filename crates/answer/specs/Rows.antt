@@ -6,7 +6,8 @@ use mathlib.Core.Path.{_≡_, refl, sym, ap, _∙_}
 use mathlib.Core.List.{List, [], _∷_, _++_, append-assoc}
 use lib.ListN.{length, take, drop, set, getD, length-append, length-take, length-drop, drop-of-length-le}
 use lib.Seq.{drop-cons, drop-drop}
-use Rattle.scheme.specs.Text.Printed.{mark, cells, keyed, gridLines}
+use Rattle.scheme.specs.Text.Pieces.{mark}
+use Rattle.scheme.specs.Text.Printed.{cells, keyed, gridLines}
 use Rattle.answer.specs.Written.{Written, Left, room-next, put-next, written-byte, written-then}
 
 -- ---- a word
@@ -56,6 +57,11 @@ module _ {A : Type 0} (shown : A → List ℕ) where
   unfolding keyed
   keyed-none key [] h = refl
   keyed-none key (z ∷ zs) h = absurd (omega arith)
+
+  pub key-inside : (key : List ℕ) (zs : List A) → length key ≤ length (keyed key shown zs)
+  unfolding keyed
+  key-inside key [] = omega (arith, length-append key (10 ∷ []))
+  key-inside key (z ∷ zs) = omega (arith, length-append key (cells shown (z ∷ zs)))
 
   pub keyed-one : (key : List ℕ) (z : A) → keyed key shown (z ∷ []) ≡ key ++ (shown z ++ (10 ∷ []))
   unfolding keyed cells

@@ -6,8 +6,8 @@ ghost use Prim.Native.Nat.{_+_, _*_, _≤_, _<_};
 ghost use lib.ListN.{length};
 ghost use lib.IntN.{natAbs};
 ghost use Rattle.scheme.specs.Text.{firstTwo, analysisText};
-ghost use Rattle.scheme.specs.Text.Pieces.{ascii};
-ghost use Rattle.scheme.specs.Text.Printed.{decimal, integer, mark, cells, keyed, gridLines};
+ghost use Rattle.scheme.specs.Text.Pieces.{ascii, mark};
+ghost use Rattle.scheme.specs.Text.Printed.{decimal, integer, cells, keyed, gridLines};
 ghost use Rattle.scheme.specs.Promises.{slices};
 ghost use Rattle.answer.specs.Written.{Written};
 

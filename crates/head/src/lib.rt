@@ -2,10 +2,8 @@
 ghost use mathlib.Core.Path.{_≡_};
 ghost use Prim.Native.Nat.{_≤_};
 ghost use lib.ListN.{drop};
-ghost use Rattle.scheme.specs.Text.{defaultAge};
-ghost use Rattle.scheme.specs.Text.Lines.{ageLine};
-ghost use Rattle.scheme.specs.Text.Order.{read, optional};
-ghost use Rattle.head.specs.Head.{Heads};
+ghost use Rattle.scheme.specs.Text.Reader.{reads};
+ghost use Rattle.head.specs.Head.{ageOr, Heads};
 use lines::SizeRead;
 use pieces::UnsignedRead;
 
@@ -39,7 +37,7 @@ pub enum HeadRead {
 // A line that may be left out.
 fn age_line(s: &[u8], at: usize, line: u32) -> Age
     requires { ⌜ line ≤ 3 ⌝ }
-    ensures { λ r. ⌜ (optional defaultAge ageLine line (drop at (now (s .entry))) ≡ read (r .age) (r .line) (drop (r .next) (now (s .entry)))) × (r .line ≤ 4) ⌝ }
+    ensures { λ r. ⌜ (ageOr (line, drop at (now (s .entry))) ≡ reads (r .age) (r .line, drop (r .next) (now (s .entry)))) × (r .line ≤ 4) ⌝ }
 {
     let UnsignedRead::Value(age, next) = lines::number_line(s, at, b"age=", 0, 4294967295) else {
         return Age {

@@ -5,8 +5,9 @@ use mathlib.Core.List.{List}
 use lib.ListN.{drop}
 use lib.IntN.{ℤ}
 use Rattle.scheme.specs.Units.{Station}
-use Rattle.scheme.specs.Text.Pieces.{Parsed, fails, reads}
+use Rattle.scheme.specs.Text.Reader.{fails, reads}
 use Rattle.scheme.specs.Text.Lines.{Size, Entry}
+use Rattle.pieces.specs.Told.{Parsed}
 use Rattle.pieces.specs.declared.WordRead.{WordRead}
 use Rattle.pieces.specs.declared.WordRead.the-variants.{At, NotInForm as NoWord}
 use Rattle.lines.specs.declared.SizeRead.{SizeRead}
@@ -25,20 +26,20 @@ pub record SizeIs (s : List ℕ) (p : Parsed Size) (nx ny next : ℕ) : Type 0 w
 
 abbrev pub Sizes : List ℕ → Parsed Size → SizeRead → Type 0
 Sizes s p (SizeValue nx ny next) = SizeIs s p nx ny next
-Sizes s p NotSize = p ≡ fails
+Sizes s p NotSize = p ≡ fails tt
 
 abbrev pub entryTold : List ℕ → EntryRead → Parsed Entry
 entryTold s (EntryValue radius limit next) = reads (record { radius = radius; limit = limit }) (drop next s)
-entryTold s NotEntry = fails
+entryTold s NotEntry = fails tt
 
 abbrev pub stationOf : Row → Station
 stationOf r = record { x = r .x; y = r .y; value = r .value; observed = r .observed; from = r .from; until = r .until }
 
 abbrev pub stationTold : List ℕ → StationRead → Parsed Station
 stationTold s (StationValue row next) = reads (stationOf row) (drop next s)
-stationTold s NotStation = fails
+stationTold s NotStation = fails tt
 
 -- values that were read into z
 abbrev pub valuesTold : List ℕ → List ℤ → WordRead → Parsed (List ℤ)
 valuesTold s z (At next) = reads z (drop next s)
-valuesTold s z NoWord = fails
+valuesTold s z NoWord = fails tt

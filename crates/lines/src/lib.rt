@@ -1,7 +1,9 @@
 // Lines of the request text (document 01), one at a time: each at a place of the text.
 ghost use mathlib.Core.Path.{_≡_};
 ghost use lib.ListN.{length, drop};
-ghost use Rattle.scheme.specs.Text.Pieces.{signed, following, values, count, _before_};
+ghost use mathlib.Core.List.{[], _∷_};
+ghost use Rattle.scheme.specs.Text.Reader.{_before_};
+ghost use Rattle.scheme.specs.Text.Pieces.{word, count, signed, mark, values};
 ghost use Rattle.scheme.specs.Text.Lines.{number, gridLine, scanLine, rowLine, stationLine, observation, end};
 ghost use Rattle.pieces.specs.Told.{unsignedTold, signedTold, Within};
 ghost use Rattle.lines.specs.Told.{Sizes, entryTold, stationTold, valuesTold};
@@ -152,7 +154,7 @@ pub fn station_line(s: &[u8], at: usize) -> StationRead
 
 // A value of a grid row that has so many after it.
 fn cell_at(s: &[u8], at: usize, more: usize) -> SignedRead
-    ensures { λ r. ⌜ (signed before following more) (drop at (now (s .entry))) ≡ signedTold (now (s .entry)) r ⌝ }
+    ensures { λ r. ⌜ (signed before word (mark more ∷ [])) (drop at (now (s .entry))) ≡ signedTold (now (s .entry)) r ⌝ }
 {
     if more == 0 {
         return pieces::signed_before(s, pieces::signed_at(s, at), b"\n");

@@ -6,7 +6,7 @@ use mathlib.Core.Path.{_≡_, refl, sym, ap, _∙_}
 use mathlib.Core.Bool.{Bool, true, false, and-false}
 use mathlib.Core.Logic.{_⊎_, inl, inr}
 use mathlib.Core.List.{List, [], _∷_}
-use borrow.Author.Tests.{ne-eqb, le-leb, lt-leb, leb-true}
+use borrow.Author.Tests.{le-leb, lt-leb, leb-true}
 use lib.Dec.{leb, lit<}
 use lib.Pow.{pow-pos}
 use lib.IntN.{pos, negℤ, _-ℤ_, +ℤ-idl}
@@ -16,14 +16,15 @@ use mir.Syntax.{Width, w32, w64}
 use mir.Val.{SFits, toZ, ofZ, hbits}
 use mir.Facts.{toZ-ofZ, toZ-pos}
 use Rattle.lists.specs.Tests.{lt-or-le, and-true}
-use Rattle.scheme.specs.Text.Pieces.{Parsed, fails, reads, word, isDigit, digits, positive, natural, between, count, minus, negative, signed}
-use Rattle.scheme.specs.RoundTrip.{between-reads}
+use Rattle.scheme.specs.Text.Reader.{fails, reads, onward, _or_}
+use Rattle.scheme.specs.Text.Pieces.{word, digits, positive, natural, between, count, negative, signed}
+use Rattle.scheme.specs.RoundTrip.{isDigit, between-reads}
 use Rattle.pieces.specs.declared.NaturalRead.{NaturalRead}
 use Rattle.pieces.specs.declared.NaturalRead.the-variants.{Value as Natural, NotInForm as NotNatural}
 use Rattle.pieces.specs.declared.UnsignedRead.{UnsignedRead}
 use Rattle.pieces.specs.declared.UnsignedRead.the-variants.{Value as Unsigned, NotInForm as NotUnsigned}
 use Rattle.pieces.specs.Words.{word-other}
-use Rattle.pieces.specs.Told.{naturalTold, unsignedTold, Lies, most, capped}
+use Rattle.pieces.specs.Told.{Parsed, naturalTold, unsignedTold, Lies, most, capped}
 
 -- ---- digits
 
@@ -66,15 +67,15 @@ digits-more s i a v h e w =
 -- ---- a number of any length
 
 module _ (s : List ℕ) (at : ℕ) where
-  pub positive-none : length s ≤ at → positive (drop at s) ≡ fails
+  pub positive-none : length s ≤ at → positive (drop at s) ≡ fails tt
   unfolding positive
   positive-none h = rw (drop-of-length-le s h)
 
-  pub positive-low : at < length s → getD s at 0 < 49 → positive (drop at s) ≡ fails
+  pub positive-low : at < length s → getD s at 0 < 49 → positive (drop at s) ≡ fails tt
   unfolding positive
   positive-low h k = rw (drop-cons s at 0 h, lt-leb 49 (getD s at 0) k, positive)
 
-  pub positive-high : at < length s → 57 < getD s at 0 → positive (drop at s) ≡ fails
+  pub positive-high : at < length s → 57 < getD s at 0 → positive (drop at s) ≡ fails tt
   unfolding positive
   positive-high h k = rw (drop-cons s at 0 h, lt-leb (getD s at 0) 57 k, and-false (leb 49 (getD s at 0)), positive)
 
@@ -82,7 +83,7 @@ module _ (s : List ℕ) (at : ℕ) where
   unfolding positive
   positive-is h l k = rw (add-one at, drop-cons s at 0 h, le-leb 49 (getD s at 0) l, le-leb (getD s at 0) 57 k, positive)
 
-  pub natural-none : length s ≤ at → natural (drop at s) ≡ fails
+  pub natural-none : length s ≤ at → natural (drop at s) ≡ fails tt
   unfolding positive natural word
   natural-none h = rw (drop-of-length-le s h)
 
@@ -91,28 +92,28 @@ module _ (s : List ℕ) (at : ℕ) where
   natural-zero h e = rw (add-one at, drop-cons s at 0 h, e)
 
   pub natural-other : at < length s → (getD s at 0 ≡ 48 → ⊥) → natural (drop at s) ≡ positive (drop at s)
-  unfolding natural word
-  natural-other h n = rw (drop-cons s at 0 h, ne-eqb (getD s at 0) 48 n, word)
+  unfolding natural
+  natural-other h n = rw (word-other (48 ∷ []) s 0 at (lit< tt) h n, _or_)
 
 -- ---- its range
 
-between-under : (low high n : ℕ) (rest : List ℕ) → n < low → between low high (reads n rest) ≡ fails
+between-under : (low high n : ℕ) (rest : List ℕ) → n < low → between low high n rest ≡ fails tt
 unfolding between
 between-under low high n rest h = rw (lt-leb low n h, between)
 
-between-over : (low high n : ℕ) (rest : List ℕ) → high < n → between low high (reads n rest) ≡ fails
+between-over : (low high n : ℕ) (rest : List ℕ) → high < n → between low high n rest ≡ fails tt
 unfolding between
 between-over low high n rest h = rw (lt-leb n high h, and-false (leb low n), between)
 
 -- a number that is not told apart from 2^32 lies in no range of a u32
-pub between-capped : (low high : ℕ) (p : Parsed ℕ) → high < most → between low high p ≡ between low high (capped p)
+pub between-capped : (low high : ℕ) (p : Parsed ℕ) → high < most → onward p (between low high) ≡ onward (capped p) (between low high)
 unfolding between
-between-capped low high fails h = refl
+between-capped low high (fails none) h = refl
 between-capped low high (reads n rest) h = go (lt-or-le high n)
   where
-    go : (high < n) ⊎ (n ≤ high) → between low high (reads n rest) ≡ between low high (reads (min n most) rest)
+    go : (high < n) ⊎ (n ≤ high) → between low high n rest ≡ between low high (min n most) rest
     go (inl k) = between-over low high n rest k ∙ sym (between-over low high (min n most) rest (omega arith))
-    go (inr k) = let e : n ≡ min n most = omega arith in ap (λ (m : ℕ). between low high (reads m rest)) e
+    go (inr k) = let e : n ≡ min n most = omega arith in ap (λ (m : ℕ). between low high m rest) e
 
 -- how a range is tested
 module _ {low high v next : ℕ} {n : NaturalRead} (e : n ≡ Natural v next) where
@@ -131,13 +132,13 @@ lies-nowhere e = record { said = λ s. rw e; within = tt }
 
 -- a number of any length, and then its range
 module _ {low high : ℕ} {n : NaturalRead} {r : UnsignedRead} (l : Lies n low high r) (h : high < most) where
-  pub ranged : (s : List ℕ) (p : Parsed ℕ) → capped p ≡ naturalTold s n → between low high p ≡ unsignedTold s r
-  ranged s p e = between-capped low high p h ∙ ap (between low high) e ∙ l .said s
+  pub ranged : (s : List ℕ) (p : Parsed ℕ) → capped p ≡ naturalTold s n → onward p (between low high) ≡ unsignedTold s r
+  ranged s p e = between-capped low high p h ∙ ap (λ (x : Parsed ℕ). onward x (between low high)) e ∙ l .said s
 
 -- ---- an i32
 
 module _ (s : List ℕ) (at : ℕ) where
-  pub signed-none : length s ≤ at → signed (drop at s) ≡ fails
+  pub signed-none : length s ≤ at → signed (drop at s) ≡ fails tt
   unfolding signed count between natural positive word
   signed-none h = rw (drop-of-length-le s h)
 
@@ -147,18 +148,18 @@ module _ (s : List ℕ) (at : ℕ) where
 
   pub signed-count : {n : ℕ} {rest : List ℕ} → count 0 (2 ^ 31 - 1) (drop at s) ≡ reads n rest → signed (drop at s) ≡ reads (pos n) rest
   unfolding signed
-  signed-count e = rw e
+  signed-count e = rw (e, _or_)
 
-  pub signed-other : at < length s → (getD s at 0 ≡ 45 → ⊥) → count 0 (2 ^ 31 - 1) (drop at s) ≡ fails → signed (drop at s) ≡ fails
+  pub signed-other : at < length s → (getD s at 0 ≡ 45 → ⊥) → count 0 (2 ^ 31 - 1) (drop at s) ≡ fails tt → signed (drop at s) ≡ fails tt
   unfolding signed
-  signed-other h n e = rw (e, word-other (45 ∷ []) s 0 at (lit< tt) h n)
+  signed-other h n e = rw (e, _or_, word-other (45 ∷ []) s 0 at (lit< tt) h n)
 
-  pub negative-count : {n : ℕ} {rest : List ℕ} → between 0 (2 ^ 31) (positive (drop at s)) ≡ reads n rest → negative (drop at s) ≡ reads (negℤ (pos n)) rest
-  unfolding negative minus
+  pub negative-count : {n : ℕ} {rest : List ℕ} → onward (positive (drop at s)) (between 0 (2 ^ 31)) ≡ reads n rest → negative (drop at s) ≡ reads (negℤ (pos n)) rest
+  unfolding negative
   negative-count e = rw e
 
-  pub negative-none : between 0 (2 ^ 31) (positive (drop at s)) ≡ fails → negative (drop at s) ≡ fails
-  unfolding negative minus
+  pub negative-none : onward (positive (drop at s)) (between 0 (2 ^ 31)) ≡ fails tt → negative (drop at s) ≡ fails tt
+  unfolding negative
   negative-none e = rw e
 
 -- a number's negation, in the two types that the code goes through

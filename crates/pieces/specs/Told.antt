@@ -4,7 +4,8 @@ use mathlib.Core.Path.{_≡_, ap, _∙_}
 use mathlib.Core.List.{List}
 use lib.ListN.{drop}
 use lib.IntN.{ℤ}
-use Rattle.scheme.specs.Text.Pieces.{Parsed, fails, reads, Piece, onward, gives, between}
+use Rattle.scheme.specs.Text.Reader.{Result, fails, reads, onward, gives}
+use Rattle.scheme.specs.Text.Pieces.{Piece, between}
 use Rattle.pieces.specs.declared.WordRead.{WordRead}
 use Rattle.pieces.specs.declared.WordRead.the-variants.{At, NotInForm as NoWord}
 use Rattle.pieces.specs.declared.NaturalRead.{NaturalRead}
@@ -14,21 +15,25 @@ use Rattle.pieces.specs.declared.UnsignedRead.the-variants.{Value as Uns
 use Rattle.pieces.specs.declared.SignedRead.{SignedRead}
 use Rattle.pieces.specs.declared.SignedRead.the-variants.{Value as Signed, NotInForm as NotSigned}
 
+-- what a piece reads
+abbrev pub Parsed : Type 0 → Type 0
+Parsed A = Result (List ℕ) (Unit {0}) A
+
 abbrev pub wordTold : List ℕ → WordRead → Parsed (Unit {0})
 wordTold s (At next) = reads tt (drop next s)
-wordTold s NoWord = fails
+wordTold s NoWord = fails tt
 
 abbrev pub naturalTold : List ℕ → NaturalRead → Parsed ℕ
 naturalTold s (Natural n next) = reads n (drop next s)
-naturalTold s NotNatural = fails
+naturalTold s NotNatural = fails tt
 
 abbrev pub unsignedTold : List ℕ → UnsignedRead → Parsed ℕ
 unsignedTold s (Unsigned n next) = reads n (drop next s)
-unsignedTold s NotUnsigned = fails
+unsignedTold s NotUnsigned = fails tt
 
 abbrev pub signedTold : List ℕ → SignedRead → Parsed ℤ
 signedTold s (Signed z next) = reads z (drop next s)
-signedTold s NotSigned = fails
+signedTold s NotSigned = fails tt
 
 -- a piece that was read, and what must follow it: `p before q` is this of what p reads
 abbrev pub follows : {A B : Type 0} → Parsed A → Piece B → Parsed A
@@ -39,7 +44,7 @@ abbrev pub most : ℕ
 most = 2 ^ 32
 
 abbrev pub capped : Parsed ℕ → Parsed ℕ
-capped fails = fails
+capped (fails none) = fails none
 capped (reads n rest) = reads (min n most) rest
 
 -- a number that was read lies in low..high
@@ -48,7 +53,7 @@ Within low high (Unsigned n next) = (low ≤ n) × (n ≤ high)
 Within low high NotUnsigned = Unit {0}
 
 pub record Lies (n : NaturalRead) (low high : ℕ) (r : UnsignedRead) : Type 0 where
-  pub said : (s : List ℕ) → between low high (naturalTold s n) ≡ unsignedTold s r
+  pub said : (s : List ℕ) → onward (naturalTold s n) (between low high) ≡ unsignedTold s r
   pub within : Within low high r
 
 -- ---- laws

@@ -6,18 +6,19 @@ use mathlib.Core.List.{List}
 use borrow.Author.Tests.{eq-eqb, ne-eqb}
 use lib.ListN.{length, drop, getD, drop-of-length-le}
 use lib.Seq.{drop-cons}
-use Rattle.scheme.specs.Text.Pieces.{fails, reads, word}
+use Rattle.scheme.specs.Text.Reader.{fails, reads}
+use Rattle.scheme.specs.Text.Pieces.{word}
 
 module _ (key s : List ℕ) (i p : ℕ) where
   pub word-end : length key ≤ i → word (drop i key) (drop p s) ≡ reads tt (drop p s)
   unfolding word
   word-end h = rw (drop-of-length-le key h)
 
-  pub word-short : i < length key → length s ≤ p → word (drop i key) (drop p s) ≡ fails
+  pub word-short : i < length key → length s ≤ p → word (drop i key) (drop p s) ≡ fails tt
   unfolding word
   word-short h k = rw (drop-of-length-le s k, drop-cons key i 0 h)
 
-  pub word-other : i < length key → p < length s → (getD s p 0 ≡ getD key i 0 → ⊥) → word (drop i key) (drop p s) ≡ fails
+  pub word-other : i < length key → p < length s → (getD s p 0 ≡ getD key i 0 → ⊥) → word (drop i key) (drop p s) ≡ fails tt
   unfolding word
   word-other h k n = rw (drop-cons s p 0 k, drop-cons key i 0 h, ne-eqb _ _ n, word)
 

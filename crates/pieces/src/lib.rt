@@ -2,7 +2,9 @@
 ghost use mathlib.Core.Path.{_≡_};
 ghost use Prim.Native.Nat.{ℕ, _+_, _-_, _*_, _≤_, min};
 ghost use lib.ListN.{drop};
-ghost use Rattle.scheme.specs.Text.Pieces.{isDigit, word, digits, positive, natural, count, negative, signed, reads};
+ghost use Rattle.scheme.specs.Text.Reader.{reads};
+ghost use Rattle.scheme.specs.Text.Pieces.{word, digits, positive, natural, count, negative, signed};
+ghost use Rattle.scheme.specs.RoundTrip.{isDigit};
 ghost use Rattle.pieces.specs.Told.{wordTold, naturalTold, unsignedTold, signedTold, follows, Within, Lies, most, capped};
 
 // What reading a piece gives: what it says with the place after it, or that it is not in form.

@@ -4,16 +4,19 @@ use mathlib.Core.List.{List}
 use lib.ListN.{length, drop, getD}
 use lib.IntN.{ℤ, pos}
 use Rattle.scheme.specs.Units.{Columns}
+use Rattle.scheme.specs.Text.Reader.{Result, fails, reads}
 use Rattle.scheme.specs.Text.Lines.{Entry}
-use Rattle.scheme.specs.Text.Order.{Read, notInForm, read}
 use Rattle.request.specs.declared.LinesRead.{LinesRead}
 use Rattle.request.specs.declared.LinesRead.the-variants.{Next, NotInForm as NotLines}
 
 -- ---- lines: what they said, and the number of the line after them
 
+abbrev pub Read : Type 0 → Type 0
+Read A = Result (ℕ × List ℕ) ℕ A
+
 abbrev pub linesTold : {A : Type 0} → List ℕ → A → ℕ → LinesRead → Read A
-linesTold s a after (Next next) = read a after (drop next s)
-linesTold s a after (NotLines line) = notInForm line
+linesTold s a after (Next next) = reads a (after, drop next s)
+linesTold s a after (NotLines line) = fails line
 
 -- ---- what stands in the columns
 

@@ -10,10 +10,11 @@ use lib.Seq.{drop-cons, length-take-le, getD-take}
 use lib.IntN.{ℤ, pos}
 use Rattle.lists.specs.Tab.{tab, is-tab, map-tab}
 use Rattle.scheme.specs.Units.{Request, Columns, Station, stationAt, columnsOf}
-use Rattle.scheme.specs.Text.Pieces.{fails, reads}
+use Rattle.scheme.specs.Text.Reader.{fails, reads, onward, _>>=_, _>>_, gives}
 use Rattle.scheme.specs.Text.{requestLines}
-use Rattle.scheme.specs.Text.Lines.{Entry, scanLine, rowLine, stationsLine, stationLine}
-use Rattle.scheme.specs.Text.Order.{Read, notInForm, read, Text, onward, _>>=_, _>>_, gives, line, lines, rows, nothingAfter}
+use Rattle.scheme.specs.Text.Lines.{Entry, scanLine, rowLine, stationLine}
+use Rattle.scheme.specs.Text.Order.{Text, line, lines, rows, nothingAfter}
+use Rattle.scheme.specs.RoundTrip.{stationsLine}
 use Rattle.head.specs.declared.Head.{Head}
 use Rattle.head.specs.declared.HeadRead.{HeadRead}
 use Rattle.head.specs.declared.HeadRead.the-variants.{Value as HeadValue, NotInForm as NotHead}
@@ -24,7 +25,7 @@ use Rattle.request.specs.declared.Counted.{Counted}
 use Rattle.request.specs.declared.Asked.{Asked}
 use Rattle.request.specs.declared.RequestRead.{RequestRead}
 use Rattle.request.specs.declared.RequestRead.the-variants.{Value as RequestValue, NotInForm as NotRequest}
-use Rattle.request.specs.Told.{linesTold, entryAt, Room}
+use Rattle.request.specs.Told.{Read, linesTold, entryAt, Room}
 use Rattle.request.specs.Columns.{Kept}
 
 -- ---- the definition, cut after the head and before the stations
@@ -59,7 +60,7 @@ middle nx ny time age smooth scans = do
   count ← line stationsLine
   stationsThen (gathered nx ny time age smooth scans plan guess) count
 
-cut : (k : ℕ) (bs : List ℕ) → requestLines k bs ≡ headThen middle k bs
+cut : (k : ℕ) (bs : List ℕ) → requestLines (k, bs) ≡ headThen middle (k, bs)
 unfolding requestLines
 cut k bs = refl
 
@@ -67,15 +68,15 @@ cut k bs = refl
 
 -- a text after lines that end here, or the line of these that is not in form
 abbrev linesAfter : {A : Type 0} → List ℕ → LinesRead → ℕ → Text A → Read A
-linesAfter s (Next p) k t = t k (drop p s)
-linesAfter s (NotLines j) k t = notInForm j
+linesAfter s (Next p) k t = t (k, drop p s)
+linesAfter s (NotLines j) k t = fails j
 
 abbrev pub Limited : HeadRead → Type 0
 Limited (HeadValue v) = Limits v
 Limited (NotHead k) = Unit {0}
 
 abbrev pub Plans : List ℕ → List ℤ → List ℤ → HeadRead → LinesRead → Type 0
-Plans s rs es (HeadValue v) r = lines (v .scans) scanLine (v .line) (drop (v .next) s) ≡ linesTold s (tab (v .scans) (entryAt rs es)) (v .line + v .scans) r
+Plans s rs es (HeadValue v) r = lines (v .scans) scanLine (v .line, drop (v .next) s) ≡ linesTold s (tab (v .scans) (entryAt rs es)) (v .line + v .scans) r
 Plans s rs es (NotHead k) r = Unit {0}
 
 abbrev pub Guesses : List ℕ → List ℤ → HeadRead → LinesRead → LinesRead → Type 0
@@ -85,10 +86,10 @@ Guesses s zs (NotHead k) plan r = Unit {0}
 -- in form, or line k is not
 abbrev ifFound : {A : Type 0} → Bool → Read A → ℕ → Read A
 ifFound true r k = r
-ifFound false r k = notInForm k
+ifFound false r k = fails k
 
 abbrev countTold : List ℕ → Counted → Read ℕ
-countTold s c = ifFound (c .found) (read (c .count) (c .line) (drop (c .next) s)) (c .line)
+countTold s c = ifFound (c .found) (reads (c .count) (c .line, drop (c .next) s)) (c .line)
 
 abbrev pub notCounted : ℕ → Counted
 notCounted line = record { found = false; count = 0; line = line; next = 0 }
@@ -106,8 +107,8 @@ abbrev askedOf : Head → (stations line : ℕ) → Asked
 askedOf h n k = record { nx = h .nx; ny = h .ny; time = h .time; age = h .age; smooth = h .smooth; scans = h .scans; stations = n; line = k }
 
 abbrev answered : Head → ℕ → Read (Unit {0}) → RequestRead
-answered h n (read tt k rest) = RequestValue (askedOf h n k)
-answered h n (notInForm k) = NotRequest k
+answered h n (reads tt left) = RequestValue (askedOf h n (left .0))
+answered h n (fails k) = NotRequest k
 
 abbrev pub Asks : List ℕ → HeadRead → Counted → LinesRead → RequestRead → Type 0
 Asks s (HeadValue v) c end r = r ≡ answered v (c .count) (ifFound (c .found) (linesAfter s end (c .line + c .count) nothingAfter) (c .line))
@@ -148,8 +149,8 @@ requestRead guess radius limit c a =
     }
 
 abbrev pub requestTold : List ℤ → List ℤ → List ℤ → Columns → RequestRead → Read Request
-requestTold guess radius limit c (RequestValue a) = read (requestRead guess radius limit c a) (a .line) []
-requestTold guess radius limit c (NotRequest k) = notInForm k
+requestTold guess radius limit c (RequestValue a) = reads (requestRead guess radius limit c a) (a .line, [])
+requestTold guess radius limit c (NotRequest k) = fails k
 
 -- the fronts lie inside what was lent
 pub record AskedFits (a : Asked) : Type 0 where
@@ -223,31 +224,31 @@ module _ (s : List ℕ) (v : Head) (rs es zs : List ℤ) (c : Columns) (limits :
         let (radii, limits) = plan-front (v .scans) rs es (omega (arith, limits .scans, lent .radii)) (omega (arith, limits .scans, lent .limits)) in
         rw (radii, limits, stations-front n c (room-less n 512 c few (lent .columns)))
 
-    nothing-more : (k : ℕ) (bs : List ℕ) → onward (nothingAfter k bs) (λ _. gives (held (tab n (stationAt c)))) ≡ requestTold zs rs es c (answered v n (nothingAfter k bs))
+    nothing-more : (k : ℕ) (bs : List ℕ) → onward (nothingAfter (k, bs)) (λ _. gives (held (tab n (stationAt c)))) ≡ requestTold zs rs es c (answered v n (nothingAfter (k, bs)))
     unfolding nothingAfter
-    nothing-more k [] = ap (λ (q : Request). read q k []) (fronts k)
+    nothing-more k [] = ap (λ (q : Request). reads q (k, [])) (fronts k)
     nothing-more k (b ∷ bs) = refl
 
     ends : (end : LinesRead) (k : ℕ) → linesAfter s end k (nothingAfter >> gives (held (tab n (stationAt c)))) ≡ requestTold zs rs es c (answered v n (linesAfter s end k nothingAfter))
     ends (Next p) k = nothing-more k (drop p s)
     ends (NotLines j) k = refl
 
-    stations-end : (found : Bool) (k p : ℕ) (end : LinesRead) → lines n stationLine k (drop p s) ≡ linesTold s (tab n (stationAt c)) (k + n) end
-        → onward (ifFound found (read n k (drop p s)) k) (stationsThen held) ≡ requestTold zs rs es c (answered v n (ifFound found (linesAfter s end (k + n) nothingAfter) k))
+    stations-end : (found : Bool) (k p : ℕ) (end : LinesRead) → lines n stationLine (k, drop p s) ≡ linesTold s (tab n (stationAt c)) (k + n) end
+        → onward (ifFound found (reads n (k, drop p s)) k) (stationsThen held) ≡ requestTold zs rs es c (answered v n (ifFound found (linesAfter s end (k + n) nothingAfter) k))
     stations-end true k p end e =
         part s (Next p) end k (k + n) (lines n stationLine) (tab n (stationAt c)) (λ stations. nothingAfter >> gives (held stations)) e
         ∙ ends end (k + n)
     stations-end false k p end e = refl
 
     fit : (r : Read (Unit {0})) → Fits (answered v n r)
-    fit (read tt k rest) = record { columns = limits .columns; rows = limits .rows; scans = limits .scans; stations = few }
-    fit (notInForm k) = tt
+    fit (reads tt left) = record { columns = limits .columns; rows = limits .rows; scans = limits .scans; stations = few }
+    fit (fails k) = tt
 
 -- the whole, from its parts
 module _ (s : List ℕ) (rs es zs : List ℤ) (c : Columns) (lent : Lent zs rs es c) (plan guess end : LinesRead) (n : Counted) (r : RequestRead) where
   pub whole : (h : HeadRead) → Heads s h → Plans s rs es h plan → Guesses s zs h plan guess → Counts s h guess n
-      → lines (n .count) stationLine (n .line) (drop (n .next) s) ≡ linesTold s (tab (n .count) (stationAt c)) (n .line + n .count) end
-      → Asks s h n end r → (requestLines 1 s ≡ requestTold zs rs es c r) × Fits r
+      → lines (n .count) stationLine (n .line, drop (n .next) s) ≡ linesTold s (tab (n .count) (stationAt c)) (n .line + n .count) end
+      → Asks s h n end r → (requestLines (1, s) ≡ requestTold zs rs es c r) × Fits r
   whole (NotHead k) head p g count stations e = rw e (cut 1 s ∙ head middle, tt)
   whole (HeadValue v) head p g count stations e =
       let stationsOn = stationsThen (held s v rs es zs c (head .limits) lent) in
@@ -274,19 +275,19 @@ module _ (s : List ℕ) (h : HeadRead) (rows : LinesRead) (n : Counted) where
     count-no-rows k g f fits = rw (e, g, f) (record { said = refl; few = omega arith; fits = omega arith })
 
     module _ (limits : Limits v) (p : ℕ) (g : rows ≡ Next p) where
-      pub count-not-read : stationsLine (drop p s) ≡ fails → n ≡ notCounted (v .line + v .scans + v .ny) → Counts s h rows n
-      count-not-read not f = rw (e, g, f) (record { said = rw not; few = omega arith; fits = omega (arith, limits .line, limits .scans, limits .rows) })
+      pub count-not-read : stationsLine (drop p s) ≡ fails tt → n ≡ notCounted (v .line + v .scans + v .ny) → Counts s h rows n
+      count-not-read not f = rw (e, g, f) (record { said = rw (not, line); few = omega arith; fits = omega (arith, limits .line, limits .scans, limits .rows) })
 
       pub count-read : (count next : ℕ) → stationsLine (drop p s) ≡ reads count (drop next s) → count ≤ 512
           → n ≡ record { found = true; count = count; line = v .line + v .scans + v .ny + 1; next = next } → Counts s h rows n
       count-read count next is few f =
-          rw (e, g, f) (record { said = rw (is, add-one (v .line + v .scans + v .ny)); few = few; fits = omega (arith, limits .line, limits .scans, limits .rows) })
+          rw (e, g, f) (record { said = rw (is, line, add-one (v .line + v .scans + v .ny)); few = few; fits = omega (arith, limits .line, limits .scans, limits .rows) })
 
-nothing-left : (k q : ℕ) (s : List ℕ) → length s ≤ q → nothingAfter k (drop q s) ≡ read tt k []
+nothing-left : (k q : ℕ) (s : List ℕ) → length s ≤ q → nothingAfter (k, drop q s) ≡ reads tt (k, [])
 unfolding nothingAfter
 nothing-left k q s h = rw (drop-of-length-le s h)
 
-surplus : (k q : ℕ) (s : List ℕ) → q < length s → nothingAfter k (drop q s) ≡ notInForm k
+surplus : (k q : ℕ) (s : List ℕ) → q < length s → nothingAfter (k, drop q s) ≡ fails k
 unfolding nothingAfter
 surplus k q s h = rw (drop-cons s q 0 h)
 

@@ -58,7 +58,7 @@ fn scan_lines(
     limit: &mut [i32],
 ) -> LinesRead
     requires { ⌜ (line + n < 2 ^ 32) × (n ≤ length (now radius)) × (n ≤ length (now limit)) ⌝ }
-    ensures { λ r. ⌜ lines n scanLine line (drop at (now (s .entry))) ≡ linesTold (now (s .entry)) (tab n (entryAt (now (radius .exit)) (now (limit .exit)))) (line + n) r ⌝ }
+    ensures { λ r. ⌜ lines n scanLine (line, drop at (now (s .entry))) ≡ linesTold (now (s .entry)) (tab n (entryAt (now (radius .exit)) (now (limit .exit)))) (line + n) r ⌝ }
 {
     let mut p = at;
     let mut i: usize = 0;
@@ -76,7 +76,7 @@ fn scan_lines(
 
 fn row_lines(s: &[u8], at: usize, line: u32, nx: usize, ny: usize, z: &mut [i32]) -> LinesRead
     requires { ⌜ (line + ny < 2 ^ 32) × (ny * nx ≤ length (now z)) ⌝ }
-    ensures { λ r. ⌜ rows ny (rowLine nx) line (drop at (now (s .entry))) ≡ linesTold (now (s .entry)) (take (ny * nx) (now (z .exit))) (line + ny) r ⌝ }
+    ensures { λ r. ⌜ rows ny (rowLine nx) (line, drop at (now (s .entry))) ≡ linesTold (now (s .entry)) (take (ny * nx) (now (z .exit))) (line + ny) r ⌝ }
 {
     let mut p = at;
     let mut j: usize = 0;
@@ -105,7 +105,7 @@ fn station_lines(
     until: &mut [u32],
 ) -> LinesRead
     requires { ⌜ (line + n < 2 ^ 32) × Room n (sixColumns (now x) (now y) (now value) (now observed) (now from) (now until)) ⌝ }
-    ensures { λ r. ⌜ lines n stationLine line (drop at (now (s .entry))) ≡ linesTold (now (s .entry)) (tab n (stationAt (sixColumns (now (x .exit)) (now (y .exit)) (now (value .exit)) (now (observed .exit)) (now (from .exit)) (now (until .exit))))) (line + n) r ⌝ }
+    ensures { λ r. ⌜ lines n stationLine (line, drop at (now (s .entry))) ≡ linesTold (now (s .entry)) (tab n (stationAt (sixColumns (now (x .exit)) (now (y .exit)) (now (value .exit)) (now (observed .exit)) (now (from .exit)) (now (until .exit))))) (line + n) r ⌝ }
 {
     let mut p = at;
     let mut i: usize = 0;
@@ -243,7 +243,7 @@ pub fn read_request(
     until: &mut [u32],
 ) -> RequestRead
     requires { ⌜ Lent (now guess) (now radius) (now limit) (sixColumns (now x) (now y) (now value) (now observed) (now from) (now until)) ⌝ }
-    ensures { λ r. ⌜ (requestLines 1 (now (s .entry)) ≡ requestTold (now (guess .exit)) (now (radius .exit)) (now (limit .exit)) (sixColumns (now (x .exit)) (now (y .exit)) (now (value .exit)) (now (observed .exit)) (now (from .exit)) (now (until .exit))) r) × Fits r ⌝ }
+    ensures { λ r. ⌜ (requestLines (1, now (s .entry)) ≡ requestTold (now (guess .exit)) (now (radius .exit)) (now (limit .exit)) (sixColumns (now (x .exit)) (now (y .exit)) (now (value .exit)) (now (observed .exit)) (now (from .exit)) (now (until .exit))) r) × Fits r ⌝ }
 {
     let h = head::head_lines(s);
     let plan = plan_lines(s, h, radius, limit);

@@ -179,8 +179,8 @@ pub record Sound (q : Request) : Type 0 where
 
 pub record SoundCall (c : Call) : Type 0 where
   pub request : Sound (asked c)
-  pub columns : Equal (c .columns)
-  pub stations : (k : ℕ) → k < length (c .columns .x) → Stationed (stationAt (c .columns) k)
+  pub columns : Equal (c .stations)
+  pub stations : (k : ℕ) → k < length (c .stations .x) → Stationed (stationAt (c .stations) k)
 
 -- the rows of a station list are those of its columns
 pub rows-of : (c : Columns) → length (stationsOf c) ≡ length (c .x)
@@ -217,23 +217,23 @@ sound q one few (more five (more six (more seven (more eight none)))) =
       stations = λ k h. stationed _ (none-bad badStation noStation (q .stations) (nowhere-refused 8 _ eight) k h);
     }
 
-sound-call : (c : Call) → badShape (c .nx) (c .ny) (length (c .firstGuess)) ≡ false → badColumns (c .columns) ≡ false
+sound-call : (c : Call) → badShape (c .nx) (c .ny) (length (c .firstGuess)) ≡ false → badColumns (c .stations) ≡ false
     → All (λ r. r ≡ accepted) (fromFive (asked c)) → SoundCall c
 sound-call c one four rest =
-    let columns = equal (c .columns) four in
-    let s = sound (asked c) one (omega (arith, rows-of (c .columns), columns .few)) rest in
+    let columns = equal (c .stations) four in
+    let s = sound (asked c) one (omega (arith, rows-of (c .stations), columns .few)) rest in
     record {
       request = s;
       columns = columns;
-      stations = λ k h. rw (← row-of (c .columns) k noStation h) (s .stations k (omega (arith, rows-of (c .columns))));
+      stations = λ k h. rw (← row-of (c .stations) k noStation h) (s .stations k (omega (arith, rows-of (c .stations))));
     }
 
 -- the first rows of the table, as the two calls have them
 abbrev analysisRows : Call → (grid support verdict : ℕ) → List Refusal
 analysisRows c grid support verdict =
     refusedIf 1 (badShape (c .nx) (c .ny) (length (c .firstGuess)))
-    ∷ refusedIf 3 (badLengths (c .nx * c .ny) grid support || not (eqb verdict (length (c .columns .x))))
-    ∷ refusedIf 4 (badColumns (c .columns))
+    ∷ refusedIf 3 (badLengths (c .nx * c .ny) grid support || not (eqb verdict (length (c .stations .x))))
+    ∷ refusedIf 4 (badColumns (c .stations))
     ∷ fromFive (asked c)
 
 abbrev windowRows : Call → Window → (grid support : ℕ) → List Refusal
@@ -241,7 +241,7 @@ windowRows c w grid support =
     refusedIf 1 (badShape (c .nx) (c .ny) (length (c .firstGuess)))
     ∷ refusedIf 2 (badWindow (c .nx) (c .ny) w)
     ∷ refusedIf 3 (badLengths (pointsAlong (w .columns) * pointsAlong (w .rows)) grid support)
-    ∷ refusedIf 4 (badColumns (c .columns))
+    ∷ refusedIf 4 (badColumns (c .stations))
     ∷ fromFive (asked c)
 
 -- results of the right length
@@ -253,7 +253,7 @@ pub record CallAccepted (c : Call) (grid support verdict : ℕ) : Type 0 where
   pub sound : SoundCall c
   pub grid-long : grid ≡ c .nx * c .ny
   pub support-long : support ≡ c .nx * c .ny
-  pub verdict-long : verdict ≡ length (c .columns .x)
+  pub verdict-long : verdict ≡ length (c .stations .x)
 
 pub analysis-accepted : (c : Call) (grid support verdict : ℕ) → analysisRefusal c grid support verdict ≡ accepted → CallAccepted c grid support verdict
 unfolding analysisRefusal

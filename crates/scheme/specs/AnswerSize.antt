@@ -16,8 +16,8 @@ use Rattle.scheme.specs.Verdicts.{isAccepted, firstThatFits, beforeScans
 use Rattle.scheme.specs.Difference.{Row, afterTest, judged}
 use Rattle.scheme.specs.Scan.{State, start, rowsJudged, scan, after, analysis}
 use Rattle.scheme.specs.Text.{firstTwo, analysisText}
-use Rattle.scheme.specs.Text.Pieces.{ascii}
-use Rattle.scheme.specs.Text.Printed.{spelled, decimal, integer, mark, cells, keyed, gridLines}
+use Rattle.scheme.specs.Text.Pieces.{ascii, mark}
+use Rattle.scheme.specs.Text.Printed.{spelled, decimal, integer, cells, keyed, gridLines}
 use Rattle.scheme.specs.Accepted.{Sound, analysis-sound}
 use Rattle.scheme.specs.Lengths.{verdict-long}
 use Rattle.scheme.specs.Bounds.{fields-stay-within}

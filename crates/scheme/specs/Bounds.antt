@@ -19,12 +19,12 @@ use Rattle.scheme.specs.Refusals.{accepted, analysisRefusal}
 use Rattle.scheme.specs.Verdicts.{isAccepted}
 use Rattle.scheme.specs.Rounding.{rounded}
 use Rattle.scheme.specs.Difference.{Row, afterTest, judged}
-use Rattle.scheme.specs.Correction.{Sums, nothing, gift, share, sums, correction}
+use Rattle.scheme.specs.Correction.{Sums, nothing, gift, share, correction}
 use Rattle.scheme.specs.Smoothing.{patternAt, patternRow, patternSum, inner, smoothed}
 use Rattle.scheme.specs.Scan.{State, differences, start, rowsJudged, sumsAt, corrected, scan, after}
 use Rattle.scheme.specs.Most.{mostField}
 use Rattle.scheme.specs.Nearest.{rounded-size}
-use Rattle.scheme.specs.Gifts.{gift-size}
+use Rattle.scheme.specs.Gifts.{sums, gift-size}
 use Rattle.scheme.specs.Accepted.{Sound, analysis-sound}
 
 -- a field whose values are all of that size at most
@@ -73,7 +73,7 @@ share-size radius limit D i j r h =
 
 sums-size : (radius limit : ℕ) (D : Station → ℤ) (i j : ℕ) {rows : List Row} → All (Passed limit D) rows
     → natAbs (sums radius D rows i j .pulls) ≤ limit * sums radius D rows i j .weights
-unfolding sums total
+unfolding total
 sums-size radius limit D i j none = omega arith
 sums-size radius limit D i j (more {a = r} {xs = rows} h rest) =
     omega (

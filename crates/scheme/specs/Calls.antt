@@ -23,7 +23,7 @@ columnsOf ss =
 
 abbrev pub callFor : Request → Call
 callFor q =
-    record { nx = q .nx; ny = q .ny; firstGuess = q .firstGuess; columns = columnsOf (q .stations); plan = q .plan; T = q .T; A = q .A }
+    record { nx = q .nx; ny = q .ny; firstGuess = q .firstGuess; stations = columnsOf (q .stations); plan = q .plan; T = q .T; A = q .A }
 
 -- the rows of a list's columns are the list
 pub columns-back : (ss : List Station) → stationsOf (columnsOf ss) ≡ ss
@@ -35,7 +35,7 @@ pub asks : (q : Request) → asked (callFor q) ≡ q
 asks q = rw (columns-back (q .stations))
 
 -- and its columns are equal
-equal-columns : (q : Request) → Sound q → Equal (callFor q .columns)
+equal-columns : (q : Request) → Sound q → Equal (callFor q .stations)
 equal-columns q s =
     record {
       y = one (λ s. s .y);
@@ -59,8 +59,8 @@ sound-accepted q s =
     rw (
       shape-good (s .shape),
       lengths-good (q .nx * q .ny) _ _ refl refl,
-      eq-eqb (length (q .stations)) (length (callFor q .columns .x)) (sym (length-map (q .stations) (λ (t : Station). t .x))),
-      columns-good (callFor q .columns) (equal-columns q s),
+      eq-eqb (length (q .stations)) (length (callFor q .stations .x)) (sym (length-map (q .stations) (λ (t : Station). t .x))),
+      columns-good (callFor q .stations) (equal-columns q s),
       columns-back (q .stations),
     )
     (request-good q s)

@@ -1,10 +1,8 @@
 -- "One scan", Correction: and the support of a point.
 use Prim.Native.Nat.{ℕ, _+_, _*_, _^_}
 use mathlib.Core.Bool.{cond}
-use mathlib.Core.List.{List}
 use lib.Dec.{ltb, eqb}
 use lib.IntN.{ℤ, pos, _+ℤ_, _-ℤ_, _*ℤ_}
-use Rattle.lists.specs.Sums.{total}
 use Rattle.scheme.specs.Units.{Station, step}
 use Rattle.scheme.specs.Verdicts.{isAccepted}
 use Rattle.scheme.specs.Rounding.{rounded}
@@ -22,22 +20,17 @@ nothing = record { weights = 0; pulls = pos 0 }
 abbrev pub plus : Sums → Sums → Sums
 plus a b = record { weights = a .weights + b .weights; pulls = a .pulls +ℤ b .pulls }
 
--- what a station of weight w and difference D gives
-abbrev pub weighed : ℕ → ℤ → Sums
-weighed w D = record { weights = w; pulls = pos w *ℤ D }
-
--- and one that is dx and dy off the point
+-- what a station of difference D gives to a point that it is dx and dy off
 unfoldable pub gift : (r2 : ℕ) (D dx dy : ℤ) → Sums
-gift r2 D dx dy = cond (inside r2 dx dy) (weighed (weight r2 (square dx + square dy)) D) nothing
+gift r2 D dx dy =
+    let w = weight r2 (square dx + square dy) in
+    cond (inside r2 dx dy) (record { weights = w; pulls = pos w *ℤ D }) nothing
 
 -- what a row gives to point (i, j): nothing, unless it is accepted
 unfoldable pub share : (radius : ℕ) (D : Station → ℤ) (i j : ℕ) → Row → Sums
 share radius D i j r =
     let s = r .station in
     cond (isAccepted (r .verdict)) (gift (radius * radius) (D s) (s .x -ℤ pos (step * i)) (s .y -ℤ pos (step * j))) nothing
-
-unfoldable pub sums : (radius : ℕ) (D : Station → ℤ) → List Row → (i j : ℕ) → Sums
-sums radius D rows i j = total nothing plus (share radius D i j) rows
 
 -- The sum of weight·D over accepted stations, divided by the sum of weights, rounded; 0 if that sum is 0
 unfoldable pub correction : Sums → ℤ

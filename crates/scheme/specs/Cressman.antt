@@ -17,7 +17,7 @@ use Rattle.scheme.specs.Verdicts.{isAccepted, serves, outOfService, onAx
 use Rattle.scheme.specs.Rounding.{rounded}
 use Rattle.scheme.specs.Value.{place, valueAt}
 use Rattle.scheme.specs.Difference.{Row, difference, afterTest, judged}
-use Rattle.scheme.specs.Correction.{Sums, nothing, plus, gift, share, sums, correction, backedBy}
+use Rattle.scheme.specs.Correction.{Sums, nothing, plus, gift, share, correction, backedBy}
 use Rattle.scheme.specs.Smoothing.{patternAt, patternRow, patternSum, smoothed}
 use Rattle.scheme.specs.Scan.{begins, start, differences, rowsJudged, sumsAt, corrected, scan, after}
 use Rattle.scheme.specs.Reach.{onSpan, onWindow, counted}
@@ -105,7 +105,7 @@ module _ (q : Request) where
         rows-first = refl;
         rows-next = λ m. unfold after scan rowsJudged in sym (each-map (judged (m + 1) (E (q .plan) m) (differences q (after q m))) (after q m .rows));
         sums-are =
-            λ m i j. unfold sumsAt sums gathered after scan in
+            λ m i j. unfold sumsAt gathered after scan in
             ap (λ (f : Row → Sums). total nothing plus f (rowsJudged q m (after q m))) (fun-ext (given-share m i j (differences q (after q m))));
         field-next =
             λ m i j. unfold after scan corrected smoothed smoothedIf in

@@ -12,12 +12,12 @@ use Rattle.lists.specs.Keep.{keep, total-keep, keep-map}
 use Rattle.scheme.specs.Units.{isMissing, Field, stored, Station, R, E, Request, guess}
 use Rattle.scheme.specs.Verdicts.{isAccepted, serves, outOfService, firstThatFits, beforeScans}
 use Rattle.scheme.specs.Difference.{Row, difference, afterTest, judged}
-use Rattle.scheme.specs.Correction.{Sums, nothing, plus, share, sums, correction, backedBy}
+use Rattle.scheme.specs.Correction.{Sums, nothing, plus, share, correction, backedBy}
 use Rattle.scheme.specs.Smoothing.{smoothed}
 use Rattle.scheme.specs.Scan.{begins, start, differences, rowsJudged, sumsAt, corrected, scan, after, analysis}
 use Rattle.scheme.specs.Accepted.{noStation}
 use Rattle.scheme.specs.Adding.{nothing-plus}
-use Rattle.scheme.specs.Gifts.{rejected-gives-nothing}
+use Rattle.scheme.specs.Gifts.{sums, rejected-gives-nothing}
 
 -- ---- a row that is not accepted stays as it is, whatever it is judged by
 
@@ -160,7 +160,7 @@ module _ (q : Request) where
         (λ r d e. rejected-gives-nothing (R (q .plan) m) (differences q (after q m)) i j r (d e)) judged-dead
 
     same-sums-at : (i j : ℕ) → sumsAt withoutDeadMasts m (after withoutDeadMasts m) i j ≡ sumsAt q m (after q m) i j
-    unfolding sumsAt sums
+    unfolding sumsAt
     same-sums-at i j =
         ap (λ (D : Station → ℤ). sums (R (q .plan) m) D (rowsJudged withoutDeadMasts m (after withoutDeadMasts m)) i j) same-D
         ∙ ap (λ (rows : List Row). sums (R (q .plan) m) (differences q (after q m)) rows i j) judged-rows

@@ -1,5 +1,5 @@
 -- Printed numbers, digit by digit, and how many digits they have.
-use Prim.Native.Nat.{ℕ, zero, suc, _/_, _%_, _^_, _≤_, _<_}
+use Prim.Native.Nat.{ℕ, zero, suc, _+_, _/_, _%_, _^_, _≤_, _<_}
 use native.Mathlib.Omega.{arith}
 use native.Mathlib.Nat.{pow-suc}
 use mathlib.Core.Path.{_≡_, refl, sym, ap, _∙_}
@@ -9,9 +9,12 @@ use borrow.Author.Tests.{lt-ltb, le-ltb}
 use lib.ListN.{length, length-append}
 use lib.IntN.{ℤ, pos, negsuc, natAbs}
 use Rattle.lists.specs.Tests.{lt-or-le}
-use Rattle.scheme.specs.Text.Printed.{digit, spelled, decimal, integer}
+use Rattle.scheme.specs.Text.Printed.{spelled, decimal, integer}
 
 -- ---- digit by digit
+
+abbrev pub digit : ℕ → ℕ
+digit d = 48 + d
 
 spelled-one : (f n : ℕ) → n < 10 → spelled f n ≡ digit n ∷ []
 unfolding spelled

@@ -33,7 +33,7 @@ use Rattle.scheme.specs.Units.{Field, fieldOf}
 use Rattle.scheme.specs.Refusals.{accepted, refused, unlessRefused, readingRefusal, refusedIf, badShape}
 use Rattle.scheme.specs.Verdicts.{onAxis}
 use Rattle.scheme.specs.Value.{place, cell, corners, sumAt}
-use Rattle.scheme.specs.Readings.{double, positiveZero, readingValue, isBacked, readingIn, reading, lesser, greater, lowest, highest, unitsOf}
+use Rattle.scheme.specs.Readings.{double, positiveZero, isBacked, readingIn, reading, lowest, highest, unitsOf}
 use Rattle.scheme.specs.Accepted.{Shaped, shaped}
 use Rattle.scheme.specs.Cells.{cell-low, cell-high}
 use Rattle.scheme.specs.Bounds.{Within}
@@ -181,7 +181,7 @@ module _ (nx ny : ℕ) (field : List ℤ) (x y : ℤ) (i32 : All (SFits w32) fie
   sum = sumAt nx ny (fieldOf (pos 0) nx field) (place nx x) (place ny y)
 
   abbrev pub value : Float
-  value = readingValue nx ny (fieldOf (pos 0) nx field) (place nx x) (place ny y)
+  value = double (sumAt nx ny (fieldOf (pos 0) nx field) (place nx x) (place ny y)) 262144
 
   module _ (two-columns : 2 ≤ nx) (two-rows : 2 ≤ ny) where
     pub reading-sum-size : natAbs sum ≤ 2 ^ 43
@@ -191,7 +191,6 @@ module _ (nx ny : ℕ) (field : List ℤ) (x y : ℤ) (i32 : All (SFits w32) fie
         (on-grid nx x) (on-grid ny y)
 
     pub reading-value-exact : Exactly value sum 262144
-    unfolding readingValue
     reading-value-exact = exact sum 18 (omega (arith, reading-sum-size)) (omega arith)
 
   pub reading-exact : (support : List ℕ) → ReadsExactly (reading nx ny field support x y) sum
@@ -213,13 +212,17 @@ module _ (nx ny : ℕ) (field : List ℤ) (x y : ℤ) (i32 : All (SFits w32) fie
 
 -- ---- the summary
 
+abbrev pub lesser : ℤ → ℤ → ℤ
+lesser a b = cond (leZ a b) a b
+
+abbrev pub greater : ℤ → ℤ → ℤ
+greater a b = cond (leZ a b) b a
+
 -- what holds of both holds of the lesser and of the greater
 pub of-lesser : (P : ℤ → Type 0) (a b : ℤ) → P a → P b → P (lesser a b)
-unfolding lesser
 of-lesser P a b p q = cond-both P (leZ a b) a b (λ e. p) (λ e. q)
 
 pub of-greater : (P : ℤ → Type 0) (a b : ℤ) → P a → P b → P (greater a b)
-unfolding greater
 of-greater P a b p q = cond-both P (leZ a b) b a (λ e. q) (λ e. p)
 
 -- a at most b, as omega reads it
@@ -227,13 +230,13 @@ AtMost : ℤ → ℤ → Type 0
 AtMost a b = parts.up a + parts.dn b ≤ parts.up b + parts.dn a
 
 lesser-is : (a b : ℤ) → AtMost (lesser a b) a × AtMost (lesser a b) b
-unfolding lesser AtMost
+unfolding AtMost
 lesser-is a b =
     cond-both (λ (c : ℤ). AtMost c a × AtMost c b) (leZ a b) a b
     (λ e. (omega arith, most-parts a b e)) (λ e. (omega (arith, not-most-parts a b e), omega arith))
 
 greater-is : (a b : ℤ) → AtMost a (greater a b) × AtMost b (greater a b)
-unfolding greater AtMost
+unfolding AtMost
 greater-is a b =
     cond-both (λ (c : ℤ). AtMost a c × AtMost b c) (leZ a b) b a
     (λ e. (most-parts a b e, omega arith)) (λ e. (omega arith, omega (arith, not-most-parts a b e)))

@@ -1,55 +1,60 @@
 -- Document 01's own example, with its plan of one scan or with that scan twice: as a request and as text, and what it answers.
 use Prim.Native.Nat.{ℕ}
 use mathlib.Core.Path.{_≡_, refl}
-use mathlib.Core.Bool.{false}
-use mathlib.Core.List.{List, [], _∷_, _++_}
+use mathlib.Core.Bool.{Bool, true, false}
+use mathlib.Core.List.{List, [], _∷_, _++_, flatten}
 use lib.IntN.{ℤ, pos}
 use Rattle.lists.specs.Tab.{tab}
-use Rattle.lists.specs.Sums.{total}
-use Rattle.lists.specs.First.{first, orNext}
-use Rattle.scheme.specs.Units.{Request, Station, fieldOf, stored, isMissing, stationAt, stations, guess, R, E, columnsOf}
-use Rattle.scheme.specs.Refusals.{accepted, Window, inOrder, refusedIf, refusedAt, badShape, badWindow, badLengths, badWindowLengths, badColumns, badScans, rising, badScan, badGuess, badStation, fromFour, analysisRefusal, windowRefusal, rightLengths}
-use Rattle.scheme.specs.Verdicts.{serves, missing, outOfService, observedAfter, tooOld, onAxis, offGrid, firstThatFits, beforeScans}
+use Rattle.lists.specs.Sums.{total, upTo}
+use Rattle.lists.specs.First.{first, firstFrom, orNext}
+use Rattle.scheme.specs.Units.{isMissing, Field, stored, fieldOf, Station, stationAt, stationsOf, R, E, Request, guess}
+use Rattle.scheme.specs.Refusals.{accepted, inOrder, refusedIf, refusedAt, badShape, Window, badWindow, badLengths, badColumns, badScans, rising, badScan, badGuess, badStation, fromFive, analysisRefusal, windowRefusal}
+use Rattle.scheme.specs.Verdicts.{serves, outOfService, onAxis, offGrid, firstThatFits, beforeScans}
 use Rattle.scheme.specs.Rounding.{rounded}
-use Rattle.scheme.specs.Value.{place, cell, interpolationSum, sumAt, valueAt}
+use Rattle.scheme.specs.Value.{place, cell, corners, sumAt, valueAt}
 use Rattle.scheme.specs.Difference.{difference, afterTest, judged}
-use Rattle.scheme.specs.Weight.{squaredDistance, weight}
-use Rattle.scheme.specs.Correction.{weightOf, share, sums, correction, backedBy}
-use Rattle.scheme.specs.Scan.{Analysis, start, rowsJudged, sumsAt, corrected, scan, after, analysis}
+use Rattle.scheme.specs.Weight.{weight}
+use Rattle.scheme.specs.Correction.{gift, share, correction, backedBy}
+use Rattle.scheme.specs.Smoothing.{patternRow, patternSum, inner, smoothed}
+use Rattle.scheme.specs.Scan.{start, rowsJudged, sumsAt, corrected, scan, after, atEnd, Analysis, analysis}
 use Rattle.scheme.specs.Reach.{Tile, windowOf, wholeAt}
+use Rattle.scheme.specs.Calls.{callFor}
 use Rattle.scheme.specs.Promises.{slices, tile, windowAt}
-use Rattle.scheme.specs.Text.{requestLines, outcome, firstTwo, analysisText, printed, answerText}
-use Rattle.scheme.specs.Text.Pieces.{ascii, word, digits, positive, natural, between, count, unsigned, minus, negative, signed, values}
-use Rattle.scheme.specs.Text.Lines.{number, gridLine, timeLine, ageLine, smoothLine, scansLine, scanLine, rowLine, stationsLine, observation, end, stationLine}
+use Rattle.scheme.specs.Text.{requestLines, firstTwo, analysisText, replyText, answerText}
+use Rattle.scheme.specs.Text.Pieces.{ascii, word, digits, positive, natural, between, count, unsigned, negative, signed, values}
+use Rattle.scheme.specs.Text.Lines.{number, gridLine, scanLine, rowLine, observation, end, stationLine}
 use Rattle.scheme.specs.Text.Order.{lines, rows, nothingAfter}
 use Rattle.scheme.specs.Text.Printed.{spelled, decimal, integer, cells, keyed, gridLines}
 
 -- ---- the request
 
+abbrev corner-mast : Station
+corner-mast = record { x = pos 0; y = pos 0; value = pos 576; observed = 1000; from = 0; until = 4294967295 }
+
 abbrev masts : List Station
 masts =
     record { x = pos 64; y = pos 64; value = pos 768; observed = 990; from = 0; until = 4294967295 }
-    ∷ record { x = pos 0; y = pos 0; value = pos 576; observed = 1000; from = 0; until = 4294967295 }
+    ∷ corner-mast
     ∷ record { x = pos 128; y = pos 128; value = pos 700; observed = 990; from = 0; until = 995 }
     ∷ []
 
 abbrev pub level : List ℤ
 level = tab 9 (λ p. pos 640)
 
-abbrev pub example : (scans : ℕ) → Request
-example scans =
+abbrev asking : List Station → (scans radius : ℕ) → Bool → Request
+asking stations scans radius smooth =
     record {
       nx = 3;
       ny = 3;
       firstGuess = level;
-      columns = columnsOf masts;
-      scans = scans;
-      radius = tab scans (λ m. pos 96);
-      limit = tab scans (λ m. pos 200);
-      smooth = false;
+      stations = stations;
+      plan = record { scans = scans; radius = tab scans (λ m. pos radius); limit = tab scans (λ m. pos 200); smooth = smooth };
       T = 1000;
       A = 60;
     }
+
+abbrev pub example : (scans : ℕ) → Bool → Request
+example scans smooth = asking masts scans 96 smooth
 
 -- the window over its first two columns and rows
 abbrev pub corner : Window
@@ -59,16 +64,19 @@ corner = windowAt 0 1 0 1
 
 abbrev planned : List ℕ → List ℕ
 planned plan =
-    ascii "grid=3,3\ntime=1000\nage=60\nsmooth=0\n"
+    ascii "grid=3,3\ntime=1000\nage=60\n"
     ++ plan
     ++ ascii "row=640,640,640\nrow=640,640,640\nrow=640,640,640\n"
     ++ ascii "stations=3\nst=64,64,768,990,0,open\nst=0,0,576,1000,0,open\nst=128,128,700,990,0,995\n"
 
 abbrev pub onceText : List ℕ
-onceText = planned (ascii "scans=1\nscan=96,200\n")
+onceText = planned (ascii "smooth=0\nscans=1\nscan=96,200\n")
 
 abbrev pub twiceText : List ℕ
-twiceText = planned (ascii "scans=2\nscan=96,200\nscan=96,200\n")
+twiceText = planned (ascii "smooth=0\nscans=2\nscan=96,200\nscan=96,200\n")
+
+abbrev pub smoothText : List ℕ
+smoothText = planned (ascii "smooth=1\nscans=2\nscan=96,200\nscan=96,200\n")
 
 -- ---- what it answers
 
@@ -86,11 +94,29 @@ twice =
     (3 ∷ 3 ∷ 3 ∷ 3 ∷ 3 ∷ 3 ∷ 3 ∷ 3 ∷ 3 ∷ [])
     (0 ∷ 0 ∷ 2 ∷ [])
 
+-- twice, with smoothing on
+abbrev pub smooth : Analysis
+smooth =
+    slices
+    (pos 578 ∷ pos 687 ∷ pos 806 ∷ pos 687 ∷ pos 752 ∷ pos 806 ∷ pos 806 ∷ pos 806 ∷ pos 806 ∷ [])
+    (3 ∷ 3 ∷ 3 ∷ 3 ∷ 3 ∷ 3 ∷ 3 ∷ 3 ∷ 3 ∷ [])
+    (0 ∷ 0 ∷ 2 ∷ [])
+
+-- what would be left if the first scan corrected and the second only smoothed
+abbrev pub onlySmoothed : Field ℤ
+onlySmoothed = smoothed 3 3 (after (example 2 true) 1 .field)
+
+abbrev pub onlySmoothedGrid : List ℤ
+onlySmoothedGrid = pos 585 ∷ pos 672 ∷ pos 768 ∷ pos 672 ∷ pos 723 ∷ pos 768 ∷ pos 768 ∷ pos 768 ∷ pos 768 ∷ []
+
 abbrev pub cornerOnce : Tile
 cornerOnce = tile (pos 585 ∷ pos 672 ∷ pos 672 ∷ pos 759 ∷ []) (1 ∷ 1 ∷ 1 ∷ 1 ∷ [])
 
 abbrev pub cornerTwice : Tile
 cornerTwice = tile (pos 577 ∷ pos 672 ∷ pos 672 ∷ pos 767 ∷ []) (3 ∷ 3 ∷ 3 ∷ 3 ∷ [])
+
+abbrev pub cornerSmooth : Tile
+cornerSmooth = tile (pos 578 ∷ pos 687 ∷ pos 687 ∷ pos 752 ∷ []) (3 ∷ 3 ∷ 3 ∷ 3 ∷ [])
 
 abbrev pub onceAnswer : List ℕ
 onceAnswer =
@@ -104,19 +130,55 @@ twiceAnswer =
     ++ ascii "row=577,672,777\nrow=672,767,777\nrow=777,777,777\n"
     ++ ascii "sup=3,3,3\nsup=3,3,3\nsup=3,3,3\nver=0,0,2\n"
 
+abbrev pub smoothAnswer : List ℕ
+smoothAnswer =
+    ascii "refusal=0\nplace=0\n"
+    ++ ascii "row=578,687,806\nrow=687,752,806\nrow=806,806,806\n"
+    ++ ascii "sup=3,3,3\nsup=3,3,3\nsup=3,3,3\nver=0,0,2\n"
+
 -- ---- all of it by computation
 
-abbrev Accepts : Request → Type 0
-Accepts q = (analysisRefusal q (rightLengths q) ≡ accepted) × (windowRefusal q corner 4 4 ≡ accepted)
+abbrev BothAccept : Request → Type 0
+BothAccept q = (analysisRefusal (callFor q) 9 9 3 ≡ accepted) × (windowRefusal (callFor q) corner 4 4 ≡ accepted)
 
-pub example-accepted : Accepts (example 1) × Accepts (example 2)
-unfolding analysisRefusal windowRefusal fromFour inOrder refusedIf refusedAt first orNext badShape badWindow badLengths badWindowLengths badColumns badScans badScan rising badGuess badStation stationAt isMissing tab
-example-accepted = ((refl, refl), (refl, refl))
+pub example-accepted : BothAccept (example 1 false) × BothAccept (example 2 false) × BothAccept (example 2 true)
+unfolding analysisRefusal windowRefusal fromFive inOrder refusedIf refusedAt first firstFrom orNext badShape badWindow badLengths badColumns badScans badScan rising badGuess badStation stationsOf stationAt isMissing tab
+example-accepted = ((refl, refl), (refl, refl), (refl, refl))
 
-pub example-analysis : (analysis (example 1) ≡ once) × (analysis (example 2) ≡ twice) × (wholeAt (example 1) corner ≡ cornerOnce) × (wholeAt (example 2) corner ≡ cornerTwice)
-unfolding analysis wholeAt windowOf stored tab after scan start rowsJudged sumsAt corrected guess fieldOf stationAt stations R E beforeScans firstThatFits missing isMissing outOfService serves observedAfter tooOld offGrid onAxis judged afterTest difference valueAt place sumAt cell interpolationSum rounded sums total share weightOf weight squaredDistance correction backedBy
-example-analysis = (refl, refl, refl, refl)
+pub example-analysis : (analysis (example 1 false) ≡ once) × (analysis (example 2 false) ≡ twice) × (analysis (example 2 true) ≡ smooth)
+unfolding analysis stored tab after scan start rowsJudged sumsAt corrected smoothed patternSum patternRow inner upTo guess fieldOf R E beforeScans firstThatFits isMissing outOfService serves offGrid onAxis judged afterTest difference valueAt place sumAt cell corners rounded total share gift weight correction backedBy
+example-analysis = (refl, refl, refl)
 
-pub example-text : (answerText onceText ≡ onceAnswer) × (answerText twiceText ≡ twiceAnswer)
-unfolding answerText printed outcome requestLines lines rows nothingAfter gridLine timeLine ageLine smoothLine scansLine scanLine rowLine stationsLine stationLine number observation end word digits positive natural between count unsigned minus negative signed values analysisRefusal inOrder fromFour refusedIf refusedAt first orNext badShape badLengths badColumns badScans badScan rising badGuess badStation stationAt isMissing analysisText firstTwo gridLines keyed cells integer decimal spelled analysis stored tab after scan start rowsJudged sumsAt corrected guess fieldOf stations R E beforeScans firstThatFits missing outOfService serves observedAfter tooOld offGrid onAxis judged afterTest difference valueAt place sumAt cell interpolationSum rounded sums total share weightOf weight squaredDistance correction backedBy
-example-text = (refl, refl)
+pub example-window : (wholeAt (example 1 false) corner ≡ cornerOnce) × (wholeAt (example 2 false) corner ≡ cornerTwice) × (wholeAt (example 2 true) corner ≡ cornerSmooth)
+unfolding wholeAt windowOf stored tab after scan start rowsJudged sumsAt corrected smoothed patternSum patternRow inner upTo guess fieldOf R E beforeScans firstThatFits isMissing outOfService serves offGrid onAxis judged afterTest difference valueAt place sumAt cell corners rounded total share gift weight correction backedBy
+example-window = (refl, refl, refl)
+
+-- what the cheats would leave
+pub example-first-scan : stored 3 3 (after (example 2 false) 1 .field) ≡ once .grid
+unfolding stored tab after scan start rowsJudged sumsAt corrected smoothed patternSum patternRow inner upTo guess fieldOf R E beforeScans firstThatFits isMissing outOfService serves offGrid onAxis judged afterTest difference valueAt place sumAt cell corners rounded total share gift weight correction backedBy
+example-first-scan = refl
+
+pub example-first-scan-corner : windowOf corner (after (example 2 false) 1 .field) ≡ cornerOnce .grid
+unfolding windowOf stored tab after scan start rowsJudged sumsAt corrected smoothed patternSum patternRow inner upTo guess fieldOf R E beforeScans firstThatFits isMissing outOfService serves offGrid onAxis judged afterTest difference valueAt place sumAt cell corners rounded total share gift weight correction backedBy
+example-first-scan-corner = refl
+
+pub example-only-smoothed : stored 3 3 onlySmoothed ≡ onlySmoothedGrid
+unfolding stored tab after scan start rowsJudged sumsAt corrected smoothed patternSum patternRow inner upTo guess fieldOf R E beforeScans firstThatFits isMissing outOfService serves offGrid onAxis judged afterTest difference valueAt place sumAt cell corners rounded total share gift weight correction backedBy
+example-only-smoothed = refl
+
+pub example-only-smoothed-corner : windowOf corner onlySmoothed ≡ pos 585 ∷ pos 672 ∷ pos 672 ∷ pos 723 ∷ []
+unfolding windowOf stored tab after scan start rowsJudged sumsAt corrected smoothed patternSum patternRow inner upTo guess fieldOf R E beforeScans firstThatFits isMissing outOfService serves offGrid onAxis judged afterTest difference valueAt place sumAt cell corners rounded total share gift weight correction backedBy
+example-only-smoothed-corner = refl
+
+pub example-text : (answerText onceText ≡ onceAnswer) × (answerText twiceText ≡ twiceAnswer) × (answerText smoothText ≡ smoothAnswer)
+unfolding answerText replyText requestLines lines rows flatten nothingAfter gridLine scanLine rowLine stationLine number observation end word digits positive natural between count unsigned negative signed values fromFive inOrder refusedIf refusedAt first firstFrom orNext badScans badScan rising badGuess badStation isMissing analysisText firstTwo gridLines keyed cells integer decimal spelled analysis stored tab after scan start rowsJudged sumsAt corrected smoothed patternSum patternRow inner upTo guess fieldOf R E beforeScans firstThatFits outOfService serves offGrid onAxis judged afterTest difference valueAt place sumAt cell corners rounded total share gift weight correction backedBy
+example-text = (refl, refl, refl)
+
+-- ---- So with smoothing a point without support may change: with one mast in the corner, whose radius reaches no other point, the middle does
+
+abbrev pub lone : Request
+lone = asking (corner-mast ∷ []) 1 64 true
+
+pub smoothing-may-move-an-unsupported-point : (atEnd lone .support 1 1 ≡ 0) × (guess lone 1 1 ≡ pos 640) × (atEnd lone .field 1 1 ≡ pos 636)
+unfolding after scan start rowsJudged sumsAt corrected smoothed patternSum patternRow inner upTo guess fieldOf tab R E beforeScans firstThatFits isMissing outOfService serves offGrid onAxis judged afterTest difference valueAt place sumAt cell corners rounded total share gift weight correction backedBy
+smoothing-may-move-an-unsupported-point = (refl, refl, refl)

@@ -5,16 +5,22 @@ use native.Mathlib.Nat.{mul-le-mul, mul-le-mul-left}
 use mathlib.Core.Path.{_≡_}
 use mathlib.Core.Logic.{_⊎_, inl, inr}
 use mathlib.Core.Bool.{true, false}
+use mathlib.Core.List.{List}
 use borrow.Author.Tests.{lt-ltb, le-ltb}
-use lib.IntN.{ℤ, pos, natAbs, _-ℤ_, zero-*ℤ}
+use lib.IntN.{ℤ, pos, natAbs, _-ℤ_, _*ℤ_, zero-*ℤ}
 use Rattle.integers.specs.Sizes.{size-mul}
 use Rattle.lists.specs.Tests.{lt-or-le}
+use Rattle.lists.specs.Sums.{total}
 use Rattle.scheme.specs.Weight.{weight, square, inside}
 use Rattle.scheme.specs.Units.{step, Station}
 use Rattle.scheme.specs.Verdicts.{isAccepted}
 use Rattle.scheme.specs.Difference.{Row}
-use Rattle.scheme.specs.Correction.{nothing, weighed, gift, share}
+use Rattle.scheme.specs.Correction.{Sums, nothing, plus, gift, share}
 use Rattle.scheme.specs.Weights.{weight-beyond}
+
+-- what a station of weight w and difference D gives
+abbrev pub weighed : ℕ → ℤ → Sums
+weighed w D = record { weights = w; pulls = pos w *ℤ D }
 
 -- the gate alone
 pub gift-outside : (r2 : ℕ) (D dx dy : ℤ) → r2 ≤ square dx + square dy → gift r2 D dx dy ≡ nothing
@@ -42,6 +48,10 @@ pub gift-size : (r2 limit : ℕ) (D dx dy : ℤ) → natAbs D ≤ limit → natA
 gift-size r2 limit D dx dy h =
     rw (gift-weighed r2 D dx dy)
     (omega (arith, size-mul (pos (weight r2 (square dx + square dy))) D, mul-le-mul-left (weight r2 (square dx + square dy)) h))
+
+-- what the rows of a scan give to point (i, j)
+abbrev pub sums : (radius : ℕ) (D : Station → ℤ) → List Row → (i j : ℕ) → Sums
+sums radius D rows i j = total nothing plus (share radius D i j) rows
 
 -- ---- a row gives what its station gives, if it is accepted
 

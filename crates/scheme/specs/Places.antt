@@ -48,9 +48,9 @@ small-from-five q shape few =
     (small-in 7 badGuess (pos 0) (q .firstGuess) _ (omega (arith, shape .whole, mul-le-mul (shape .few-columns) (shape .few-rows)))
     (small-in 8 badStation noStation (q .stations) [] (omega arith) small-none)))
 
-small-from-four : (c : Call) → Shaped (c .nx) (c .ny) (length (c .firstGuess)) → Small (inOrder (refusedIf 4 (badColumns (c .columns)) ∷ fromFive (asked c)))
+small-from-four : (c : Call) → Shaped (c .nx) (c .ny) (length (c .firstGuess)) → Small (inOrder (refusedIf 4 (badColumns (c .stations)) ∷ fromFive (asked c)))
 small-from-four c shape =
-    small-if 4 (badColumns (c .columns)) _ (λ four. small-from-five (asked c) shape (omega (arith, rows-of (c .columns), equal (c .columns) four .few)))
+    small-if 4 (badColumns (c .stations)) _ (λ four. small-from-five (asked c) shape (omega (arith, rows-of (c .stations), equal (c .stations) four .few)))
 
 -- refusal and place, read back from the one number
 abbrev pub Tells : Refusal → Type 0

@@ -12,18 +12,17 @@ use Rattle.scheme.specs.Units.{Columns, Plan, Call, asked}
 use Rattle.scheme.specs.Refusals.{Refusal, asOne, unlessRefused, Window, analysisRefusal, windowRefusal}
 use Rattle.scheme.specs.Scan.{Analysis, analysis}
 use Rattle.scheme.specs.Reach.{Tile, wholeAt}
-use Rattle.scheme.specs.Readings.{reading, kindOf, valueOf, summary}
+use Rattle.scheme.specs.Readings.{reading, numbersOf, kindOf, valueOf, summary}
 use Rattle.scheme.specs.Text.{answerText}
 
 -- what a call is handed, from its arguments
 abbrev pub sixColumns : (x y value : List ℤ) (observed from until : List ℕ) → Columns
-sixColumns x y value observed from until =
-    record { x = x; y = y; value = value; observed = observed; from = from; until = until }
+sixColumns x y value observed from until = record { x = x; y = y; value = value; observed = observed; from = from; until = until }
 
 abbrev pub callOf : (nx ny : ℕ) (firstGuess : List ℤ) → Columns → (scans : ℕ) (radius limit : List ℤ) → Bool → (T A : ℕ) → Call
 callOf nx ny firstGuess columns scans radius limit smooth T A =
     let plan : Plan = record { scans = scans; radius = radius; limit = limit; smooth = smooth } in
-    record { nx = nx; ny = ny; firstGuess = firstGuess; columns = columns; plan = plan; T = T; A = A }
+    record { nx = nx; ny = ny; firstGuess = firstGuess; stations = columns; plan = plan; T = T; A = A }
 
 -- ---- the shape of every promise: the outcome of the call is the one that document 01 gives
 
@@ -48,19 +47,15 @@ Stands text found bytes left = Promised (putFirst text found) (bytes, left)
 abbrev pub slices : List ℤ → (support verdict : List ℕ) → Analysis
 slices grid support verdict = record { grid = grid; support = support; verdict = verdict }
 
--- the refusal of a call that is lent these
-abbrev pub refusalOf : Call → Analysis → Refusal
-refusalOf c found = analysisRefusal c (length (found .grid)) (length (found .support)) (length (found .verdict))
-
 abbrev pub Analyses : Call → Analysis → ℕ → Analysis → Type 0
-Analyses c found answer left = Settles (refusalOf c found) (analysis (asked c)) found answer left
+Analyses c found answer left =
+    Settles (analysisRefusal c (length (found .grid)) (length (found .support)) (length (found .verdict))) (analysis (asked c)) found answer left
 
 -- ---- the window query
 
 -- the window, and what stands in the two slices that the results go to
 abbrev pub windowAt : (left right top bottom : ℕ) → Window
-windowAt left right top bottom =
-    record { columns = record { first = left; last = right }; rows = record { first = top; last = bottom } }
+windowAt left right top bottom = record { columns = record { first = left; last = right }; rows = record { first = top; last = bottom } }
 
 abbrev pub tile : List ℤ → List ℕ → Tile
 tile grid support = record { grid = grid; support = support }
@@ -73,7 +68,7 @@ Queries c w found answer left =
 -- ---- the point reading, and the two calls by which it crosses to C; they and the summary are lent no memory to write to
 
 abbrev pub Reads : (nx ny : ℕ) → List ℤ → List ℕ → (x y : ℤ) → Reading → Type 0
-Reads nx ny field support x y answer = Promised (reading nx ny field support x y) answer
+Reads nx ny field support x y answer = Promised (numbersOf (reading nx ny field support x y)) (numbersOf answer)
 
 abbrev pub ReadsKind : (nx ny : ℕ) → List ℤ → List ℕ → (x y : ℤ) → ℕ → Type 0
 ReadsKind nx ny field support x y answer = Promised (kindOf (reading nx ny field support x y)) answer

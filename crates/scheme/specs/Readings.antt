@@ -26,20 +26,17 @@ positiveZero = ofInt binary64 (pos 0)
 
 -- ---- the point reading
 
--- the interpolation sum, unrounded, divided by 262,144
-unfoldable pub readingValue : (nx ny : ℕ) → Field ℤ → (x y : ℕ) → Float
-readingValue nx ny z x y = double (sumAt nx ny z x y) 262144
-
 -- every corner with a nonzero share has a nonzero support byte
 unfoldable pub isBacked : (nx ny : ℕ) → Field ℕ → (x y : ℕ) → Bool
 isBacked nx ny support x y = cornersAt nx ny x y _&&_ (λ share i j. eqb share 0 || not (eqb (support i j) 0))
 
--- It says 'backed' with the value, 'first guess' with the value if not, or 'off grid'
+-- a double: the interpolation sum, unrounded, divided by 262,144. It says 'backed' with the value, 'first guess' with the value if not, or
+-- 'off grid'
 unfoldable pub readingIn : (nx ny : ℕ) → Field ℤ → Field ℕ → (x y : ℤ) → Reading
 readingIn nx ny z support x y =
     let px = place nx x in
     let py = place ny y in
-    let value = readingValue nx ny z px py in
+    let value = double (sumAt nx ny z px py) 262144 in
     cond (onAxis nx x && onAxis ny y) (cond (isBacked nx ny support px py) (Backed value) (FirstGuess value)) OffGrid
 
 -- of any field of i32 and its support, at any i32 (x, y)
@@ -48,38 +45,28 @@ reading nx ny field support x y =
     unlessRefused (readingRefusal nx ny (length field) (length support))
     (readingIn nx ny (fieldOf (pos 0) nx field) (fieldOf 0 nx support) x y) Refused
 
--- its kind: 0 off grid, 1 first guess, 2 backed, 3 refused
-unfoldable pub kindOf : Reading → ℕ
-kindOf OffGrid = 0
-kindOf (FirstGuess value) = 1
-kindOf (Backed value) = 2
-kindOf Refused = 3
+-- its kind, and its double: positive zero for kinds 0 and 3
+unfoldable pub numbersOf : Reading → ℕ × Float
+numbersOf OffGrid = (0, positiveZero)
+numbersOf (FirstGuess value) = (1, value)
+numbersOf (Backed value) = (2, value)
+numbersOf Refused = (3, positiveZero)
 
--- and its double, positive zero for kinds 0 and 3
-unfoldable pub valueOf : Reading → Float
-valueOf OffGrid = positiveZero
-valueOf (FirstGuess value) = value
-valueOf (Backed value) = value
-valueOf Refused = positiveZero
+abbrev pub kindOf : Reading → ℕ
+kindOf r = numbersOf r .0
+
+abbrev pub valueOf : Reading → Float
+valueOf r = numbersOf r .1
 
 -- ---- the summary
 
-unfoldable pub lesser : ℤ → ℤ → ℤ
-lesser a b = cond (leZ a b) a b
-
-unfoldable pub greater : ℤ → ℤ → ℤ
-greater a b = cond (leZ a b) b a
-
 unfoldable pub lowest : ℤ → List ℤ → ℤ
 lowest v [] = v
-lowest v (w ∷ rest) = lowest (lesser v w) rest
+lowest v (w ∷ rest) = lowest (cond (leZ v w) v w) rest
 
 unfoldable pub highest : ℤ → List ℤ → ℤ
 highest v [] = v
-highest v (w ∷ rest) = highest (greater v w) rest
-
-abbrev pub inUnits : ℤ → Float
-inUnits v = double v partsOfUnit
+highest v (w ∷ rest) = highest (cond (leZ v w) w v) rest
 
 abbrev pub zeros : Units
 zeros = record { lowest = positiveZero; highest = positiveZero; span = positiveZero }
@@ -90,7 +77,7 @@ unitsOf [] = zeros
 unitsOf (v ∷ rest) =
     let low = lowest v rest in
     let high = highest v rest in
-    record { lowest = inUnits low; highest = inUnits high; span = inUnits (high -ℤ low) }
+    record { lowest = double low partsOfUnit; highest = double high partsOfUnit; span = double (high -ℤ low) partsOfUnit }
 
 -- a refused summary holds three zeros
 unfoldable pub summary : (nx ny : ℕ) → List ℤ → Summary

@@ -123,8 +123,8 @@ unfoldable pub analysisRefusal : Call → (grid support verdict : ℕ) → Refus
 analysisRefusal c grid support verdict =
     inOrder
     (refusedIf 1 (badShape (c .nx) (c .ny) (length (c .firstGuess)))
-    ∷ refusedIf 3 (badLengths (c .nx * c .ny) grid support || not (eqb verdict (length (c .columns .x))))
-    ∷ refusedIf 4 (badColumns (c .columns))
+    ∷ refusedIf 3 (badLengths (c .nx * c .ny) grid support || not (eqb verdict (length (c .stations .x))))
+    ∷ refusedIf 4 (badColumns (c .stations))
     ∷ fromFive (asked c))
 
 -- Only the window query gives 2
@@ -134,7 +134,7 @@ windowRefusal c w grid support =
     (refusedIf 1 (badShape (c .nx) (c .ny) (length (c .firstGuess)))
     ∷ refusedIf 2 (badWindow (c .nx) (c .ny) w)
     ∷ refusedIf 3 (badLengths (pointsAlong (w .columns) * pointsAlong (w .rows)) grid support)
-    ∷ refusedIf 4 (badColumns (c .columns))
+    ∷ refusedIf 4 (badColumns (c .stations))
     ∷ fromFive (asked c))
 
 -- The point reading and the summary give only 1, tested on the field they are handed

@@ -4,7 +4,7 @@ use native.Mathlib.Omega.{arith}
 use native.Mathlib.Nat.{suc-mul}
 use mathlib.Core.Path.{_≡_, refl, sym, ap, _∙_}
 use mathlib.Core.Bool.{Bool, true, false, cond}
-use mathlib.Core.List.{List, [], _∷_, _++_, append-assoc, map}
+use mathlib.Core.List.{List, [], _∷_, _++_, append-assoc, map, flatten}
 use borrow.Author.Tests.{le-leb, ne-eqb}
 use lib.Dec.{eqb}
 use lib.ListN.{length, take, drop, getD, length-take, length-drop, take-append-drop}
@@ -13,13 +13,14 @@ use lib.Signed.{mag}
 use Rattle.lists.specs.Tests.{cond-both}
 use Rattle.lists.specs.Members.{All, none, more, all-take, all-drop}
 use Rattle.lists.specs.Tab.{tab, map-tab, tab-getD, length-tab}
-use Rattle.scheme.specs.Units.{Request, Station, stationAt, stations, columnsOf, mostScans, mostStations}
+use Rattle.scheme.specs.Units.{among, Station, Plan, Request, mostScans, mostStations}
 use Rattle.scheme.specs.Text.{requestLines}
-use Rattle.scheme.specs.Text.Pieces.{ascii, fails, reads, Piece, word, isDigit, digits, positive, natural, between, count, greatest, unsigned, minus, negative, signed, following, values}
-use Rattle.scheme.specs.Text.Lines.{Entry, number, gridLine, timeLine, ageLine, smoothLine, scansLine, scanLine, rowLine, stationsLine, observation, end, stationLine}
-use Rattle.scheme.specs.Text.Order.{read, lines, rows, nothingAfter}
-use Rattle.scheme.specs.Text.Printed.{digit, decimal, integer, mark, cells, keyed, gridLines}
-use Rattle.scheme.specs.Decimals.{decimal-one, decimal-more, digit-ind}
+use Rattle.scheme.specs.Text.Reader.{Result, fails, reads, onward, gives, _or_}
+use Rattle.scheme.specs.Text.Pieces.{ascii, Piece, word, digits, positive, natural, between, count, unsigned, negative, signed, mark, values}
+use Rattle.scheme.specs.Text.Lines.{Entry, number, gridLine, scanLine, rowLine, observation, end, stationLine}
+use Rattle.scheme.specs.Text.Order.{line, lines, rows, nothingAfter}
+use Rattle.scheme.specs.Text.Printed.{decimal, integer, cells, keyed, gridLines}
+use Rattle.scheme.specs.Decimals.{digit, decimal-one, decimal-more, digit-ind}
 
 -- ---- the printed form of a request; marks are written as digits
 
@@ -36,20 +37,20 @@ linesText shown [] = []
 linesText shown (a ∷ rest) = shown a ++ linesText shown rest
 
 -- the entries of its plan
-abbrev pub plan : Request → List Entry
-plan q = tab (q .scans) (λ m. record { radius = getD (q .radius) m (pos 0); limit = getD (q .limit) m (pos 0) })
+abbrev pub entries : Plan → List Entry
+entries p = tab (p .scans) (λ m. record { radius = getD (p .radius) m (pos 0); limit = getD (p .limit) m (pos 0) })
 
 unfoldable pub requestText : Request → List ℕ
 requestText q =
     keyed (ascii "grid=") decimal (q .nx ∷ q .ny ∷ [])
     ++ (keyed (ascii "time=") decimal (q .T ∷ [])
     ++ (keyed (ascii "age=") decimal (q .A ∷ [])
-    ++ (keyed (ascii "smooth=") decimal (cond (q .smooth) 1 0 ∷ [])
-    ++ (keyed (ascii "scans=") decimal (q .scans ∷ [])
-    ++ (linesText entryText (plan q)
+    ++ (keyed (ascii "smooth=") decimal (cond (q .plan .smooth) 1 0 ∷ [])
+    ++ (keyed (ascii "scans=") decimal (q .plan .scans ∷ [])
+    ++ (linesText entryText (entries (q .plan))
     ++ (gridLines (ascii "row=") integer (q .nx) (q .ny) (q .firstGuess)
-    ++ (keyed (ascii "stations=") decimal (length (stations q) ∷ [])
-    ++ (linesText stationText (stations q) ++ []))))))))
+    ++ (keyed (ascii "stations=") decimal (length (q .stations) ∷ [])
+    ++ (linesText stationText (q .stations) ++ []))))))))
 
 -- ---- a request whose numbers are those of a text
 
@@ -58,7 +59,7 @@ abbrev pub Signed : ℤ → Type 0
 Signed z = mag z < 2 ^ 31
 
 abbrev pub Unsigned : ℕ → Type 0
-Unsigned n = n ≤ greatest
+Unsigned n = n ≤ 2 ^ 32 - 1
 
 pub record StationInRange (s : Station) : Type 0 where
   pub x : Signed (s .x)
@@ -79,22 +80,37 @@ pub record InRange (q : Request) : Type 0 where
   pub few-rows : q .ny ≤ 64
   pub time : Unsigned (q .T)
   pub age : Unsigned (q .A)
-  pub some-scans : 1 ≤ q .scans
-  pub few-scans : q .scans ≤ mostScans
-  pub radii : length (q .radius) ≡ q .scans
-  pub limits : length (q .limit) ≡ q .scans
-  pub entries : All EntryInRange (plan q)
+  pub some-scans : 1 ≤ q .plan .scans
+  pub few-scans : q .plan .scans ≤ mostScans
+  pub radii : length (q .plan .radius) ≡ q .plan .scans
+  pub limits : length (q .plan .limit) ≡ q .plan .scans
+  pub entries : All EntryInRange (entries (q .plan))
   pub whole : length (q .firstGuess) ≡ q .ny * q .nx
   pub first-guess : All Signed (q .firstGuess)
-  pub few-stations : length (q .columns .x) ≤ mostStations
-  pub y : length (q .columns .y) ≡ length (q .columns .x)
-  pub value : length (q .columns .value) ≡ length (q .columns .x)
-  pub observed : length (q .columns .observed) ≡ length (q .columns .x)
-  pub from : length (q .columns .from) ≡ length (q .columns .x)
-  pub until : length (q .columns .until) ≡ length (q .columns .x)
-  pub rows : All StationInRange (stations q)
+  pub few-stations : length (q .stations) ≤ mostStations
+  pub rows : All StationInRange (q .stations)
+
+-- ---- the lines of one number, by name
+
+abbrev pub timeLine : Piece ℕ
+timeLine = number (ascii "time=") unsigned
+
+abbrev pub ageLine : Piece ℕ
+ageLine = number (ascii "age=") unsigned
+
+abbrev pub smoothLine : Piece ℕ
+smoothLine = number (ascii "smooth=") (count 0 1)
+
+abbrev pub scansLine : Piece ℕ
+scansLine = number (ascii "scans=") (count 1 mostScans)
+
+abbrev pub stationsLine : Piece ℕ
+stationsLine = number (ascii "stations=") (count 0 mostStations)
 
 -- ---- numbers read back
+
+abbrev pub isDigit : ℕ → Bool
+isDigit b = among 48 57 b
 
 -- the number that bytes say, digit after digit
 unfoldable value : ℕ → List ℕ → ℕ
@@ -176,7 +192,7 @@ module _ (n : ℕ) (rest : List ℕ) (h : Stops rest) where
       (digits-over (f .first - 48) rest (f .all) h ∙ ap (λ (a : ℕ). reads a rest) e)
 
   -- a word that begins with no digit does not stand there
-  not-word : (b : ℕ) (key : List ℕ) → 57 < b → word (b ∷ key) (decimal n ++ rest) ≡ fails
+  not-word : (b : ℕ) (key : List ℕ) → 57 < b → word (b ∷ key) (decimal n ++ rest) ≡ fails tt
   unfolding word
   not-word b key k = let f = front n in rw (f .is, ne-eqb (f .first) b (λ e. omega (arith, f .high)), word)
 
@@ -185,10 +201,10 @@ unfolding natural word
 natural-decimal zero rest h = rw (decimal-one 0 (omega arith))
 natural-decimal (suc n) rest h =
     let f = front (suc n) in
-    let w : word (48 ∷ []) (decimal (suc n) ++ rest) ≡ fails = rw (f .is, ne-eqb (f .first) 48 (λ e. omega (arith, f .some (omega arith))), word) in
-    rw w (positive-decimal (suc n) rest h (omega arith))
+    let w : word (48 ∷ []) (decimal (suc n) ++ rest) ≡ fails tt = rw (f .is, ne-eqb (f .first) 48 (λ e. omega (arith, f .some (omega arith))), word) in
+    rw (w, _or_) (positive-decimal (suc n) rest h (omega arith))
 
-pub between-reads : (low high n : ℕ) (rest : List ℕ) → low ≤ n → n ≤ high → between low high (reads n rest) ≡ reads n rest
+pub between-reads : (low high n : ℕ) (rest : List ℕ) → low ≤ n → n ≤ high → between low high n rest ≡ reads n rest
 unfolding between
 between-reads low high n rest l h = rw (le-leb low n l, le-leb n high h, between)
 
@@ -197,7 +213,7 @@ unfolding count
 count-decimal low high n rest l h s = rw (natural-decimal n rest s) (between-reads low high n rest l h)
 
 negative-decimal : (n : ℕ) (rest : List ℕ) → n < 2 ^ 31 → Stops rest → negative (decimal (suc n) ++ rest) ≡ reads (negsuc n) rest
-unfolding negative minus
+unfolding negative
 negative-decimal n rest h s = rw (positive-decimal (suc n) rest s (omega arith), between-reads 0 (2 ^ 31) (suc n) rest (omega arith) h)
 
 signed-minus : (bs : List ℕ) → signed (45 ∷ bs) ≡ negative bs
@@ -206,18 +222,18 @@ signed-minus bs = refl
 
 signed-integer : (z : ℤ) (rest : List ℕ) → Signed z → Stops rest → signed (integer z ++ rest) ≡ reads z rest
 unfolding signed integer
-signed-integer (pos n) rest h s = rw (count-decimal 0 (2 ^ 31 - 1) n rest (omega arith) (omega arith) s)
+signed-integer (pos n) rest h s = rw (count-decimal 0 (2 ^ 31 - 1) n rest (omega arith) (omega arith) s, _or_)
 signed-integer (negsuc n) rest h s = signed-minus (decimal (suc n) ++ rest) ∙ negative-decimal n rest h s
 
 -- `M` and `open` do not stand where digits do
 observation-integer : (z : ℤ) (rest : List ℕ) → Signed z → Stops rest → observation (integer z ++ rest) ≡ reads z rest
 unfolding observation integer word
-observation-integer (pos n) rest h s = rw (not-word n rest s 77 [] (omega arith)) (signed-integer (pos n) rest h s)
+observation-integer (pos n) rest h s = rw (not-word n rest s 77 [] (omega arith), _or_) (signed-integer (pos n) rest h s)
 observation-integer (negsuc n) rest h s = signed-integer (negsuc n) rest h s
 
 end-decimal : (n : ℕ) (rest : List ℕ) → Unsigned n → Stops rest → end (decimal n ++ rest) ≡ reads n rest
 unfolding end unsigned
-end-decimal n rest h s = rw (not-word n rest s 111 (112 ∷ 101 ∷ 110 ∷ []) (omega arith)) (count-decimal 0 greatest n rest (omega arith) h s)
+end-decimal n rest h s = rw (not-word n rest s 111 (112 ∷ 101 ∷ 110 ∷ []) (omega arith), _or_) (count-decimal 0 (2 ^ 32 - 1) n rest (omega arith) h s)
 
 -- ---- lines read back
 
@@ -263,22 +279,22 @@ station-keyed s rest r =
       signed-integer (s .x) after-x (r .x) refl,
       signed-integer (s .y) after-y (r .y) refl,
       observation-integer (s .value) after-value (r .value) refl,
-      count-decimal 0 greatest (s .observed) after-observed (omega arith) (r .observed) refl,
-      count-decimal 0 greatest (s .from) after-from (omega arith) (r .from) refl,
+      count-decimal 0 (2 ^ 32 - 1) (s .observed) after-observed (omega arith) (r .observed) refl,
+      count-decimal 0 (2 ^ 32 - 1) (s .from) after-from (omega arith) (r .from) refl,
       end-decimal (s .until) (10 ∷ rest) (r .until) refl,
     ))
 
 -- lines of a kind
 lines-read : {A : Type 0} (P : A → Type 0) (f : Piece A) (shown : A → List ℕ) → ((a : A) (rest : List ℕ) → P a → f (shown a ++ rest) ≡ reads a rest)
-    → {l : List A} → All P l → (k : ℕ) (rest : List ℕ) → lines (length l) f k (linesText shown l ++ rest) ≡ read l (k + length l) rest
+    → {l : List A} → All P l → (k : ℕ) (rest : List ℕ) → lines (length l) f (k, linesText shown l ++ rest) ≡ reads l (k + length l, rest)
 unfolding lines linesText
-lines-read P f shown h none k rest = let e : k ≡ k + 0 = omega arith in ap (λ (n : ℕ). read [] n rest) e
+lines-read P f shown h none k rest = let e : k ≡ k + 0 = omega arith in ap (λ (n : ℕ). reads [] (n, rest)) e
 lines-read P f shown h (more {a = a} {xs = l} p r) k rest =
     let e : suc k + length l ≡ k + suc (length l) = omega arith in
-    rw (append-assoc (shown a) (linesText shown l) rest, h a (linesText shown l ++ rest) p, lines-read P f shown h r (suc k) rest, e)
+    rw (append-assoc (shown a) (linesText shown l) rest, h a (linesText shown l ++ rest) p, line, lines-read P f shown h r (suc k) rest, e)
 
 -- the rows of a grid
-mark-after : (n : ℕ) (bs : List ℕ) → following n (mark n ∷ bs) ≡ reads tt bs
+mark-after : (n : ℕ) (bs : List ℕ) → word (mark n ∷ []) (mark n ∷ bs) ≡ reads tt bs
 unfolding word
 mark-after zero bs = refl
 mark-after (suc n) bs = refl
@@ -303,10 +319,26 @@ unfolding rowLine keyed word
 row-keyed n none e rest = absurd (omega arith)
 row-keyed n (more {a = z} {xs = zs} h r) e rest = ap (λ (k : ℕ). values k (cells integer (z ∷ zs) ++ rest)) (sym e) ∙ values-cells (more {a = z} {xs = zs} h r) rest
 
+-- values of lines that were read before others
+abbrev pub led : {A : Type 0} → List A → Result (ℕ × List ℕ) ℕ (List A) → Result (ℕ × List ℕ) ℕ (List A)
+led l (fails k) = fails k
+led l (reads vs left) = reads (l ++ vs) left
+
+-- a line of values, and then the lines after it
+pub rows-more : {A : Type 0} (f : Piece (List A)) (bs rest : List ℕ) (vs : List A) → f bs ≡ reads vs rest → (n k : ℕ)
+    → rows (suc n) f (k, bs) ≡ led vs (rows n f (suc k, rest))
+unfolding rows lines flatten
+rows-more {A = A} f bs rest vs e n k = rw (e, line) (go (lines n f (suc k, rest)))
+  where
+    go : (r : Result (ℕ × List ℕ) ℕ (List (List A)))
+        → onward (onward r (λ more. gives (vs ∷ more))) (λ all. gives (flatten all)) ≡ led vs (onward r (λ all. gives (flatten all)))
+    go (fails j) = refl
+    go (reads ws left) = refl
+
 rows-read : (nx ny : ℕ) {vs : List ℤ} → All Signed vs → length vs ≡ ny * suc nx → (k : ℕ) (rest : List ℕ)
-    → rows ny (rowLine (suc nx)) k (gridLines (ascii "row=") integer (suc nx) ny vs ++ rest) ≡ read vs (k + ny) rest
-unfolding rows gridLines
-rows-read nx zero none l k rest = let e : k ≡ k + 0 = omega arith in ap (λ (n : ℕ). read [] n rest) e
+    → rows ny (rowLine (suc nx)) (k, gridLines (ascii "row=") integer (suc nx) ny vs ++ rest) ≡ reads vs (k + ny, rest)
+unfolding rows lines flatten gridLines
+rows-read nx zero none l k rest = let e : k ≡ k + 0 = omega arith in ap (λ (n : ℕ). reads [] (n, rest)) e
 rows-read nx zero (more h r) l k rest = absurd (omega arith)
 rows-read nx (suc ny) {vs = vs} h l k rest =
     let e : suc k + ny ≡ k + suc ny = omega arith in
@@ -314,7 +346,7 @@ rows-read nx (suc ny) {vs = vs} h l k rest =
     let b : length (drop (suc nx) vs) ≡ ny * suc nx = length-drop (suc nx) vs ∙ omega (arith, suc-mul ny (suc nx)) in
     rw (
       append-assoc (keyed (ascii "row=") integer (take (suc nx) vs)) (gridLines (ascii "row=") integer (suc nx) ny (drop (suc nx) vs)) rest,
-      row-keyed nx (all-take Signed (suc nx) h) a (gridLines (ascii "row=") integer (suc nx) ny (drop (suc nx) vs) ++ rest),
+      rows-more (rowLine (suc nx)) _ _ _ (row-keyed nx (all-take Signed (suc nx) h) a (gridLines (ascii "row=") integer (suc nx) ny (drop (suc nx) vs) ++ rest)) ny k,
       rows-read nx ny (all-drop Signed (suc nx) h) b (suc k) rest,
       take-append-drop (suc nx) vs,
       e,
@@ -327,28 +359,14 @@ column : {A : Type 0} (o : A) (l : List A) (n : ℕ) → length l ≡ n → tab 
 column o l n e = ap (λ (m : ℕ). tab m (λ k. getD l k o)) (sym e) ∙ tab-getD l o
 
 module _ (q : Request) (r : InRange q) where
-  stations-back : columnsOf (stations q) ≡ q .columns
-  unfolding stations stationAt
-  stations-back =
-      let n = length (q .columns .x) in
-      let c = q .columns in
-      rw (
-        map-tab (λ (s : Station). s .x) n (stationAt c) ∙ column (pos 0) (c .x) n refl,
-        map-tab (λ (s : Station). s .y) n (stationAt c) ∙ column (pos 0) (c .y) n (r .y),
-        map-tab (λ (s : Station). s .value) n (stationAt c) ∙ column (pos 0) (c .value) n (r .value),
-        map-tab (λ (s : Station). s .observed) n (stationAt c) ∙ column 0 (c .observed) n (r .observed),
-        map-tab (λ (s : Station). s .from) n (stationAt c) ∙ column 0 (c .from) n (r .from),
-        map-tab (λ (s : Station). s .until) n (stationAt c) ∙ column 0 (c .until) n (r .until),
-      )
+  radius-back : map (λ (t : Entry). t .radius) (entries (q .plan)) ≡ q .plan .radius
+  radius-back = map-tab (λ (t : Entry). t .radius) (q .plan .scans) _ ∙ column (pos 0) (q .plan .radius) (q .plan .scans) (r .radii)
 
-  radius-back : map (λ (t : Entry). t .radius) (plan q) ≡ q .radius
-  radius-back = map-tab (λ (t : Entry). t .radius) (q .scans) _ ∙ column (pos 0) (q .radius) (q .scans) (r .radii)
+  limit-back : map (λ (t : Entry). t .limit) (entries (q .plan)) ≡ q .plan .limit
+  limit-back = map-tab (λ (t : Entry). t .limit) (q .plan .scans) _ ∙ column (pos 0) (q .plan .limit) (q .plan .scans) (r .limits)
 
-  limit-back : map (λ (t : Entry). t .limit) (plan q) ≡ q .limit
-  limit-back = map-tab (λ (t : Entry). t .limit) (q .scans) _ ∙ column (pos 0) (q .limit) (q .scans) (r .limits)
-
-  smooth-back : eqb (cond (q .smooth) 1 0) 1 ≡ q .smooth
-  smooth-back = go (q .smooth)
+  smooth-back : eqb (cond (q .plan .smooth) 1 0) 1 ≡ q .plan .smooth
+  smooth-back = go (q .plan .smooth)
     where
       go : (b : Bool) → eqb (cond b 1 0) 1 ≡ b
       go true = refl
@@ -356,22 +374,22 @@ module _ (q : Request) (r : InRange q) where
 
   -- the bytes after each line
   abbrev afterCount : List ℕ
-  afterCount = linesText stationText (stations q) ++ []
+  afterCount = linesText stationText (q .stations) ++ []
 
   abbrev afterRows : List ℕ
-  afterRows = keyed (ascii "stations=") decimal (length (stations q) ∷ []) ++ afterCount
+  afterRows = keyed (ascii "stations=") decimal (length (q .stations) ∷ []) ++ afterCount
 
   abbrev afterPlan : List ℕ
   afterPlan = gridLines (ascii "row=") integer (q .nx) (q .ny) (q .firstGuess) ++ afterRows
 
   abbrev afterScans : List ℕ
-  afterScans = linesText entryText (plan q) ++ afterPlan
+  afterScans = linesText entryText (entries (q .plan)) ++ afterPlan
 
   abbrev afterSmooth : List ℕ
-  afterSmooth = keyed (ascii "scans=") decimal (q .scans ∷ []) ++ afterScans
+  afterSmooth = keyed (ascii "scans=") decimal (q .plan .scans ∷ []) ++ afterScans
 
   abbrev afterAge : List ℕ
-  afterAge = keyed (ascii "smooth=") decimal (cond (q .smooth) 1 0 ∷ []) ++ afterSmooth
+  afterAge = keyed (ascii "smooth=") decimal (cond (q .plan .smooth) 1 0 ∷ []) ++ afterSmooth
 
   abbrev afterTime : List ℕ
   afterTime = keyed (ascii "age=") decimal (q .A ∷ []) ++ afterAge
@@ -380,62 +398,62 @@ module _ (q : Request) (r : InRange q) where
   afterGrid = keyed (ascii "time=") decimal (q .T ∷ []) ++ afterTime
 
   time-read : timeLine afterGrid ≡ reads (q .T) afterTime
-  unfolding timeLine unsigned word
-  time-read = number-keyed (ascii "time=") 0 greatest (q .T) afterTime (λ bs. refl) (omega arith) (r .time)
+  unfolding unsigned word
+  time-read = number-keyed (ascii "time=") 0 (2 ^ 32 - 1) (q .T) afterTime (λ bs. refl) (omega arith) (r .time)
 
   age-read : ageLine afterTime ≡ reads (q .A) afterAge
-  unfolding ageLine unsigned word
-  age-read = number-keyed (ascii "age=") 0 greatest (q .A) afterAge (λ bs. refl) (omega arith) (r .age)
+  unfolding unsigned word
+  age-read = number-keyed (ascii "age=") 0 (2 ^ 32 - 1) (q .A) afterAge (λ bs. refl) (omega arith) (r .age)
 
-  smooth-read : smoothLine afterAge ≡ reads (cond (q .smooth) 1 0) afterSmooth
-  unfolding smoothLine word
-  smooth-read = number-keyed (ascii "smooth=") 0 1 (cond (q .smooth) 1 0) afterSmooth (λ bs. refl) (omega arith) (cond-both (λ n. n ≤ 1) (q .smooth) 1 0 (λ e. omega arith) (λ e. omega arith))
+  smooth-read : smoothLine afterAge ≡ reads (cond (q .plan .smooth) 1 0) afterSmooth
+  unfolding word
+  smooth-read = number-keyed (ascii "smooth=") 0 1 (cond (q .plan .smooth) 1 0) afterSmooth (λ bs. refl) (omega arith) (cond-both (λ n. n ≤ 1) (q .plan .smooth) 1 0 (λ e. omega arith) (λ e. omega arith))
 
-  scans-read : scansLine afterSmooth ≡ reads (q .scans) afterScans
-  unfolding scansLine word
-  scans-read = number-keyed (ascii "scans=") 1 mostScans (q .scans) afterScans (λ bs. refl) (r .some-scans) (r .few-scans)
+  scans-read : scansLine afterSmooth ≡ reads (q .plan .scans) afterScans
+  unfolding word
+  scans-read = number-keyed (ascii "scans=") 1 mostScans (q .plan .scans) afterScans (λ bs. refl) (r .some-scans) (r .few-scans)
 
-  plan-read : lines (q .scans) scanLine 6 afterScans ≡ read (plan q) (6 + q .scans) afterPlan
+  plan-read : lines (q .plan .scans) scanLine (6, afterScans) ≡ reads (entries (q .plan)) (6 + q .plan .scans, afterPlan)
   plan-read =
-      let e = length-tab (q .scans) (λ m. entry m) in
+      let e = length-tab (q .plan .scans) (λ m. entry m) in
       rw e at (lines-read EntryInRange scanLine entryText scan-keyed (r .entries) 6 afterPlan)
     where
       entry : ℕ → Entry
-      entry m = record { radius = getD (q .radius) m (pos 0); limit = getD (q .limit) m (pos 0) }
+      entry m = record { radius = getD (q .plan .radius) m (pos 0); limit = getD (q .plan .limit) m (pos 0) }
 
   rows-back : (nx : ℕ) → 1 ≤ nx → length (q .firstGuess) ≡ q .ny * nx → (k : ℕ) (rest : List ℕ)
-      → rows (q .ny) (rowLine nx) k (gridLines (ascii "row=") integer nx (q .ny) (q .firstGuess) ++ rest) ≡ read (q .firstGuess) (k + q .ny) rest
+      → rows (q .ny) (rowLine nx) (k, gridLines (ascii "row=") integer nx (q .ny) (q .firstGuess) ++ rest) ≡ reads (q .firstGuess) (k + q .ny, rest)
   rows-back zero h l k rest = absurd (omega arith)
   rows-back (suc nx) h l k rest = rows-read nx (q .ny) (r .first-guess) l k rest
 
-  count-read : stationsLine afterRows ≡ reads (length (stations q)) afterCount
-  unfolding stationsLine word stations
+  count-read : stationsLine afterRows ≡ reads (length (q .stations)) afterCount
+  unfolding word
   count-read =
-      number-keyed (ascii "stations=") 0 mostStations (length (stations q)) afterCount (λ bs. refl) (omega arith)
-      (omega (arith, length-tab (length (q .columns .x)) (stationAt (q .columns)), r .few-stations))
+      number-keyed (ascii "stations=") 0 mostStations (length (q .stations)) afterCount (λ bs. refl) (omega arith) (r .few-stations)
 
-  pub printed-reads-back : requestLines 1 (requestText q) ≡ read q (suc (6 + q .scans + q .ny) + length (stations q)) []
+  pub printed-reads-back : requestLines (1, requestText q) ≡ reads q (suc (6 + q .plan .scans + q .ny) + length (q .stations), [])
   unfolding requestLines requestText nothingAfter
   printed-reads-back =
       rw (
         grid-keyed (q .nx) (q .ny) afterGrid (r .two-columns) (r .few-columns) (r .two-rows) (r .few-rows),
+        line,
+        _or_,
         time-read,
         age-read,
         smooth-read,
         scans-read,
         plan-read,
-        rows-back (q .nx) (omega (arith, r .two-columns)) (r .whole) (6 + q .scans) afterRows,
+        rows-back (q .nx) (omega (arith, r .two-columns)) (r .whole) (6 + q .plan .scans) afterRows,
         count-read,
-        lines-read StationInRange stationLine stationText station-keyed (r .rows) (suc (6 + q .scans + q .ny)) [],
-        stations-back,
+        lines-read StationInRange stationLine stationText station-keyed (r .rows) (suc (6 + q .plan .scans + q .ny)) [],
         radius-back,
         limit-back,
         smooth-back,
       )
 
 -- no two requests print alike
-same-read : {A : Type 0} {a b : A} {k m : ℕ} {l n : List ℕ} → read a k l ≡ read b m n → a ≡ b
+same-read : {L F A : Type 0} {a b : A} {l n : L} → _≡_ {A = Result L F A} (reads a l) (reads b n) → a ≡ b
 same-read e = cc
 
 pub no-two-print-alike : (p q : Request) → InRange p → InRange q → requestText p ≡ requestText q → p ≡ q
-no-two-print-alike p q a b e = same-read (sym (printed-reads-back p a) ∙ ap (requestLines 1) e ∙ printed-reads-back q b)
+no-two-print-alike p q a b e = same-read (sym (printed-reads-back p a) ∙ ap (λ (text : List ℕ). requestLines (1, text)) e ∙ printed-reads-back q b)

@@ -3,10 +3,11 @@ use Prim.Native.Nat.{ℕ, zero, suc, _+_}
 use mathlib.Core.Bool.{cond}
 use mathlib.Core.List.{List, map}
 use lib.IntN.{ℤ, _+ℤ_}
+use Rattle.lists.specs.Sums.{total}
 use Rattle.scheme.specs.Units.{Station, Field, stored, R, E, Request, guess}
 use Rattle.scheme.specs.Verdicts.{beforeScans}
 use Rattle.scheme.specs.Difference.{Row, difference, judged}
-use Rattle.scheme.specs.Correction.{Sums, sums, correction, backedBy}
+use Rattle.scheme.specs.Correction.{Sums, nothing, plus, share, correction, backedBy}
 use Rattle.scheme.specs.Smoothing.{smoothed}
 
 -- what a scan finds, and what it leaves
@@ -34,7 +35,7 @@ module _ (q : Request) (m : ℕ) (found : State) where
   rowsJudged = map (judged (m + 1) (E (q .plan) m) (differences q found)) (found .rows)
 
   unfoldable pub sumsAt : Field Sums
-  sumsAt i j = sums (R (q .plan) m) (differences q found) rowsJudged i j
+  sumsAt i j = total nothing plus (share (R (q .plan) m) (differences q found) i j) rowsJudged
 
   -- All points change together
   unfoldable pub corrected : Field ℤ

@@ -18,8 +18,8 @@ use Rattle.scheme.specs.Units.{step, Station, R, E, Request, guess}
 use Rattle.scheme.specs.Verdicts.{isAccepted}
 use Rattle.scheme.specs.Difference.{Row, judged}
 use Rattle.scheme.specs.Weight.{weight, square}
-use Rattle.scheme.specs.Correction.{Sums, share, sums, correction, backedBy}
-use Rattle.scheme.specs.Gifts.{accepted-weight, rejected-gives-nothing}
+use Rattle.scheme.specs.Correction.{Sums, share, correction, backedBy}
+use Rattle.scheme.specs.Gifts.{sums, accepted-weight, rejected-gives-nothing}
 use Rattle.scheme.specs.Scan.{differences, start, rowsJudged, sumsAt, corrected, scan, after}
 
 -- bit k of a number
@@ -104,7 +104,7 @@ module _ (radius : ℕ) (D : Station → ℤ) (i j : ℕ) where
   weighed r w = rw (accepted-weight radius D i j r (w .is-accepted)) (w .nonzero)
 
   weights-total : (rows : List Row) → sums radius D rows i j .weights ≡ total 0 _+_ weightOf rows
-  unfolding sums total
+  unfolding total
   weights-total [] = refl
   weights-total (r ∷ rows) = ap (λ (t : ℕ). weightOf r + t) (weights-total rows)
 
@@ -166,7 +166,7 @@ module _ (q : Request) (empty : q .stations ≡ []) where
   no-rows (suc m) = rw (no-rows m)
 
   no-weights : (m i j : ℕ) → weightsIn q i j m ≡ 0
-  unfolding sumsAt sums total rowsJudged
+  unfolding sumsAt total rowsJudged
   no-weights m i j =
       ap (λ (rows : List Row). sums (R (q .plan) m) (differences q (after q m)) (map (judged (m + 1) (E (q .plan) m) (differences q (after q m))) rows) i j .weights)
       (no-rows m)

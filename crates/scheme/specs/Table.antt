@@ -9,17 +9,17 @@ use lib.Ieee.{div, ofInt, round, units, odd, span, climb, size}
 use lib.Ieee.Exact.{HasValue}
 use Rattle.lists.specs.Sums.{upTo}
 use Rattle.scheme.specs.declared.Reading.the-variants.{FirstGuess}
-use Rattle.scheme.specs.Units.{Request, Field, fieldOf, stations, guess, R, columnsOf}
+use Rattle.scheme.specs.Units.{Field, fieldOf, Plan, R, Request, guess}
 use Rattle.scheme.specs.Refusals.{refusedIf, badShape, readingRefusal}
 use Rattle.scheme.specs.Verdicts.{onAxis}
 use Rattle.scheme.specs.Rounding.{rounded}
-use Rattle.scheme.specs.Value.{place, cell, interpolationSum, sumAt}
+use Rattle.scheme.specs.Value.{place, cell, corners, sumAt}
 use Rattle.scheme.specs.Difference.{afterTest}
 use Rattle.scheme.specs.Weight.{weight}
 use Rattle.scheme.specs.Smoothing.{patternRow, patternSum, inner, smoothed}
 use Rattle.scheme.specs.Scan.{after}
 use Rattle.scheme.specs.Reach.{steps, reach}
-use Rattle.scheme.specs.Readings.{double, readingValue, cornerBacked, isBacked, readingIn, reading}
+use Rattle.scheme.specs.Readings.{double, isBacked, readingIn, reading}
 use Rattle.scheme.specs.Support.{unsupported-point-keeps-first-guess, no-stations-no-support}
 use Rattle.scheme.specs.Text.{answerText}
 use Rattle.scheme.specs.Example.{onceText, onceAnswer, example-text}
@@ -31,24 +31,12 @@ abbrev lone : ℤ → Field ℤ
 lone v i j = cond (eqb i 1 && eqb j 1) v (pos 0)
 
 -- corners 0, 1 over 0, 0
-abbrev corners : List ℤ
-corners = pos 0 ∷ pos 1 ∷ pos 0 ∷ pos 0 ∷ []
+abbrev fourCorners : List ℤ
+fourCorners = pos 0 ∷ pos 1 ∷ pos 0 ∷ pos 0 ∷ []
 
--- a request with a plan of two scans and nothing else
-abbrev twoScans : Request
-twoScans =
-    record {
-      nx = 2;
-      ny = 2;
-      firstGuess = corners;
-      columns = columnsOf [];
-      scans = 2;
-      radius = pos 96 ∷ pos 64 ∷ [];
-      limit = pos 0 ∷ pos 0 ∷ [];
-      smooth = true;
-      T = 0;
-      A = 0;
-    }
+-- radii 96, 64 with smoothing
+abbrev twoScans : Plan
+twoScans = record { scans = 2; radius = pos 96 ∷ pos 64 ∷ []; limit = pos 0 ∷ pos 0 ∷ []; smooth = true }
 
 -- ---- the table
 
@@ -58,11 +46,11 @@ pub record Table : Type 0 where
   pub c : (rounded (pos 5) 2 ≡ pos 3) × (rounded (negsuc 4) 2 ≡ negsuc 2) × (rounded (pos 1) 3 ≡ pos 0)
   pub d : (smoothed 3 3 (lone (pos 16)) 1 1 ≡ pos 4) × (smoothed 3 3 (lone (pos 2)) 1 1 ≡ pos 1)
       × (smoothed 3 3 (lone (negsuc 1)) 1 1 ≡ negsuc 0)
-  pub e-rounded : rounded (sumAt 2 2 (fieldOf (pos 0) 2 corners) 32 32) 4096 ≡ pos 0
-  pub e-reading : reading 2 2 corners (0 ∷ 0 ∷ 0 ∷ 0 ∷ []) (pos 32) (pos 32) ≡ FirstGuess (double (pos 1024) 262144)
+  pub e-rounded : rounded (sumAt 2 2 (fieldOf (pos 0) 2 fourCorners) 32 32) 4096 ≡ pos 0
+  pub e-reading : reading 2 2 fourCorners (0 ∷ 0 ∷ 0 ∷ 0 ∷ []) (pos 32) (pos 32) ≡ FirstGuess (double (pos 1024) 262144)
   pub e-exact : HasValue (double (pos 1024) 262144) false 1 256
   pub f : (afterTest 1 200 (pos 200) 0 ≡ 0) × (afterTest 1 200 (pos 201) 0 ≡ 11)
-  pub g : (q : Request) → stations q ≡ [] → q .smooth ≡ false → (m i j : ℕ)
+  pub g : (q : Request) → q .stations ≡ [] → q .plan .smooth ≡ false → (m i j : ℕ)
       → (after q m .field i j ≡ guess q i j) × (after q m .support i j ≡ 0)
   pub h : reach twoScans ≡ 5
   pub i : answerText onceText ≡ onceAnswer
@@ -86,12 +74,12 @@ case-d : (smoothed 3 3 (lone (pos 16)) 1 1 ≡ pos 4) × (smoothed 3 3 (lone (po
 unfolding smoothed patternSum patternRow upTo inner rounded
 case-d = (refl, refl, refl)
 
-case-e : rounded (sumAt 2 2 (fieldOf (pos 0) 2 corners) 32 32) 4096 ≡ pos 0
-unfolding rounded sumAt interpolationSum cell fieldOf
+case-e : rounded (sumAt 2 2 (fieldOf (pos 0) 2 fourCorners) 32 32) 4096 ≡ pos 0
+unfolding rounded sumAt corners cell fieldOf
 case-e = refl
 
-case-e-reading : reading 2 2 corners (0 ∷ 0 ∷ 0 ∷ 0 ∷ []) (pos 32) (pos 32) ≡ FirstGuess (double (pos 1024) 262144)
-unfolding reading readingRefusal refusedIf badShape readingIn onAxis place isBacked cornerBacked cell readingValue sumAt interpolationSum fieldOf
+case-e-reading : reading 2 2 fourCorners (0 ∷ 0 ∷ 0 ∷ 0 ∷ []) (pos 32) (pos 32) ≡ FirstGuess (double (pos 1024) 262144)
+unfolding reading readingRefusal refusedIf badShape readingIn onAxis place isBacked cell sumAt corners fieldOf
 case-e-reading = refl
 
 case-e-exact : HasValue (double (pos 1024) 262144) false 1 256
@@ -102,7 +90,7 @@ case-f : (afterTest 1 200 (pos 200) 0 ≡ 0) × (afterTest 1 200 (pos 201) 0 ≡
 unfolding afterTest
 case-f = (refl, refl)
 
-case-g : (q : Request) → stations q ≡ [] → q .smooth ≡ false → (m i j : ℕ)
+case-g : (q : Request) → q .stations ≡ [] → q .plan .smooth ≡ false → (m i j : ℕ)
     → (after q m .field i j ≡ guess q i j) × (after q m .support i j ≡ 0)
 case-g q empty rough m i j =
     let s = no-stations-no-support q empty m i j in

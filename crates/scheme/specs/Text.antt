@@ -1,19 +1,21 @@
 -- "Request and answer text": the program `analyse` reads standard input and prints. Refusals 9 and 10, the answer byte for byte.
+pub mod Reader
 pub mod Pieces
 pub mod Lines
 pub mod Order
 pub mod Printed
 use Prim.Native.Nat.{ℕ}
-use mathlib.Core.Bool.{true, false}
+use mathlib.Core.Bool.{cond}
 use mathlib.Core.List.{List, [], _∷_, _++_, map}
 use lib.Dec.{ltb, eqb}
 use lib.ListN.{length}
-use Pieces.{ascii}
-use Lines.{gridLine, timeLine, ageLine, smoothLine, scansLine, scanLine, rowLine, stationsLine, stationLine}
-use Order.{Read, notInForm, read, Text, _>>=_, _>>_, gives, line, optional, lines, rows, nothingAfter}
+use Reader.{Result, fails, reads, _>>=_, _>>_, gives, _or_}
+use Pieces.{ascii, count, unsigned}
+use Lines.{number, gridLine, scanLine, rowLine, stationLine}
+use Order.{Text, line, lines, rows, nothingAfter}
 use Printed.{decimal, integer, keyed, gridLines}
-use Rattle.scheme.specs.Units.{Request}
-use Rattle.scheme.specs.Refusals.{Refusal, accepted, refused, inOrder, fromFive}
+use Rattle.scheme.specs.Units.{mostScans, mostStations, Request}
+use Rattle.scheme.specs.Refusals.{numberOf, placeOf, unlessRefused, inOrder, fromFive}
 use Rattle.scheme.specs.Scan.{Analysis, analysis}
 
 -- `age` may be left out, which means 120
@@ -28,14 +30,14 @@ mostBytes = 65536
 unfoldable pub requestLines : Text Request
 requestLines = do
   size ← line gridLine
-  time ← line timeLine
-  age ← optional defaultAge ageLine
-  smooth ← line smoothLine
-  scans ← line scansLine
+  time ← line (number (ascii "time=") unsigned)
+  age ← line (number (ascii "age=") unsigned) or gives defaultAge
+  smooth ← line (number (ascii "smooth=") (count 0 1))
+  scans ← line (number (ascii "scans=") (count 1 mostScans))
   plan ← lines scans scanLine
   guess ← rows (size .ny) (rowLine (size .nx))
-  count ← line stationsLine
-  stations ← lines count stationLine
+  many ← line (number (ascii "stations=") (count 0 mostStations))
+  stations ← lines many stationLine
   nothingAfter
   gives
       (record {
@@ -48,26 +50,7 @@ requestLines = do
         A = age;
       })
 
--- ---- what a text asks for: refused with 10, then 9, then the rest; or a request to be analysed
-
-pub data Outcome : Type 0 where
-  refusedWith : (number place : ℕ) → Outcome
-  answered : Request → Outcome
-
-abbrev pub tested : Request → Refusal → Outcome
-tested q accepted = answered q
-tested q (refused number place) = refusedWith number place
-
--- 9: request text not in form, at the first line not in form, counted from 1
-abbrev pub inForm : Read Request → Outcome
-inForm (notInForm k) = refusedWith 9 k
-inForm (read q k rest) = tested q (inOrder (fromFive q))
-
--- 10: request text over 65,536 bytes
-unfoldable pub outcome : List ℕ → Outcome
-outcome text = elim (ltb mostBytes (length text)) [ true ↦ refusedWith 10 0 | false ↦ inForm (requestLines 1 text) ]
-
--- ---- the answer. A refusal prints the first two lines alone
+-- ---- the answer
 
 unfoldable pub firstTwo : (number place : ℕ) → List ℕ
 firstTwo number place = keyed (ascii "refusal=") decimal (number ∷ []) ++ keyed (ascii "place=") decimal (place ∷ [])
@@ -80,9 +63,17 @@ analysisText nx ny a =
     ++ gridLines (ascii "sup=") decimal nx ny (a .support)
     ++ keyed (ascii "ver=") decimal (a .verdict)
 
-unfoldable pub printed : Outcome → List ℕ
-printed (refusedWith number place) = firstTwo number place
-printed (answered q) = analysisText (q .nx) (q .ny) (analysis q)
+-- to a request in form. A refusal prints the first two lines alone
+unfoldable pub replyText : Request → List ℕ
+replyText q =
+    let r = inOrder (fromFive q) in
+    unlessRefused r (analysisText (q .nx) (q .ny) (analysis q)) (firstTwo (numberOf r) (placeOf r))
 
+-- to what was read. 9: request text not in form, at the first line not in form
+abbrev pub inForm : Result (ℕ × List ℕ) ℕ Request → List ℕ
+inForm (fails k) = firstTwo 9 k
+inForm (reads q rest) = replyText q
+
+-- to any text. 10, tested before 9: request text over 65,536 bytes
 unfoldable pub answerText : List ℕ → List ℕ
-answerText text = printed (outcome text)
+answerText text = cond (ltb mostBytes (length text)) (firstTwo 10 0) (inForm (requestLines (1, text)))

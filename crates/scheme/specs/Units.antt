@@ -127,32 +127,29 @@ R p m = natAbs (getD (p .radius) m (pos 0))
 unfoldable pub E : Plan → ℕ → ℕ
 E p m = natAbs (getD (p .limit) m (pos 0))
 
--- ---- A request: grid and first guess, stations, plan, analysis minute T, greatest age A
+-- ---- What is asked: grid and first guess, stations, plan, analysis minute T, greatest age A
 
-pub record Request : Type 0 where
+pub record Asking (Stations : Type 0) : Type 0 where
   pub nx : ℕ
   pub ny : ℕ
   pub firstGuess : List ℤ
-  pub stations : List Station
+  pub stations : Stations
   pub plan : Plan
   pub T : ℕ
   pub A : ℕ
+
+-- by a request, whose stations are a list
+abbrev pub Request : Type 0
+Request = Asking (List Station)
 
 unfoldable pub guess : Request → Field ℤ
 guess q = fieldOf (pos 0) (q .nx) (q .firstGuess)
 
--- ---- A call is handed the same, with its stations in columns; the request that it asks
-
-pub record Call : Type 0 where
-  pub nx : ℕ
-  pub ny : ℕ
-  pub firstGuess : List ℤ
-  pub columns : Columns
-  pub plan : Plan
-  pub T : ℕ
-  pub A : ℕ
+-- and by a call, which is handed them as columns: the request that it asks
+abbrev pub Call : Type 0
+Call = Asking Columns
 
 abbrev pub asked : Call → Request
 asked c =
-    let stations = stationsOf (c .columns) in
+    let stations = stationsOf (c .stations) in
     record { nx = c .nx; ny = c .ny; firstGuess = c .firstGuess; stations = stations; plan = c .plan; T = c .T; A = c .A }

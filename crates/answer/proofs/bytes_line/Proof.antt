@@ -4,15 +4,14 @@ use native.Mathlib.Omega.{arith}
 use mathlib.Core.Path.{ap, _∙_}
 use mathlib.Core.List.{[], _∷_}
 use lib.ListN.{length, length-append}
-use Rattle.scheme.specs.Text.Printed.{decimal, listed, keyed}
+use Rattle.scheme.specs.Text.Printed.{decimal}
 use Rattle.answer.specs.Written.{written-then, written-as, written-byte, written-long}
-use Rattle.answer.specs.Rows.{keyed-cells, keyed-none}
+use Rattle.answer.specs.Rows.{keyed-cells, keyed-none, key-inside}
 use Rattle.answer.proofs.bytes_line.Statement.{statement}
 use Rattle.answer.proofs.bytes_line.Tie as tie
 
 put-word-requires : tie.Need-put-word-requires
-unfolding keyed
-put-word-requires c κs = let a = c .before .before .before .before .args in omega (arith, length-append (a .key .now) (listed decimal (a .z .now)), c .before .before .before .before .pre)
+put-word-requires c κs = let a = c .before .before .before .before .args in omega (arith, key-inside decimal (a .key .now) (a .z .now), c .before .before .before .before .pre)
 
 slice-write-out : tie.Need-slice-write-out
 slice-write-out c =

@@ -3,8 +3,9 @@ use borrow.Author.Needs.{needs}
 use native.Mathlib.Omega.{arith}
 use native.Mathlib.Numerals.{add-one}
 use mathlib.Core.Path.{ap, _∙_}
+use Rattle.scheme.specs.Text.Reader.{_or_}
 use Rattle.scheme.specs.Text.Pieces.{unsigned}
-use Rattle.scheme.specs.Text.Lines.{ageLine}
+use Rattle.scheme.specs.Text.Order.{line}
 use Rattle.pieces.specs.Told.{unsignedTold}
 use Rattle.head.proofs.age_line.Statement.{statement}
 use Rattle.head.proofs.age_line.Tie as tie
@@ -22,15 +23,15 @@ enum-told : tie.Need-enum-told
 enum-told c = search needs
 
 returns : tie.Need-returns
-unfolding ageLine unsigned
-returns c = (rw (c .before .before .number-line .ensures .0 ∙ ap (unsignedTold (c .before .before .before .before .before .args .s .now)) (c .enum-told .given .1)), omega (arith, c .before .before .before .before .before .pre))
+unfolding unsigned
+returns c = (rw (c .before .before .number-line .ensures .0 ∙ ap (unsignedTold (c .before .before .before .before .before .args .s .now)) (c .enum-told .given .1), line, _or_), omega (arith, c .before .before .before .before .before .pre))
 
 add-t10 : tie.Need-add-t10
 add-t10 c = search needs
 
 returns-2 : tie.Need-returns-2
-unfolding ageLine unsigned
-returns-2 c = (rw (add-one (c .before .before .before .before .before .before .args .line), c .before .before .before .number-line .ensures .0 ∙ ap (unsignedTold (c .before .before .before .before .before .before .args .s .now)) (c .before .age .given .1)), omega (arith, c .before .before .before .before .before .before .pre))
+unfolding unsigned
+returns-2 c = (rw (add-one (c .before .before .before .before .before .before .args .line), c .before .before .before .number-line .ensures .0 ∙ ap (unsignedTold (c .before .before .before .before .before .before .args .s .now)) (c .before .age .given .1), line, _or_), omega (arith, c .before .before .before .before .before .before .pre))
 
 pub age-line-spec : {M : Type 1} → statement M
 age-line-spec =

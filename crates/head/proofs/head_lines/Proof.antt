@@ -6,8 +6,11 @@ use native.Mathlib.Numerals.{add-one}
 use mathlib.Core.Path.{_≡_, ap, subst, _∙_}
 use mathlib.Core.List.{List}
 use lib.ListN.{drop}
-use Rattle.scheme.specs.Text.Pieces.{reads, unsigned}
-use Rattle.scheme.specs.Text.Lines.{gridLine, timeLine, smoothLine, scansLine}
+use Rattle.scheme.specs.Text.Reader.{reads}
+use Rattle.scheme.specs.Text.Pieces.{unsigned}
+use Rattle.scheme.specs.Text.Lines.{gridLine}
+use Rattle.scheme.specs.Text.Order.{line}
+use Rattle.scheme.specs.RoundTrip.{timeLine, smoothLine, scansLine}
 use Rattle.pieces.specs.Told.{unsignedTold, Within}
 use Rattle.lines.specs.Told.{Sizes, SizeIs}
 use Rattle.head.proofs.head_lines.Statement.{statement}
@@ -25,7 +28,7 @@ module _ (c : tie.After-time) where
   after-grid = c .before .before .before .before .before
 
   time-read : timeLine (drop (after-grid .nx .given .0 .1 .1 .0) (text after-grid)) ≡ reads (c .time .given .0 .0) (drop (c .time .given .0 .1 .0) (text after-grid))
-  unfolding timeLine unsigned
+  unfolding unsigned
   time-read = c .before .before .number-line .ensures .0 ∙ ap (unsignedTold (text after-grid)) (c .time .given .1)
 
 module _ (c : tie.After-smooth) where
@@ -36,7 +39,6 @@ module _ (c : tie.After-smooth) where
   after-time = after-age .before .before
 
   smooth-read : smoothLine (drop (after-age .age-line .result .next) (text (after-grid after-time))) ≡ reads (c .smooth .given .0 .0) (drop (c .smooth .given .0 .1 .0) (text (after-grid after-time)))
-  unfolding smoothLine
   smooth-read = c .before .before .number-line2 .ensures .0 ∙ ap (unsignedTold (text (after-grid after-time))) (c .smooth .given .1)
 
 module _ (c : tie.After-scans) where
@@ -44,7 +46,6 @@ module _ (c : tie.After-scans) where
   after-smooth = c .before .before .before .before .before
 
   scans-read : scansLine (drop (after-smooth .smooth .given .0 .1 .0) (text (after-grid (after-time after-smooth)))) ≡ reads (c .scans .given .0 .0) (drop (c .scans .given .0 .1 .0) (text (after-grid (after-time after-smooth))))
-  unfolding scansLine
   scans-read = c .before .before .number-line3 .ensures .0 ∙ ap (unsignedTold (text (after-grid (after-time after-smooth)))) (c .scans .given .1)
 
 grid-line-requires : tie.Need-grid-line-requires
@@ -59,7 +60,7 @@ enum-told c = search needs
 returns : tie.Need-returns
 returns c =
     let s = c .before .before .before .before .args .s .now in
-    λ next. rw (subst (Sizes s (gridLine s)) (c .enum-told .given .1) (c .before .before .grid-line .ensures))
+    λ next. rw (subst (Sizes s (gridLine s)) (c .enum-told .given .1) (c .before .before .grid-line .ensures), line)
 
 slice-aggregate-number-line : tie.Need-slice-aggregate-number-line
 slice-aggregate-number-line c = search needs
@@ -74,8 +75,8 @@ enum-told-2 : tie.Need-enum-told-2
 enum-told-2 c = search needs
 
 returns-2 : tie.Need-returns-2
-unfolding timeLine unsigned
-returns-2 c = let m = c .before .before .before .before .before in λ next. rw (grid-is m .said, c .before .before .number-line .ensures .0 ∙ ap (unsignedTold (text m)) (c .enum-told2 .given .1))
+unfolding unsigned
+returns-2 c = let m = c .before .before .before .before .before in λ next. rw (grid-is m .said, line, c .before .before .number-line .ensures .0 ∙ ap (unsignedTold (text m)) (c .enum-told2 .given .1))
 
 age-line-requires : tie.Need-age-line-requires
 age-line-requires c κs = search needs
@@ -93,11 +94,10 @@ enum-told-3 : tie.Need-enum-told-3
 enum-told-3 c = search needs
 
 returns-3 : tie.Need-returns-3
-unfolding smoothLine
 returns-3 c =
     let a = c .before .before .before .before in
     let t = a .before .before in
-    λ next. rw (grid-is (after-grid t) .said, time-read t, a .age-line .ensures .0, c .before .before .number-line2 .ensures .0 ∙ ap (unsignedTold (text (after-grid t))) (c .enum-told3 .given .1))
+    λ next. rw (grid-is (after-grid t) .said, line, time-read t, a .age-line .ensures .0, c .before .before .number-line2 .ensures .0 ∙ ap (unsignedTold (text (after-grid t))) (c .enum-told3 .given .1))
 
 slice-aggregate-number-line-3 : tie.Need-slice-aggregate-number-line-3
 slice-aggregate-number-line-3 c = search needs
@@ -115,12 +115,11 @@ add-t27 : tie.Need-add-t27
 add-t27 c = search needs
 
 returns-4 : tie.Need-returns-4
-unfolding scansLine
 returns-4 c =
     let m = c .before .before .before .before .before .before in
     let a = after-age m in
     let t = after-time m in
-    λ next. rw (grid-is (after-grid t) .said, time-read t, a .age-line .ensures .0, smooth-read m, c .before .before .before .number-line3 .ensures .0 ∙ ap (unsignedTold (text (after-grid t))) (c .before .enum-told4 .given .1), add-one (a .age-line .result .line))
+    λ next. rw (grid-is (after-grid t) .said, line, time-read t, a .age-line .ensures .0, smooth-read m, c .before .before .before .number-line3 .ensures .0 ∙ ap (unsignedTold (text (after-grid t))) (c .before .enum-told4 .given .1), add-one (a .age-line .result .line))
 
 add-t29 : tie.Need-add-t29
 add-t29 c = search needs
@@ -134,7 +133,7 @@ returns-5 c =
     let g = grid-is (after-grid t) in
     let e : a .age-line .result .line + 2 ≡ suc (suc (a .age-line .result .line)) = omega arith in
     record {
-      said = λ next. rw (g .said, time-read t, a .age-line .ensures .0, smooth-read m, scans-read n, e);
+      said = λ next. rw (g .said, line, time-read t, a .age-line .ensures .0, smooth-read m, scans-read n, e);
       limits = record {
         columns = g .columns;
         rows = g .rows;

@@ -2,12 +2,12 @@
 use borrow.Author.Needs.{needs}
 use Prim.Native.Nat.{ℕ, zero, suc}
 use mathlib.Core.Path.{_≡_, refl}
-use Rattle.scheme.specs.Text.Pieces.{comma, lineFeed, following}
+use Rattle.scheme.specs.Text.Pieces.{comma, lineFeed, mark}
 use Rattle.pieces.specs.Told.{before-told}
 use Rattle.lines.proofs.cell_at.Statement.{statement}
 use Rattle.lines.proofs.cell_at.Tie as tie
 
-some-left : (more : ℕ) → (more ≡ 0 → ⊥) → following more ≡ comma
+some-left : (more : ℕ) → (more ≡ 0 → ⊥) → mark more ≡ 44
 some-left zero h = absurd (h refl)
 some-left (suc more) h = refl
 

@@ -2,6 +2,7 @@
 use borrow.Author.Needs.{needs}
 use mathlib.Core.Path.{ap, _∙_}
 use Rattle.scheme.specs.Text.Pieces.{unsigned}
+use Rattle.scheme.specs.Text.Reader.{_or_}
 use Rattle.scheme.specs.Text.Lines.{end}
 use Rattle.pieces.specs.Told.{wordTold}
 use Rattle.lines.proofs.end_at.Statement.{statement}
@@ -24,11 +25,11 @@ count-at-requires c κs = search needs
 
 returns : tie.Need-returns
 unfolding end
-returns c = rw (c .before .before .before .word-at .ensures ∙ ap (wordTold (c .before .before .before .before .before .before .args .s .now)) (c .before .next .given .1))
+returns c = rw (c .before .before .before .word-at .ensures ∙ ap (wordTold (c .before .before .before .before .before .before .args .s .now)) (c .before .next .given .1), _or_)
 
 returns-2 : tie.Need-returns-2
 unfolding end unsigned
-returns-2 c = rw (c .before .before .before .word-at .ensures ∙ ap (wordTold (c .before .before .before .before .before .before .args .s .now)) (c .before .enum-told .given .1)) (c .count-at .ensures .0)
+returns-2 c = rw (c .before .before .before .word-at .ensures ∙ ap (wordTold (c .before .before .before .before .before .before .args .s .now)) (c .before .enum-told .given .1), _or_) (c .count-at .ensures .0)
 
 pub end-at-spec : {M : Type 1} → statement M
 end-at-spec =

@@ -2,7 +2,8 @@
 use borrow.Author.Needs.{needs}
 use mathlib.Core.Path.{_≡_, ap, subst, _∙_}
 use lib.ListN.{drop}
-use Rattle.scheme.specs.Text.Pieces.{reads, ascii, word, comma, lineFeed, count, _before_}
+use Rattle.scheme.specs.Text.Reader.{reads, _before_}
+use Rattle.scheme.specs.Text.Pieces.{ascii, word, comma, lineFeed, count}
 use Prim.Native.Nat.{ℕ}
 use mathlib.Core.List.{List}
 use Rattle.scheme.specs.Text.Lines.{gridLine}

@@ -1,6 +1,7 @@
 -- `lines::observation_at` meets its contract. Assumes nothing.
 use borrow.Author.Needs.{needs}
 use mathlib.Core.Path.{ap, _∙_}
+use Rattle.scheme.specs.Text.Reader.{_or_}
 use Rattle.scheme.specs.Text.Lines.{observation}
 use Rattle.pieces.specs.Told.{wordTold}
 use Rattle.lines.proofs.observation_at.Statement.{statement}
@@ -23,11 +24,11 @@ signed-at-requires c κs = search needs
 
 returns : tie.Need-returns
 unfolding observation
-returns c = rw (c .before .before .before .word-at .ensures ∙ ap (wordTold (c .before .before .before .before .before .before .args .s .now)) (c .before .next .given .1))
+returns c = rw (c .before .before .before .word-at .ensures ∙ ap (wordTold (c .before .before .before .before .before .before .args .s .now)) (c .before .next .given .1), _or_)
 
 returns-2 : tie.Need-returns-2
 unfolding observation
-returns-2 c = rw (c .before .before .before .word-at .ensures ∙ ap (wordTold (c .before .before .before .before .before .before .args .s .now)) (c .before .enum-told .given .1)) (c .signed-at .ensures)
+returns-2 c = rw (c .before .before .before .word-at .ensures ∙ ap (wordTold (c .before .before .before .before .before .before .args .s .now)) (c .before .enum-told .given .1), _or_) (c .signed-at .ensures)
 
 pub observation-at-spec : {M : Type 1} → statement M
 observation-at-spec =

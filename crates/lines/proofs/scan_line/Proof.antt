@@ -5,7 +5,8 @@ use lib.ListN.{drop}
 use mir.Syntax.{w32}
 use mir.Val.{SFits}
 use mir.Facts.{toZ-ofZ}
-use Rattle.scheme.specs.Text.Pieces.{reads, ascii, word, comma, lineFeed, signed, _before_}
+use Rattle.scheme.specs.Text.Reader.{reads, _before_}
+use Rattle.scheme.specs.Text.Pieces.{ascii, word, comma, lineFeed, signed}
 use Prim.Native.Nat.{ℕ}
 use mathlib.Core.List.{List}
 use Rattle.scheme.specs.Text.Lines.{scanLine}

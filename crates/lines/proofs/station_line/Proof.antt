@@ -5,7 +5,8 @@ use lib.ListN.{drop}
 use mir.Syntax.{w32}
 use mir.Val.{SFits}
 use mir.Facts.{toZ-ofZ}
-use Rattle.scheme.specs.Text.Pieces.{reads, ascii, word, comma, lineFeed, signed, count, greatest, unsigned, _before_}
+use Rattle.scheme.specs.Text.Reader.{reads, _before_}
+use Rattle.scheme.specs.Text.Pieces.{ascii, word, comma, lineFeed, signed, count, unsigned}
 use Prim.Native.Nat.{ℕ}
 use mathlib.Core.List.{List}
 use Rattle.scheme.specs.Text.Lines.{stationLine, observation, end}
@@ -48,14 +49,14 @@ module _ (c : tie.After-observed) where
   abbrev after-value : tie.After-value
   after-value = c .before .before .before .before .before .before
 
-  observed-read : (count 0 greatest before comma) (drop (after-value .value .given .0 .1 .0) (text (after-a (after-x (after-y after-value))))) ≡ reads (c .observed .given .0 .0) (drop (c .observed .given .0 .1 .0) (text (after-a (after-x (after-y after-value)))))
+  observed-read : (count 0 4294967295 before comma) (drop (after-value .value .given .0 .1 .0) (text (after-a (after-x (after-y after-value))))) ≡ reads (c .observed .given .0 .0) (drop (c .observed .given .0 .1 .0) (text (after-a (after-x (after-y after-value)))))
   observed-read = before-told comma (c .before .before .before .before .count-at .ensures .0) (c .before .before .unsigned-before .ensures .0) (ap (unsignedTold (text (after-a (after-x (after-y after-value))))) (c .observed .given .1))
 
 module _ (c : tie.After-from) where
   abbrev after-observed : tie.After-observed
   after-observed = c .before .before .before .before .before .before
 
-  from-read : (count 0 greatest before comma) (drop (after-observed .observed .given .0 .1 .0) (text (after-a (after-x (after-y (after-value after-observed)))))) ≡ reads (c .from .given .0 .0) (drop (c .from .given .0 .1 .0) (text (after-a (after-x (after-y (after-value after-observed))))))
+  from-read : (count 0 4294967295 before comma) (drop (after-observed .observed .given .0 .1 .0) (text (after-a (after-x (after-y (after-value after-observed)))))) ≡ reads (c .from .given .0 .0) (drop (c .from .given .0 .1 .0) (text (after-a (after-x (after-y (after-value after-observed))))))
   from-read = before-told comma (c .before .before .before .before .count-at2 .ensures .0) (c .before .before .unsigned-before2 .ensures .0) (ap (unsignedTold (text (after-a (after-x (after-y (after-value after-observed)))))) (c .from .given .1))
 
 module _ (c : tie.After-until) where

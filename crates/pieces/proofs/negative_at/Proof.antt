@@ -2,6 +2,8 @@
 use borrow.Author.Needs.{needs}
 use native.Mathlib.Omega.{arith}
 use mathlib.Core.Path.{ap, subst, _∙_}
+use lib.ListN.{drop}
+use Rattle.scheme.specs.Text.Pieces.{positive}
 use Rattle.pieces.specs.Told.{unsignedTold, Within}
 use Rattle.pieces.specs.Numbers.{ranged, negative-count, negative-none, neg-wide, neg-narrow, negated}
 use Rattle.pieces.proofs.negative_at.Statement.{statement}
@@ -34,13 +36,13 @@ returns c =
     let r = c .before .before .before in
     let a = c .before .before .before .before .before .before .args in
     rw (negated (v .0 .0) (subst (Within 0 2147483648) (v .1) (r .in-range .ensures .within) .1))
-    (negative-count (a .s .now) (a .at) (ranged (r .in-range .ensures) (omega arith) (a .s .now) _ (r .before .positive-at .ensures) ∙ ap (unsignedTold (a .s .now)) (v .1)))
+    (negative-count (a .s .now) (a .at) (ranged (r .in-range .ensures) (omega arith) (a .s .now) (positive (drop (a .at) (a .s .now))) (r .before .positive-at .ensures) ∙ ap (unsignedTold (a .s .now)) (v .1)))
 
 returns-2 : tie.Need-returns-2
 returns-2 c =
     let r = c .before .before in
     let a = c .before .before .before .before .before .args in
-    negative-none (a .s .now) (a .at) (ranged (r .in-range .ensures) (omega arith) (a .s .now) _ (r .before .positive-at .ensures) ∙ ap (unsignedTold (a .s .now)) (c .enum-told .given .1))
+    negative-none (a .s .now) (a .at) (ranged (r .in-range .ensures) (omega arith) (a .s .now) (positive (drop (a .at) (a .s .now))) (r .before .positive-at .ensures) ∙ ap (unsignedTold (a .s .now)) (c .enum-told .given .1))
 
 pub negative-at-spec : {M : Type 1} → statement M
 negative-at-spec =

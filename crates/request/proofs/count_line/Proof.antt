@@ -2,7 +2,6 @@
 use borrow.Author.Needs.{needs}
 use native.Mathlib.Omega.{arith}
 use mathlib.Core.Path.{refl, ap, subst, _∙_}
-use Rattle.scheme.specs.Text.Lines.{stationsLine}
 use Rattle.pieces.specs.Told.{unsignedTold, Within}
 use Rattle.request.specs.Whole.{Limited, count-no-head, count-no-rows, count-not-read, count-read}
 use Rattle.request.proofs.count_line.Statement.{statement}
@@ -57,14 +56,12 @@ returns-2 : tie.Need-returns-2
 returns-2 c = let a = c .before .before .before .before .before .before .before .before .args in count-no-rows (a .s .now) (a .h) (a .rows) (c .no-station2 .result) (c .before .before .before .before .before .h2 .given .0 .0) (c .before .before .before .before .before .h2 .given .1) (c .before .before .rows .given .0 .0) (c .before .before .rows .given .1) (c .no-station2 .ensures) (omega arith)
 
 returns-3 : tie.Need-returns-3
-unfolding stationsLine
 returns-3 c =
     let a = c .before .before .before .before .before .before .before .before .before .before .before .before .before .before .args in
     count-not-read (a .s .now) (a .h) (a .rows) (c .no-station3 .result) (c .before .before .before .before .before .before .before .before .before .before .before .h2 .given .0 .0) (c .before .before .before .before .before .before .before .before .before .before .before .h2 .given .1) (subst Limited (c .before .before .before .before .before .before .before .before .before .before .before .h2 .given .1) (c .before .before .before .before .before .before .before .before .before .before .before .before .before .before .pre)) (c .before .before .before .before .before .before .before .before .rows2 .given .0 .0) (c .before .before .before .before .before .before .before .before .rows2 .given .1)
     (c .before .before .before .number-line .ensures .0 ∙ ap (unsignedTold (a .s .now)) (c .before .enum-told .given .1)) (c .no-station3 .ensures)
 
 returns-4 : tie.Need-returns-4
-unfolding stationsLine
 returns-4 c =
     let a = c .before .before .before .before .before .before .before .before .before .before .before .before .before .before .args in
     let n = c .before .before .before .number-line .ensures in

@@ -11,7 +11,8 @@ use Rattle.scheme.specs.Stored.{row-in}
 use Rattle.scheme.specs.Text.Lines.{rowLine}
 use Rattle.scheme.specs.Text.Order.{Text, rows}
 use Rattle.lines.specs.Told.{valuesTold}
-use Rattle.request.specs.Turns.{Reached, begin, turn, stop, done, rows-more, rows-stop, rows-none, part-long, put-row}
+use Rattle.scheme.specs.RoundTrip.{rows-more}
+use Rattle.request.specs.Turns.{Reached, begin, turn, stop, done, rows-stop, rows-none, part-long, put-row}
 use Rattle.request.proofs.row_lines.Statement.{statement}
 use Rattle.request.proofs.row_lines.Tie as tie
 

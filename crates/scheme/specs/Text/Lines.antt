@@ -1,11 +1,12 @@
--- The lines of a request, a definition for each key. Each is key=value, ended by a line feed.
+-- The lines of a request that say more than one number, and how one number is said. Each is key=value, ended by a line feed.
 use Prim.Native.Nat.{ℕ}
 use mathlib.Core.List.{List}
 use lib.IntN.{ℤ}
-use Rattle.scheme.specs.Units.{leastSide, mostSide, Station, missingMark, noEnd, mostScans, mostStations}
-use Rattle.scheme.specs.Text.Pieces.{ascii, Piece, word, comma, lineFeed, count, unsigned, signed, values, gives, _or_, _before_, _>>=_, _>>_}
+use Rattle.scheme.specs.Units.{leastSide, mostSide, Station, missingMark, noEnd}
+use Rattle.scheme.specs.Text.Reader.{_>>=_, _>>_, gives, _or_, _before_}
+use Rattle.scheme.specs.Text.Pieces.{ascii, Piece, word, comma, lineFeed, count, unsigned, signed, values}
 
--- a number is the value
+-- a line whose value is one number
 unfoldable pub number : List ℕ → Piece ℕ → Piece ℕ
 number key kind = word key >> (kind before lineFeed)
 
@@ -20,18 +21,6 @@ gridLine = do
   nx ← count leastSide mostSide before comma
   ny ← count leastSide mostSide before lineFeed
   gives (record { nx = nx; ny = ny })
-
-unfoldable pub timeLine : Piece ℕ
-timeLine = number (ascii "time=") unsigned
-
-unfoldable pub ageLine : Piece ℕ
-ageLine = number (ascii "age=") unsigned
-
-unfoldable pub smoothLine : Piece ℕ
-smoothLine = number (ascii "smooth=") (count 0 1)
-
-unfoldable pub scansLine : Piece ℕ
-scansLine = number (ascii "scans=") (count 1 mostScans)
 
 -- `scan` is R,E
 pub record Entry : Type 0 where
@@ -48,9 +37,6 @@ scanLine = do
 -- `row` is one grid row
 unfoldable pub rowLine : ℕ → Piece (List ℤ)
 rowLine nx = word (ascii "row=") >> values nx
-
-unfoldable pub stationsLine : Piece ℕ
-stationsLine = number (ascii "stations=") (count 0 mostStations)
 
 -- A station's value may be `M` (missing) and its until `open` (no end); the marks written as digits mean the same
 unfoldable pub observation : Piece ℤ

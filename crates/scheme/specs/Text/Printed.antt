@@ -5,14 +5,12 @@ use mathlib.Core.List.{List, [], _∷_, _++_}
 use lib.Dec.{ltb}
 use lib.ListN.{length, take, drop}
 use lib.IntN.{ℤ, pos, negsuc}
+use Rattle.scheme.specs.Text.Pieces.{mark}
 
-abbrev pub digit : ℕ → ℕ
-digit d = 48 + d
-
--- the digits of n, which has at most one more than the first number says
+-- the digits of n, from 48 for 0 on; n has at most one more than the first number says
 unfoldable pub spelled : ℕ → ℕ → List ℕ
-spelled zero n = digit n ∷ []
-spelled (suc more) n = elim (ltb n 10) [ true ↦ digit n ∷ [] | false ↦ spelled more (n / 10) ++ (digit (n % 10) ∷ []) ]
+spelled zero n = (48 + n) ∷ []
+spelled (suc more) n = elim (ltb n 10) [ true ↦ (48 + n) ∷ [] | false ↦ spelled more (n / 10) ++ ((48 + n % 10) ∷ []) ]
 
 unfoldable pub decimal : ℕ → List ℕ
 decimal n = spelled n n
@@ -21,23 +19,15 @@ unfoldable pub integer : ℤ → List ℕ
 integer (pos n) = decimal n
 integer (negsuc n) = 45 ∷ decimal (suc n)
 
--- what follows a value: a comma, after the last the line feed
-abbrev pub mark : ℕ → ℕ
-mark zero = 10
-mark (suc more) = 44
-
+-- a row of values, each with what follows it
 unfoldable pub cells : {A : Type 0} → (A → List ℕ) → List A → List ℕ
 cells shown [] = []
 cells shown (v ∷ vs) = shown v ++ (mark (length vs) ∷ cells shown vs)
 
--- With none, the line feed follows the key
-abbrev pub listed : {A : Type 0} → (A → List ℕ) → List A → List ℕ
-listed shown [] = 10 ∷ []
-listed shown (v ∷ vs) = cells shown (v ∷ vs)
-
--- key=value, of a row of values
+-- key=value, of a row of values. With none, the line feed follows the key
 unfoldable pub keyed : {A : Type 0} → List ℕ → (A → List ℕ) → List A → List ℕ
-keyed key shown vs = key ++ listed shown vs
+keyed key shown [] = key ++ (10 ∷ [])
+keyed key shown (v ∷ vs) = key ++ cells shown (v ∷ vs)
 
 -- the rows of a grid nx wide, each as a line
 unfoldable pub gridLines : {A : Type 0} → List ℕ → (A → List ℕ) → (nx ny : ℕ) → List A → List ℕ
