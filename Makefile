@@ -1,15 +1,12 @@
 # make run: answer a request.  make test: the gate.  make bench: the archive against plain C.  make soak: a million requests compared.
 # make install PREFIX=/usr/local: archive, header, pkg-config file and the program, for a server's build.
-.PHONY: run test bench soak install tools clean
+.PHONY: run test bench soak install clean
 .DEFAULT_GOAL := test
 
 REQUEST ?= examples/evening.request
 
 # the archive is x86-64 code: elsewhere it is linked by a cross compiler and run by an emulator
 X86_TOOLS = $(if $(filter x86_64,$(shell uname -m)),gcc,x86_64-linux-gnu-gcc qemu-x86_64-static)
-
-tools:
-	@scripts/tools rt git cargo rustfmt clang-format shellcheck $(X86_TOOLS)
 
 # proves and builds the program first, unless nothing has changed since
 run:
@@ -20,7 +17,7 @@ run:
 	@rt check analyse > build/run/check.log 2>&1 || { echo "make run: rt check analyse failed: see build/run/check.log" >&2; exit 1; }
 	@scripts/x86 run target/bin/analyse < "$(REQUEST)"
 
-test: tools
+test:
 	@scripts/test-gate
 	@scripts/gate
 
