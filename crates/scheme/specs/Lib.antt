@@ -47,4 +47,5 @@ pub mod Cut
 pub mod Windows
 pub mod Example
 pub mod Table
+pub mod Cases
 pub mod Cheats

@@ -1,0 +1,395 @@
+-- A line for each refusal of each call with its place, each verdict, each kind of reading, and the edges of age, service, size and line: what the
+-- theorems leave open is fixed here, by computation.
+use Prim.Native.Nat.{ℕ}
+use mathlib.Core.Path.{_≡_, refl}
+use mathlib.Core.Bool.{false}
+use mathlib.Core.List.{List, [], _∷_, _++_, flatten}
+use borrow.Author.Tests.{lt-ltb, le-ltb}
+use native.Mathlib.Omega.{arith}
+use lib.ListN.{length}
+use lib.IntN.{ℤ, pos, negsuc}
+use Rattle.lists.specs.Tab.{tab}
+use Rattle.lists.specs.Sums.{total, upTo}
+use Rattle.lists.specs.First.{first, firstFrom, orNext}
+use Rattle.scheme.specs.declared.Reading.the-variants.{Backed, FirstGuess, OffGrid, Refused}
+use Rattle.scheme.specs.Units.{isMissing, missingMark, stored, fieldOf, Station, noEnd, Columns, stationAt, stationsOf, R, E, Call, guess}
+use Rattle.scheme.specs.Refusals.{Refusal, accepted, refused, asOne, inOrder, refusedIf, refusedAt, badShape, Window, badWindow, badLengths, badColumns, badScans, rising, badScan, badGuess, badStation, fromFive, analysisRefusal, windowRefusal, summaryRefusal, readingRefusal}
+use Rattle.scheme.specs.Verdicts.{serves, outOfService, onAxis, offGrid, firstThatFits, beforeScans}
+use Rattle.scheme.specs.Rounding.{rounded}
+use Rattle.scheme.specs.Value.{place, cell, corners, sumAt, valueAt}
+use Rattle.scheme.specs.Difference.{difference, afterTest, judged}
+use Rattle.scheme.specs.Weight.{weight}
+use Rattle.scheme.specs.Correction.{gift, share, correction, backedBy}
+use Rattle.scheme.specs.Smoothing.{patternRow, patternSum, inner, smoothed}
+use Rattle.scheme.specs.Scan.{start, rowsJudged, sumsAt, corrected, scan, after, analysis}
+use Rattle.scheme.specs.Readings.{double, positiveZero, isBacked, readingIn, reading, numbersOf, lowest, highest, zeros, unitsOf, summary}
+use Rattle.scheme.specs.Text.{requestLines, firstTwo, analysisText, replyText, inForm, answerText}
+use Rattle.scheme.specs.Text.Pieces.{ascii, word, digits, positive, natural, between, count, unsigned, negative, signed, values}
+use Rattle.scheme.specs.Text.Lines.{number, gridLine, scanLine, rowLine, observation, end, stationLine}
+use Rattle.scheme.specs.Text.Order.{lines, rows, nothingAfter}
+use Rattle.scheme.specs.Text.Printed.{spelled, decimal, integer, cells, keyed, gridLines}
+use Rattle.scheme.specs.Promises.{callOf, windowAt}
+use Rattle.scheme.specs.Calls.{columnsOf}
+use Rattle.scheme.specs.Most.{mostField, mostDifference, mostWeights, mostPulls, mostReach}
+
+-- ---- a call on a grid of two by two, to be damaged
+
+abbrev mast : (x y value : ℤ) (observed from until : ℕ) → Station
+mast x y value observed from until = record { x = x; y = y; value = value; observed = observed; from = from; until = until }
+
+abbrev good : Station
+good = mast (pos 0) (pos 0) (pos 0) 1000 0 noEnd
+
+abbrev two : Station → Columns
+two s = columnsOf (good ∷ s ∷ [])
+
+abbrev level : List ℤ
+level = pos 0 ∷ pos 0 ∷ pos 0 ∷ pos 0 ∷ []
+
+abbrev at64 : List ℤ
+at64 = pos 64 ∷ pos 64 ∷ []
+
+abbrev at0 : List ℤ
+at0 = pos 0 ∷ pos 0 ∷ []
+
+-- of that shape and first guess, with these stations, and with this plan
+abbrev shapedSo : (nx ny : ℕ) → List ℤ → Call
+shapedSo nx ny z = callOf nx ny z (two good) 2 at64 at0 false 1000 60
+
+abbrev stationed : Columns → Call
+stationed c = callOf 2 2 level c 2 at64 at0 false 1000 60
+
+abbrev planned : ℕ → (radius limit : List ℤ) → Call
+planned scans radius limit = callOf 2 2 level (two good) scans radius limit false 1000 60
+
+-- the whole window
+abbrev all : Window
+all = windowAt 0 1 0 1
+
+-- both calls refuse it so, each with results of the right length
+abbrev BothRefuse : Call → Refusal → Type 0
+BothRefuse c r = (analysisRefusal c 4 4 2 ≡ r) × (windowRefusal c all 4 4 ≡ r)
+
+-- ---- what the calls refuse, and what they do not
+
+pub record Refusals : Type 0 where
+  pub not-refused : BothRefuse (shapedSo 2 2 level) accepted
+  pub as-one : asOne (refused 7 4095) ≡ 462847
+  -- 1: the edges of 2..64, and the length of the first guess
+  pub one-column : BothRefuse (shapedSo 1 4 level) (refused 1 0)
+  pub one-row : BothRefuse (shapedSo 4 1 level) (refused 1 0)
+  pub many-columns : BothRefuse (shapedSo 65 2 level) (refused 1 0)
+  pub many-rows : BothRefuse (shapedSo 2 65 level) (refused 1 0)
+  pub long-guess : BothRefuse (shapedSo 2 2 (pos 0 ∷ level)) (refused 1 0)
+  -- 2: the ends of a window
+  pub left-past-right : windowRefusal (shapedSo 2 2 level) (windowAt 1 0 0 1) 4 4 ≡ refused 2 0
+  pub top-past-bottom : windowRefusal (shapedSo 2 2 level) (windowAt 0 1 1 0) 4 4 ≡ refused 2 0
+  pub past-the-right : windowRefusal (shapedSo 2 2 level) (windowAt 0 2 0 1) 6 6 ≡ refused 2 0
+  pub past-the-bottom : windowRefusal (shapedSo 2 2 level) (windowAt 0 1 0 2) 6 6 ≡ refused 2 0
+  pub last-point : windowRefusal (shapedSo 2 2 level) (windowAt 1 1 1 1) 1 1 ≡ accepted
+  -- 3: the results' lengths, before 4
+  pub short-grid : analysisRefusal (shapedSo 2 2 level) 3 4 2 ≡ refused 3 0
+  pub short-support : analysisRefusal (shapedSo 2 2 level) 4 3 2 ≡ refused 3 0
+  pub short-verdicts : analysisRefusal (shapedSo 2 2 level) 4 4 1 ≡ refused 3 0
+  pub short-tile : windowRefusal (shapedSo 2 2 level) (windowAt 0 0 0 1) 1 2 ≡ refused 3 0
+  pub short-tile-support : windowRefusal (shapedSo 2 2 level) (windowAt 0 0 0 1) 2 1 ≡ refused 3 0
+  -- 4: unequal columns, and more than 512
+  pub unequal : BothRefuse (stationed (record { x = at0; y = at0; value = at0; observed = 0 ∷ 0 ∷ []; from = 0 ∷ 0 ∷ []; until = 1 ∷ [] })) (refused 4 0)
+  pub many : windowRefusal (stationed (columnsOf (tab 513 (λ k. good)))) all 4 4 ≡ refused 4 0
+  pub most : windowRefusal (stationed (columnsOf (tab 512 (λ k. good)))) all 4 4 ≡ accepted
+  -- 5: the count, and the columns of the plan
+  pub no-scans : BothRefuse (planned 0 [] []) (refused 5 0)
+  pub seven-scans : BothRefuse (planned 7 (tab 7 (λ m. pos 64)) (tab 7 (λ m. pos 0))) (refused 5 0)
+  pub six-scans : BothRefuse (planned 6 (tab 6 (λ m. pos 64)) (tab 6 (λ m. pos 0))) accepted
+  pub short-radii : BothRefuse (planned 3 at64 (pos 0 ∷ at0)) (refused 5 0)
+  pub short-limits : BothRefuse (planned 3 (pos 64 ∷ at64) at0) (refused 5 0)
+  -- 6: R and E, at their scan
+  pub no-radius : BothRefuse (planned 2 (pos 64 ∷ pos 0 ∷ []) at0) (refused 6 1)
+  pub wide-radius : BothRefuse (planned 2 (pos 1025 ∷ pos 64 ∷ []) at0) (refused 6 0)
+  pub widest-radius : BothRefuse (planned 2 (pos 1024 ∷ pos 1 ∷ []) at0) accepted
+  pub rises : BothRefuse (planned 2 (pos 64 ∷ pos 65 ∷ []) at0) (refused 6 1)
+  pub negative-limit : BothRefuse (planned 2 at64 (pos 0 ∷ negsuc 0 ∷ [])) (refused 6 1)
+  pub large-limit : BothRefuse (planned 2 at64 (pos 2000001 ∷ pos 0 ∷ [])) (refused 6 0)
+  pub largest-limit : BothRefuse (planned 2 at64 (pos 2000000 ∷ pos 0 ∷ [])) accepted
+  -- 7: the first guess, at its point
+  pub high-guess : BothRefuse (shapedSo 2 2 (pos 0 ∷ pos 0 ∷ pos 1000001 ∷ pos 0 ∷ [])) (refused 7 2)
+  pub low-guess : BothRefuse (shapedSo 2 2 (pos 0 ∷ pos 0 ∷ pos 0 ∷ negsuc 1000000 ∷ [])) (refused 7 3)
+  pub edge-guess : BothRefuse (shapedSo 2 2 (pos 1000000 ∷ negsuc 999999 ∷ pos 0 ∷ pos 0 ∷ [])) accepted
+  pub missing-guess : BothRefuse (shapedSo 2 2 (missingMark ∷ pos 0 ∷ pos 0 ∷ pos 0 ∷ [])) (refused 7 0)
+  -- 8: a station, at its row
+  pub high-value : BothRefuse (stationed (two (mast (pos 0) (pos 0) (pos 1000001) 0 0 1))) (refused 8 1)
+  pub missing-value : BothRefuse (stationed (two (mast (pos 0) (pos 0) missingMark 0 0 1))) accepted
+  pub next-to-the-mark : BothRefuse (stationed (two (mast (pos 0) (pos 0) (negsuc 2147483646) 0 0 1))) (refused 8 1)
+  pub far-x : BothRefuse (stationed (two (mast (negsuc 1000000) (pos 0) (pos 0) 0 0 1))) (refused 8 1)
+  pub far-y : BothRefuse (stationed (two (mast (pos 0) (pos 1000001) (pos 0) 0 0 1))) (refused 8 1)
+  pub edge-place : BothRefuse (stationed (two (mast (negsuc 999999) (pos 1000000) (pos 0) 0 0 1))) accepted
+  pub no-service : BothRefuse (stationed (two (mast (pos 0) (pos 0) (pos 0) 0 noEnd noEnd))) (refused 8 1)
+
+refusals : Refusals
+unfolding analysisRefusal windowRefusal fromFive inOrder refusedIf refusedAt first firstFrom orNext badShape badWindow badLengths badColumns badScans badScan rising badGuess badStation stationsOf stationAt isMissing tab
+refusals =
+    record {
+      not-refused = (refl, refl);
+      as-one = refl;
+      one-column = (refl, refl);
+      one-row = (refl, refl);
+      many-columns = (refl, refl);
+      many-rows = (refl, refl);
+      long-guess = (refl, refl);
+      left-past-right = refl;
+      top-past-bottom = refl;
+      past-the-right = refl;
+      past-the-bottom = refl;
+      last-point = refl;
+      short-grid = refl;
+      short-support = refl;
+      short-verdicts = refl;
+      short-tile = refl;
+      short-tile-support = refl;
+      unequal = (refl, refl);
+      many = refl;
+      most = refl;
+      no-scans = (refl, refl);
+      seven-scans = (refl, refl);
+      six-scans = (refl, refl);
+      short-radii = (refl, refl);
+      short-limits = (refl, refl);
+      no-radius = (refl, refl);
+      wide-radius = (refl, refl);
+      widest-radius = (refl, refl);
+      rises = (refl, refl);
+      negative-limit = (refl, refl);
+      large-limit = (refl, refl);
+      largest-limit = (refl, refl);
+      high-guess = (refl, refl);
+      low-guess = (refl, refl);
+      edge-guess = (refl, refl);
+      missing-guess = (refl, refl);
+      high-value = (refl, refl);
+      missing-value = (refl, refl);
+      next-to-the-mark = (refl, refl);
+      far-x = (refl, refl);
+      far-y = (refl, refl);
+      edge-place = (refl, refl);
+      no-service = (refl, refl);
+    }
+
+-- ---- verdicts before the first scan, on a grid of two by two at minute 1000, with readings of up to 60 minutes
+
+abbrev verdict : Station → ℕ
+verdict s = beforeScans 2 2 1000 60 s
+
+-- a good reading of another minute, of a mast with another service, and at another place
+abbrev observedAt : ℕ → Station
+observedAt minute = mast (pos 0) (pos 0) (pos 0) minute 0 noEnd
+
+abbrev serving : (observed from until : ℕ) → Station
+serving observed from until = mast (pos 0) (pos 0) (pos 0) observed from until
+
+abbrev standing : (x y : ℤ) → Station
+standing x y = mast x y (pos 0) 1000 0 noEnd
+
+pub record Verdicts : Type 0 where
+  pub fine : verdict good ≡ 0
+  pub missing : verdict (mast (pos 65) (pos 0) missingMark 0 1 2) ≡ 1
+  pub a-proper-value : verdict (mast (pos 0) (pos 0) (pos 32767) 1000 0 noEnd) ≡ 0
+  -- 2: from ≤ observed < until and from ≤ T < until
+  pub read-before-service : verdict (serving 989 990 noEnd) ≡ 2
+  pub read-when-put-up : verdict (serving 990 990 noEnd) ≡ 0
+  pub taken-down-by-T : verdict (serving 990 0 1000) ≡ 2
+  pub taken-down-after-T : verdict (serving 990 0 1001) ≡ 0
+  pub put-up-after-T : beforeScans 2 2 989 60 (serving 990 990 noEnd) ≡ 2
+  pub read-when-taken-down : beforeScans 2 2 990 60 (serving 1000 0 1000) ≡ 2
+  pub no-end : beforeScans 2 2 4294967295 60 (serving 4294967295 0 noEnd) ≡ 0
+  pub two-before-three : verdict (serving 1001 0 1001) ≡ 2
+  -- 3 and 4
+  pub read-at-T : verdict (observedAt 1000) ≡ 0
+  pub read-after-T : verdict (observedAt 1001) ≡ 3
+  pub of-the-greatest-age : verdict (observedAt 940) ≡ 0
+  pub too-old : verdict (observedAt 939) ≡ 4
+  pub any-age : beforeScans 2 2 4294967295 4294967295 (observedAt 0) ≡ 0
+  -- 5: the border is on the grid
+  pub far-corner : verdict (standing (pos 64) (pos 64)) ≡ 0
+  pub beside-columns : verdict (standing (pos 65) (pos 0)) ≡ 5
+  pub beside-rows : verdict (standing (pos 0) (pos 65)) ≡ 5
+  pub before-columns : verdict (standing (negsuc 0) (pos 0)) ≡ 5
+  pub before-rows : verdict (standing (pos 0) (negsuc 0)) ≡ 5
+  -- 11 to 16: the E test of each scan, and a verdict that stays
+  pub rejected-in-the-first : afterTest 1 0 (pos 1) 0 ≡ 11
+  pub rejected-in-the-last : afterTest 6 0 (negsuc 0) 0 ≡ 16
+  pub at-no-limit : afterTest 1 0 (pos 0) 0 ≡ 0
+  pub rejected-before : afterTest 2 200 (pos 0) 11 ≡ 11
+
+verdicts : Verdicts
+unfolding beforeScans firstThatFits isMissing outOfService serves offGrid onAxis afterTest
+verdicts =
+    record {
+      fine = refl;
+      missing = refl;
+      a-proper-value = refl;
+      read-before-service = refl;
+      read-when-put-up = refl;
+      taken-down-by-T = refl;
+      taken-down-after-T = refl;
+      put-up-after-T = refl;
+      read-when-taken-down = refl;
+      no-end = refl;
+      two-before-three = refl;
+      read-at-T = refl;
+      read-after-T = refl;
+      of-the-greatest-age = refl;
+      too-old = refl;
+      any-age = refl;
+      far-corner = refl;
+      beside-columns = refl;
+      beside-rows = refl;
+      before-columns = refl;
+      before-rows = refl;
+      rejected-in-the-first = refl;
+      rejected-in-the-last = refl;
+      at-no-limit = refl;
+      rejected-before = refl;
+    }
+
+-- ---- readings and summaries
+
+-- 64 units in its second point, and a support byte there and in the first
+abbrev ramp : List ℤ
+ramp = pos 0 ∷ pos 4096 ∷ pos 0 ∷ negsuc 63 ∷ []
+
+abbrev upper : List ℕ
+upper = 1 ∷ 32 ∷ 0 ∷ 0 ∷ []
+
+pub record Readings : Type 0 where
+  -- on the upper edge the lower corners have no share, and are asked for nothing
+  pub backed : reading 2 2 ramp upper (pos 32) (pos 0) ≡ Backed (double (pos 8388608) 262144)
+  pub first-guess : reading 2 2 ramp upper (pos 32) (pos 1) ≡ FirstGuess (double (pos 8255488) 262144)
+  pub far-corner : reading 2 2 ramp upper (pos 64) (pos 64) ≡ FirstGuess (double (negsuc 262143) 262144)
+  pub off-grid : reading 2 2 ramp upper (pos 65) (pos 0) ≡ OffGrid
+  pub before-grid : reading 2 2 ramp upper (pos 0) (negsuc 0) ≡ OffGrid
+  pub refused : reading 2 2 ramp (1 ∷ []) (pos 0) (pos 0) ≡ Refused
+  pub refused-shape : reading 4 1 ramp upper (pos 0) (pos 0) ≡ Refused
+  -- the kinds, and their doubles
+  pub kind-of-off-grid : numbersOf OffGrid ≡ (0, positiveZero)
+  pub kind-of-first-guess : numbersOf (FirstGuess (double (pos 1) 64)) ≡ (1, double (pos 1) 64)
+  pub kind-of-backed : numbersOf (Backed (double (pos 1) 64)) ≡ (2, double (pos 1) 64)
+  pub kind-of-refused : numbersOf Refused ≡ (3, positiveZero)
+  -- lowest, highest and span; refused, three zeros
+  pub summarised : summary 2 2 ramp
+      ≡ record { refusal = 0; place = 0; units = record { lowest = double (negsuc 63) 64; highest = double (pos 4096) 64; span = double (pos 4160) 64 } }
+  pub summary-refused : summary 4 1 ramp ≡ record { refusal = 1; place = 0; units = record { lowest = positiveZero; highest = positiveZero; span = positiveZero } }
+
+readings : Readings
+unfolding reading readingRefusal summaryRefusal refusedIf badShape readingIn onAxis place isBacked cell sumAt corners fieldOf numbersOf summary unitsOf lowest highest
+readings =
+    record {
+      backed = refl;
+      first-guess = refl;
+      far-corner = refl;
+      off-grid = refl;
+      before-grid = refl;
+      refused = refl;
+      refused-shape = refl;
+      kind-of-off-grid = refl;
+      kind-of-first-guess = refl;
+      kind-of-backed = refl;
+      kind-of-refused = refl;
+      summarised = refl;
+      summary-refused = refl;
+    }
+
+-- ---- texts
+
+-- a request on a grid of two by two, up to its plan, from it to the stations, and the stations
+abbrev opening : List ℕ
+opening = ascii "grid=2,2\ntime=1000\n"
+
+abbrev guessed : List ℕ
+guessed = ascii "row=0,0\nrow=0,0\n"
+
+abbrev stationless : List ℕ
+stationless = opening ++ ascii "smooth=0\nscans=1\nscan=1,0\n" ++ guessed ++ ascii "stations=0\n"
+
+pub record Texts : Type 0 where
+  -- 10: one byte more than 65,536, and no fewer
+  pub longest : (text : List ℕ) → length text ≡ 65536 → answerText text ≡ inForm (requestLines (1, text))
+  pub too-long : (text : List ℕ) → length text ≡ 65537 → answerText text ≡ ascii "refusal=10\nplace=0\n"
+  -- 9: the first line not in form, counted from 1: absent, unended, surplus, of another form
+  pub empty : answerText [] ≡ ascii "refusal=9\nplace=1\n"
+  pub absent : answerText (ascii "grid=2,2\n") ≡ ascii "refusal=9\nplace=2\n"
+  pub unended : answerText (ascii "grid=2,2\ntime=1000") ≡ ascii "refusal=9\nplace=2\n"
+  pub surplus : answerText (stationless ++ ascii "\n") ≡ ascii "refusal=9\nplace=9\n"
+  pub doubled : answerText (opening ++ ascii "age=60\nage=60\n") ≡ ascii "refusal=9\nplace=4\n"
+  pub no-age : answerText (opening ++ ascii "smooth=2\n") ≡ ascii "refusal=9\nplace=3\n"
+  pub narrow : answerText (ascii "grid=1,2\n") ≡ ascii "refusal=9\nplace=1\n"
+  pub wide : answerText (ascii "grid=2,65\n") ≡ ascii "refusal=9\nplace=1\n"
+  pub no-scans : answerText (opening ++ ascii "smooth=0\nscans=0\n") ≡ ascii "refusal=9\nplace=4\n"
+  pub seven-scans : answerText (opening ++ ascii "smooth=0\nscans=7\n") ≡ ascii "refusal=9\nplace=4\n"
+  pub leading-zero : answerText (ascii "grid=02,2\n") ≡ ascii "refusal=9\nplace=1\n"
+  pub past-u32 : answerText (ascii "grid=2,2\ntime=4294967296\n") ≡ ascii "refusal=9\nplace=2\n"
+  pub missing-in-a-row : answerText (opening ++ ascii "smooth=0\nscans=1\nscan=1,0\nrow=M,0\n") ≡ ascii "refusal=9\nplace=6\n"
+  pub many-stations : answerText (opening ++ ascii "smooth=0\nscans=1\nscan=1,0\n" ++ guessed ++ ascii "stations=513\n") ≡ ascii "refusal=9\nplace=8\n"
+  -- 6, 7 and 8, once the whole text is in form
+  pub no-radius : answerText (opening ++ ascii "smooth=0\nscans=1\nscan=0,0\n" ++ guessed ++ ascii "stations=0\n") ≡ ascii "refusal=6\nplace=0\n"
+  pub high-guess : answerText (opening ++ ascii "smooth=0\nscans=1\nscan=1,0\nrow=0,0\nrow=0,1000001\nstations=0\n") ≡ ascii "refusal=7\nplace=3\n"
+  pub no-service : answerText (opening ++ ascii "smooth=0\nscans=1\nscan=1,0\n" ++ guessed ++ ascii "stations=1\nst=0,0,0,0,1,1\n") ≡ ascii "refusal=8\nplace=0\n"
+  -- no stations: the last line is `ver=`
+  pub no-stations : answerText stationless ≡ ascii "refusal=0\nplace=0\nrow=0,0\nrow=0,0\nsup=0,0\nsup=0,0\nver=\n"
+  -- left out, the greatest age is 120; `M` and `open`, and the marks as digits
+  pub age-left-out : answerText (opening ++ ascii "smooth=0\nscans=1\nscan=1,0\n" ++ guessed ++ ascii "stations=4\nst=0,0,0,880,0,open\nst=0,0,0,879,0,open\nst=0,0,M,1000,0,4294967295\nst=0,0,-2147483648,1000,0,open\n")
+      ≡ ascii "refusal=0\nplace=0\nrow=0,0\nrow=0,0\nsup=1,0\nsup=0,0\nver=0,4,1,1\n"
+
+texts : Texts
+unfolding answerText replyText requestLines lines rows flatten nothingAfter gridLine scanLine rowLine stationLine number observation end word digits positive natural between count unsigned negative signed values fromFive inOrder refusedIf refusedAt first firstFrom orNext badScans badScan rising badGuess badStation isMissing analysisText firstTwo gridLines keyed cells integer decimal spelled analysis stored tab after scan start rowsJudged sumsAt corrected guess fieldOf R E beforeScans firstThatFits outOfService serves offGrid onAxis judged afterTest difference valueAt place sumAt cell corners rounded total share gift weight correction backedBy
+texts =
+    record {
+      longest = λ text e. rw (le-ltb 65536 (length text) (omega arith));
+      too-long = λ text e. rw (lt-ltb 65536 (length text) (omega arith));
+      empty = refl;
+      absent = refl;
+      unended = refl;
+      surplus = refl;
+      doubled = refl;
+      no-age = refl;
+      narrow = refl;
+      wide = refl;
+      no-scans = refl;
+      seven-scans = refl;
+      leading-zero = refl;
+      past-u32 = refl;
+      missing-in-a-row = refl;
+      many-stations = refl;
+      no-radius = refl;
+      high-guess = refl;
+      no-service = refl;
+      no-stations = refl;
+      age-left-out = refl;
+    }
+
+-- ---- the numbers that the names of Most stand for
+
+pub record Numbers : Type 0 where
+  pub most-field : mostField ≡ 13000000
+  pub most-difference : mostDifference ≡ 14000000
+  pub most-weights : mostWeights ≡ 51200
+  pub most-pulls : mostPulls ≡ 102400000000
+  pub most-reach : mostReach ≡ 102
+
+-- ---- the table
+
+pub record Cases : Type 0 where
+  pub refused-so : Refusals
+  pub judged-so : Verdicts
+  pub read-so : Readings
+  pub answered-so : Texts
+  pub numbers : Numbers
+
+pub cases : Cases
+cases =
+    record {
+      refused-so = refusals;
+      judged-so = verdicts;
+      read-so = readings;
+      answered-so = texts;
+      numbers = record { most-field = refl; most-difference = refl; most-weights = refl; most-pulls = refl; most-reach = refl };
+    }
