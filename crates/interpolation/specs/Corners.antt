@@ -6,34 +6,35 @@ use mathlib.Core.Path.{_≡_}
 use mathlib.Core.List.{List}
 use lib.ListN.{getD}
 use lib.IntN.{ℤ, pos, _+ℤ_, _*ℤ_}
-use Rattle.scheme.specs.Units.{fieldOf}
-use Rattle.scheme.specs.Value.{cell, interpolationSum, sumAt}
+use Rattle.scheme.specs.Units.{mostSide, fieldOf, step}
+use Rattle.scheme.specs.Value.{cell, corners, sumAt}
+use Rattle.scheme.specs.Most.{mostPoints}
 use Rattle.scheme.specs.Accepted.{Shaped}
 use Rattle.scheme.specs.Cells.{cell-inside, cell-low, cell-high}
 
 unfoldable pub blend : (a b : ℕ) → (p q r s : ℤ) → ℤ
 blend a b p q r s =
-    pos ((64 - a) * (64 - b)) *ℤ p +ℤ pos (a * (64 - b)) *ℤ q +ℤ pos ((64 - a) * b) *ℤ r +ℤ pos (a * b) *ℤ s
+    pos ((step - a) * (step - b)) *ℤ p +ℤ pos (a * (step - b)) *ℤ q +ℤ pos ((step - a) * b) *ℤ r +ℤ pos (a * b) *ℤ s
 
 -- where a position (x, y) lies: the place of the lower corner of its cell, and how far past that corner it is
 pub record Spotted (nx ny x y corner a b : ℕ) : Type 0 where
   pub corner-is : corner ≡ cell ny y * nx + cell nx x
-  pub a-is : a ≡ x - 64 * cell nx x
-  pub b-is : b ≡ y - 64 * cell ny y
-  pub a-few : a ≤ 64
-  pub b-few : b ≤ 64
+  pub a-is : a ≡ x - step * cell nx x
+  pub b-is : b ≡ y - step * cell ny y
+  pub a-few : a ≤ step
+  pub b-few : b ≤ step
   pub last : corner + nx + 1 < nx * ny
 
 -- the cell (m, n) of a position on the grid, and what is counted on the way to its spot
 pub record InCell (nx ny x y m n : ℕ) : Type 0 where
-  pub left : m ≤ 62
-  pub top : n ≤ 62
-  pub from-x : 64 * m ≤ x
-  pub from-y : 64 * n ≤ y
-  pub few : nx * ny ≤ 4096
-  pub spot : Spotted nx ny x y (n * nx + m) (x - 64 * m) (y - 64 * n)
+  pub left : m + 2 ≤ mostSide
+  pub top : n + 2 ≤ mostSide
+  pub from-x : step * m ≤ x
+  pub from-y : step * n ≤ y
+  pub few : nx * ny ≤ mostPoints
+  pub spot : Spotted nx ny x y (n * nx + m) (x - step * m) (y - step * n)
 
-pub in-cell : (nx ny x y : ℕ) → Shaped nx ny (nx * ny) → x ≤ 64 * (nx - 1) → y ≤ 64 * (ny - 1) → (m n : ℕ) → m ≡ cell nx x → n ≡ cell ny y
+pub in-cell : (nx ny x y : ℕ) → Shaped nx ny (nx * ny) → x ≤ step * (nx - 1) → y ≤ step * (ny - 1) → (m n : ℕ) → m ≡ cell nx x → n ≡ cell ny y
     → InCell nx ny x y m n
 in-cell nx ny x y shape on-x on-y m n em en =
     record {
@@ -69,7 +70,7 @@ across nx m n = omega arith
 pub blend-is-sum : (l : List ℤ) (nx ny x y corner a b : ℕ) → Spotted nx ny x y corner a b
     → blend a b (getD l corner (pos 0)) (getD l (corner + 1) (pos 0)) (getD l (corner + nx) (pos 0)) (getD l (corner + nx + 1) (pos 0))
     ≡ sumAt nx ny (fieldOf (pos 0) nx l) x y
-unfolding blend sumAt interpolationSum fieldOf
+unfolding blend sumAt corners fieldOf
 blend-is-sum l nx ny x y corner a b s =
     let m = cell nx x in
     let n = cell ny y in

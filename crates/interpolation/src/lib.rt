@@ -3,7 +3,7 @@ ghost use mathlib.Core.Path.{_≡_};
 ghost use Prim.Native.Nat.{_+_, _-_, _*_, _≤_};
 ghost use lib.ListN.{length};
 ghost use lib.IntN.{pos, natAbs, _+ℤ_, _*ℤ_};
-ghost use Rattle.scheme.specs.Units.{fieldOf};
+ghost use Rattle.scheme.specs.Units.{fieldOf, step};
 ghost use Rattle.scheme.specs.Rounding.{rounded};
 ghost use Rattle.scheme.specs.Value.{cell, sumAt};
 ghost use Rattle.scheme.specs.Accepted.{Shaped};
@@ -24,7 +24,7 @@ pub fn cell(n: usize, x: u32) -> usize
 
 // A sum with one more corner, whose value v has a share of a times b parts.
 fn corner(t: i64, a: u32, b: u32, v: i32) -> Total
-    requires { ⌜ (a ≤ 64) × (b ≤ 64) × (natAbs t ≤ 70368744177664) ⌝ }
+    requires { ⌜ (a ≤ step) × (b ≤ step) × (natAbs t ≤ 70368744177664) ⌝ }
     ensures { λ r. ⌜ (r .t ≡ t +ℤ pos (a * b) *ℤ v) × (natAbs (r .t) ≤ natAbs t + 8796093022208) ⌝ }
 {
     weighted::plus(t, a * b, v as i64)
@@ -32,7 +32,7 @@ fn corner(t: i64, a: u32, b: u32, v: i32) -> Total
 
 // The interpolation sum of four corners p, q over r, s, at a and b units past the first.
 fn blended(a: u32, b: u32, p: i32, q: i32, r: i32, s: i32) -> i64
-    requires { ⌜ (a ≤ 64) × (b ≤ 64) ⌝ }
+    requires { ⌜ (a ≤ step) × (b ≤ step) ⌝ }
     ensures { λ t. ⌜ (t ≡ blend a b p q r s) × (natAbs t ≤ 35184372088832) ⌝ }
 {
     let mut t = corner(0, STEP - a, STEP - b, p);
@@ -51,7 +51,7 @@ pub struct Spot {
 
 // The spot of a position on the grid.
 pub fn spot_of(nx: usize, ny: usize, x: u32, y: u32) -> Spot
-    requires { ⌜ Shaped nx ny (nx * ny) × (x ≤ 64 * (nx - 1)) × (y ≤ 64 * (ny - 1)) ⌝ }
+    requires { ⌜ Shaped nx ny (nx * ny) × (x ≤ step * (nx - 1)) × (y ≤ step * (ny - 1)) ⌝ }
     ensures { λ r. ⌜ Spotted nx ny x y (r .corner) (r .a) (r .b) ⌝ }
 {
     let m = cell(nx, x);
@@ -65,7 +65,7 @@ pub fn spot_of(nx: usize, ny: usize, x: u32, y: u32) -> Spot
 
 // The interpolation sum of a field at a position on the grid.
 pub fn sum_at(z: &[i32], nx: usize, ny: usize, x: u32, y: u32) -> i64
-    requires { ⌜ Shaped nx ny (length (now z)) × (x ≤ 64 * (nx - 1)) × (y ≤ 64 * (ny - 1)) ⌝ }
+    requires { ⌜ Shaped nx ny (length (now z)) × (x ≤ step * (nx - 1)) × (y ≤ step * (ny - 1)) ⌝ }
     ensures { λ r. ⌜ (r ≡ sumAt nx ny (fieldOf (pos 0) nx (now (z .entry))) x y) × (natAbs r ≤ 35184372088832) ⌝ }
 {
     let s = spot_of(nx, ny, x, y);
@@ -75,7 +75,7 @@ pub fn sum_at(z: &[i32], nx: usize, ny: usize, x: u32, y: u32) -> i64
 
 // The value of a field at a position on the grid: that sum divided by 4096 and rounded, once.
 pub fn value_at(z: &[i32], nx: usize, ny: usize, x: u32, y: u32) -> i64
-    requires { ⌜ Shaped nx ny (length (now z)) × (x ≤ 64 * (nx - 1)) × (y ≤ 64 * (ny - 1)) ⌝ }
+    requires { ⌜ Shaped nx ny (length (now z)) × (x ≤ step * (nx - 1)) × (y ≤ step * (ny - 1)) ⌝ }
     ensures { λ r. ⌜ r ≡ rounded (sumAt nx ny (fieldOf (pos 0) nx (now (z .entry))) x y) 4096 ⌝ }
 {
     weighted::rounded(sum_at(z, nx, ny, x, y), 4096)

@@ -1,5 +1,5 @@
 -- The stations near a grid row: what each gives to a point of the row, and that those left out give nothing.
-use Prim.Native.Nat.{ℕ, zero, suc, _+_, _-_, _*_, _≤_, _<_}
+use Prim.Native.Nat.{ℕ, zero, suc, _+_, _*_, _≤_, _<_}
 use native.Mathlib.Omega.{arith}
 use native.Mathlib.Numerals.{add-one}
 use native.Mathlib.Nat.{mul-le-mul-left, zero-add, add-zero}
@@ -11,29 +11,25 @@ use borrow.Author.Tests.{lt-ltb, le-ltb, eqb-true}
 use lib.Dec.{ltb}
 use lib.ListN.{length, getD, set, length-set}
 use lib.Seq.{getD-set-same, getD-set-other}
-use lib.IntN.{ℤ, pos, natAbs, _+ℤ_, _-ℤ_, _*ℤ_, zero-*ℤ, +ℤ-idl, +ℤ-idr, +ℤ-assoc, +ℤ-comm}
+use lib.IntN.{ℤ, pos, natAbs, _+ℤ_, _-ℤ_, _*ℤ_, +ℤ-idl, +ℤ-idr, +ℤ-assoc, +ℤ-comm}
 use Rattle.integers.specs.Sizes.{size-add, size-mul}
-use Rattle.lists.specs.Tests.{lt-or-le}
+use Rattle.lists.specs.Tests.{lt-or-le, cond-both}
 use Rattle.lists.specs.Sums.{upTo, upTo-next, upTo-same}
+use Rattle.scheme.specs.Units.{step, mostStations, mostLimit}
 use Rattle.scheme.specs.Verdicts.{isAccepted}
-use Rattle.scheme.specs.Weight.{square, weight}
-use Rattle.scheme.specs.Weights.{weight-beyond, weight-most}
+use Rattle.scheme.specs.Weight.{scale, weight, square}
+use Rattle.scheme.specs.Correction.{Sums, nothing, plus, gift}
+use Rattle.scheme.specs.Most.{mostAlong, mostSquare}
+use Rattle.scheme.specs.Weights.{weight-most}
+use Rattle.scheme.specs.Gifts.{weighed, gift-outside, gift-weighed, gift-size}
 use Rattle.scheme.specs.Adding.{plus-nothing}
-use Rattle.scheme.specs.Correction.{Sums, nothing, plus}
-
--- a station with that weight and difference
-abbrev pub giving : ℕ → ℤ → Sums
-giving w d = record { weights = w; pulls = pos w *ℤ d }
 
 -- ---- from all the columns: what row k gives to point (i, j)
 
-unfoldable pub weightAt : (xs ys : List ℤ) (st : List ℕ) (r2 i j k : ℕ) → ℕ
-weightAt xs ys st r2 i j k =
-    cond (isAccepted (getD st k 0))
-    (weight r2 (square (getD xs k (pos 0) -ℤ pos (64 * i)) + square (getD ys k (pos 0) -ℤ pos (64 * j)))) 0
-
 unfoldable pub shareAt : (xs ys : List ℤ) (st : List ℕ) (ds : List ℤ) (r2 i j k : ℕ) → Sums
-shareAt xs ys st ds r2 i j k = giving (weightAt xs ys st r2 i j k) (getD ds k (pos 0))
+shareAt xs ys st ds r2 i j k =
+    cond (isAccepted (getD st k 0))
+    (gift r2 (getD ds k (pos 0)) (getD xs k (pos 0) -ℤ pos (step * i)) (getD ys k (pos 0) -ℤ pos (step * j))) nothing
 
 unfoldable pub sumsOver : (xs ys : List ℤ) (st : List ℕ) (ds : List ℤ) (r2 i j : ℕ) → Sums
 sumsOver xs ys st ds r2 i j = upTo nothing plus (length xs) (shareAt xs ys st ds r2 i j)
@@ -42,21 +38,21 @@ sumsOver xs ys st ds r2 i j = upTo nothing plus (length xs) (shareAt xs ys st ds
 
 unfoldable pub nearShare : (lx : List ℤ) (ly : List ℕ) (ld : List ℤ) (r2 i t : ℕ) → Sums
 nearShare lx ly ld r2 i t =
-    giving (weight r2 (square (getD lx t (pos 0) -ℤ pos (64 * i)) + getD ly t 0)) (getD ld t (pos 0))
+    weighed (weight r2 (square (getD lx t (pos 0) -ℤ pos (step * i)) + getD ly t 0)) (getD ld t (pos 0))
 
 pub record Sized (lx : List ℤ) (ly : List ℕ) (ld : List ℤ) (t : ℕ) : Type 0 where
-  pub x-small : natAbs (getD lx t (pos 0)) ≤ 4096
-  pub y-small : getD ly t 0 ≤ 1048576
-  pub d-small : natAbs (getD ld t (pos 0)) ≤ 2000000
+  pub x-small : natAbs (getD lx t (pos 0)) ≤ mostAlong
+  pub y-small : getD ly t 0 ≤ mostSquare
+  pub d-small : natAbs (getD ld t (pos 0)) ≤ mostLimit
 
 -- ---- sizes of the sums over some of them
 
 pub record SumsSmall (n : ℕ) (s : Sums) : Type 0 where
-  pub weights-most : s .weights ≤ n * 100
-  pub pulls-most : natAbs (s .pulls) ≤ 2000000 * s .weights
+  pub weights-most : s .weights ≤ n * scale
+  pub pulls-most : natAbs (s .pulls) ≤ mostLimit * s .weights
 
-giving-small : (w : ℕ) (d : ℤ) (n : ℕ) (s : Sums) → w ≤ 100 → natAbs d ≤ 2000000 → SumsSmall n s → SumsSmall (n + 1) (plus s (giving w d))
-giving-small w d n s hw hd h =
+weighed-small : (w : ℕ) (d : ℤ) (n : ℕ) (s : Sums) → w ≤ scale → natAbs d ≤ mostLimit → SumsSmall n s → SumsSmall (n + 1) (plus s (weighed w d))
+weighed-small w d n s hw hd h =
     record {
       weights-most = omega (arith, h .weights-most);
       pulls-most = omega (arith, h .pulls-most, size-add (s .pulls) (pos w *ℤ d), size-mul (pos w) d, mul-le-mul-left w hd);
@@ -64,21 +60,21 @@ giving-small w d n s hw hd h =
 
 module _ (lx : List ℤ) (ly : List ℕ) (ld : List ℤ) (r2 i : ℕ) where
   abbrev pub nearWeight : ℕ → ℕ
-  nearWeight t = weight r2 (square (getD lx t (pos 0) -ℤ pos (64 * i)) + getD ly t 0)
+  nearWeight t = weight r2 (square (getD lx t (pos 0) -ℤ pos (step * i)) + getD ly t 0)
 
   pub near-small : (n : ℕ) → ((t : ℕ) → t < n → Sized lx ly ld t) → SumsSmall n (upTo nothing plus n (nearShare lx ly ld r2 i))
   unfolding upTo nearShare
   near-small zero h = record { weights-most = omega arith; pulls-most = omega arith }
   near-small (suc n) h =
       rw (← (add-one n))
-      (giving-small (nearWeight n) (getD ld n (pos 0)) n (upTo nothing plus n (nearShare lx ly ld r2 i)) (weight-most r2 _)
+      (weighed-small (nearWeight n) (getD ld n (pos 0)) n (upTo nothing plus n (nearShare lx ly ld r2 i)) (weight-most r2 _)
       (h n (omega arith) .d-small) (near-small n (λ t l. h t (omega arith))))
 
   -- the sums of the stations from t on, as a loop from the last to the first makes them
   pub record Down (n t w : ℕ) (wd : ℤ) : Type 0 where
     pub weights : upTo nothing plus n (nearShare lx ly ld r2 i) .weights ≡ upTo nothing plus t (nearShare lx ly ld r2 i) .weights + w
     pub pulls : upTo nothing plus n (nearShare lx ly ld r2 i) .pulls ≡ upTo nothing plus t (nearShare lx ly ld r2 i) .pulls +ℤ wd
-    pub kept : natAbs wd ≤ 2000000 * w
+    pub kept : natAbs wd ≤ mostLimit * w
 
   pub down-none : (n : ℕ) → Down n n 0 (pos 0)
   down-none n =
@@ -93,7 +89,7 @@ module _ (lx : List ℤ) (ly : List ℕ) (ld : List ℤ) (r2 i : ℕ) where
   unfolding upTo
   down-all n w wd h = (sym (h .weights ∙ zero-add w), sym (h .pulls ∙ +ℤ-idl wd))
 
-  pub down-small : (n t w : ℕ) (wd : ℤ) → ((t : ℕ) → t < n → Sized lx ly ld t) → Down n t w wd → w ≤ n * 100
+  pub down-small : (n t w : ℕ) (wd : ℤ) → ((t : ℕ) → t < n → Sized lx ly ld t) → Down n t w wd → w ≤ n * scale
   down-small n t w wd sized h = omega (arith, h .weights, near-small n sized .weights-most)
 
   -- the sums with the station t
@@ -117,7 +113,7 @@ module _ (lx : List ℤ) (ly : List ℕ) (ld : List ℤ) (r2 i : ℕ) where
         ∙ +ℤ-assoc (upTo nothing plus t (nearShare lx ly ld r2 i) .pulls) pull wd
         ∙ ap (λ (z : ℤ). upTo nothing plus t (nearShare lx ly ld r2 i) .pulls +ℤ z) (+ℤ-comm pull wd ∙ sym (new .pulls))
 
-    new-kept : natAbs wd' ≤ 2000000 * w'
+    new-kept : natAbs wd' ≤ mostLimit * w'
     new-kept =
         rw (new .pulls, new .weights)
         (omega (arith, h .kept, size-add wd pull, size-mul (pos (nearWeight t)) (getD ld t (pos 0)), mul-le-mul-left (nearWeight t) (here .d-small)))
@@ -129,25 +125,25 @@ module _ (lx : List ℤ) (ly : List ℕ) (ld : List ℤ) (r2 i : ℕ) where
 
 -- the squared distance of a row's station to grid row j; the squared radius for one that is not accepted
 unfoldable pub rowGap : (verdict : ℕ) (y : ℤ) (j r2 : ℕ) → ℕ
-rowGap verdict y j r2 = cond (isAccepted verdict) (square (y -ℤ pos (64 * j))) r2
+rowGap verdict y j r2 = cond (isAccepted verdict) (square (y -ℤ pos (step * j))) r2
 
 -- what the columns hold: an accepted row is near the grid, and its difference within the limit
 pub record Inside (x y d : ℤ) : Type 0 where
-  pub x-small : natAbs x ≤ 4096
-  pub y-small : natAbs y ≤ 4096
-  pub d-small : natAbs d ≤ 2000000
+  pub x-small : natAbs x ≤ mostAlong
+  pub y-small : natAbs y ≤ mostAlong
+  pub d-small : natAbs d ≤ mostLimit
 
 pub record Columns (xs ys : List ℤ) (st : List ℕ) (ds : List ℤ) : Type 0 where
   pub len-y : length ys ≡ length xs
   pub len-st : length st ≡ length xs
-  pub few : length xs ≤ 512
-  pub long : length ds ≡ 512
+  pub few : length xs ≤ mostStations
+  pub long : length ds ≡ mostStations
   pub inside : (k : ℕ) → k < length xs → getD st k 0 ≡ 0 → Inside (getD xs k (pos 0)) (getD ys k (pos 0)) (getD ds k (pos 0))
 
 pub record Roomy (lx : List ℤ) (ly : List ℕ) (ld : List ℤ) : Type 0 where
-  pub x-long : length lx ≡ 512
-  pub y-long : length ly ≡ 512
-  pub d-long : length ld ≡ 512
+  pub x-long : length lx ≡ mostStations
+  pub y-long : length ly ≡ mostStations
+  pub d-long : length ld ≡ mostStations
 
 -- the n near ones among the first k rows give to each point of row j what the k rows give
 pub record Near (lx : List ℤ) (ly : List ℕ) (ld : List ℤ) (n : ℕ) (xs ys : List ℤ) (st : List ℕ) (ds : List ℤ) (r2 j k : ℕ) : Type 0 where
@@ -159,31 +155,33 @@ pub near-none : (lx : List ℤ) (ly : List ℕ) (ld : List ℤ) (xs ys : List �
 unfolding upTo
 near-none lx ly ld xs ys st ds r2 j = record { no-more = omega arith; sized = λ t h. absurd (omega arith); same = λ i. refl }
 
-giving-none : (w : ℕ) (d : ℤ) → w ≡ 0 → giving w d ≡ nothing
-giving-none w d e = rw e (cc (zero-*ℤ d))
-
 -- a row that is not nearer than R to the grid row gives nothing
 far-gives-nothing : (xs ys : List ℤ) (st : List ℕ) (ds : List ℤ) (r2 i j k : ℕ) → r2 ≤ rowGap (getD st k 0) (getD ys k (pos 0)) j r2
     → shareAt xs ys st ds r2 i j k ≡ nothing
-unfolding shareAt weightAt rowGap
-far-gives-nothing xs ys st ds r2 i j k h = giving-none _ (getD ds k (pos 0)) (go (isAccepted (getD st k 0)) h)
+unfolding shareAt rowGap
+far-gives-nothing xs ys st ds r2 i j k h = go (isAccepted (getD st k 0)) h
   where
-    go : (b : Bool) → r2 ≤ cond b (square (getD ys k (pos 0) -ℤ pos (64 * j))) r2
-        → cond b (weight r2 (square (getD xs k (pos 0) -ℤ pos (64 * i)) + square (getD ys k (pos 0) -ℤ pos (64 * j)))) 0 ≡ 0
-    go true l = weight-beyond r2 _ (omega arith)
+    dx : ℤ
+    dx = getD xs k (pos 0) -ℤ pos (step * i)
+
+    dy : ℤ
+    dy = getD ys k (pos 0) -ℤ pos (step * j)
+
+    go : (b : Bool) → r2 ≤ cond b (square dy) r2 → cond b (gift r2 (getD ds k (pos 0)) dx dy) nothing ≡ nothing
+    go true l = gift-outside r2 (getD ds k (pos 0)) dx dy (omega arith)
     go false l = refl
 
 -- one that is nearer is accepted
-near-is-accepted : (verdict : ℕ) (y : ℤ) (j r2 : ℕ) → rowGap verdict y j r2 < r2 → (verdict ≡ 0) × (rowGap verdict y j r2 ≡ square (y -ℤ pos (64 * j)))
+near-is-accepted : (verdict : ℕ) (y : ℤ) (j r2 : ℕ) → rowGap verdict y j r2 < r2 → (verdict ≡ 0) × (rowGap verdict y j r2 ≡ square (y -ℤ pos (step * j)))
 unfolding rowGap
 near-is-accepted verdict y j r2 h = go (isAccepted verdict) (eqb-true verdict 0) h
   where
-    go : (b : Bool) → (b ≡ true → verdict ≡ 0) → cond b (square (y -ℤ pos (64 * j))) r2 < r2
-        → (verdict ≡ 0) × (cond b (square (y -ℤ pos (64 * j))) r2 ≡ square (y -ℤ pos (64 * j)))
+    go : (b : Bool) → (b ≡ true → verdict ≡ 0) → cond b (square (y -ℤ pos (step * j))) r2 < r2
+        → (verdict ≡ 0) × (cond b (square (y -ℤ pos (step * j))) r2 ≡ square (y -ℤ pos (step * j)))
     go true f l = (f refl, refl)
     go false f l = absurd (omega arith)
 
-module _ (xs ys : List ℤ) (st : List ℕ) (ds : List ℤ) (r2 j : ℕ) (bounded : r2 ≤ 1048576) (cs : Columns xs ys st ds)
+module _ (xs ys : List ℤ) (st : List ℕ) (ds : List ℤ) (r2 j : ℕ) (bounded : r2 ≤ mostSquare) (cs : Columns xs ys st ds)
     (lx : List ℤ) (ly : List ℕ) (ld : List ℤ) (room : Roomy lx ly ld) (n k : ℕ) (turn : k < length xs) (near : Near lx ly ld n xs ys st ds r2 j k) where
   abbrev gap : ℕ
   gap = rowGap (getD st k 0) (getD ys k (pos 0)) j r2
@@ -197,7 +195,7 @@ module _ (xs ys : List ℤ) (st : List ℕ) (ds : List ℤ) (r2 j : ℕ) (bounde
   abbrev ld' : List ℤ
   ld' = set ld n (getD ds k (pos 0))
 
-  pub n-room : n < 512
+  pub n-room : n < mostStations
   n-room = omega (arith, near .no-more, cs .few)
 
   -- the stations gathered before are where they were
@@ -250,8 +248,10 @@ module _ (xs ys : List ℤ) (st : List ℕ) (ds : List ℤ) (r2 j : ℕ) (bounde
     new-d = getD-set-same ld n (getD ds k (pos 0)) (pos 0) (omega (arith, room .d-long, n-room))
 
     new-share : (i : ℕ) → nearShare lx' ly' ld' r2 i n ≡ shareAt xs ys st ds r2 i j k
-    unfolding nearShare shareAt weightAt
-    new-share i = rw (new-x, new-y, new-d, near-is-accepted (getD st k 0) (getD ys k (pos 0)) j r2 close .1, accepted)
+    unfolding nearShare shareAt
+    new-share i =
+        rw (new-x, new-y, new-d, near-is-accepted (getD st k 0) (getD ys k (pos 0)) j r2 close .1, accepted)
+        (sym (gift-weighed r2 (getD ds k (pos 0)) (getD xs k (pos 0) -ℤ pos (step * i)) (getD ys k (pos 0) -ℤ pos (step * j))))
 
     new-sized : (t : ℕ) → t < n + 1 → Sized lx' ly' ld' t
     new-sized t h = go (lt-or-le t n)
@@ -297,19 +297,14 @@ roomy-set lx ly ld n x y d r =
 
 -- the sums over all rows are small too
 module _ (xs ys : List ℤ) (st : List ℕ) (ds : List ℤ) (r2 i j : ℕ) (cs : Columns xs ys st ds) where
-  share-small : (k : ℕ) → k < length xs → natAbs (shareAt xs ys st ds r2 i j k .pulls) ≤ 2000000 * shareAt xs ys st ds r2 i j k .weights
-  unfolding shareAt weightAt
-  share-small k h = go (isAccepted (getD st k 0)) (eqb-true (getD st k 0) 0)
-    where
-      full : ℕ
-      full = weight r2 (square (getD xs k (pos 0) -ℤ pos (64 * i)) + square (getD ys k (pos 0) -ℤ pos (64 * j)))
-
-      go : (b : Bool) → (b ≡ true → getD st k 0 ≡ 0) → natAbs (pos (cond b full 0) *ℤ getD ds k (pos 0)) ≤ 2000000 * cond b full 0
-      go true f = rw (size-mul (pos full) (getD ds k (pos 0))) (omega (arith, mul-le-mul-left full (cs .inside k h (f refl) .d-small)))
-      go false f = rw (zero-*ℤ (getD ds k (pos 0))) (omega arith)
+  share-small : (k : ℕ) → k < length xs → natAbs (shareAt xs ys st ds r2 i j k .pulls) ≤ mostLimit * shareAt xs ys st ds r2 i j k .weights
+  unfolding shareAt
+  share-small k h =
+      cond-both (λ (s : Sums). natAbs (s .pulls) ≤ mostLimit * s .weights) (isAccepted (getD st k 0)) _ nothing
+      (λ e. gift-size r2 mostLimit (getD ds k (pos 0)) _ _ (cs .inside k h (eqb-true (getD st k 0) 0 e) .d-small)) (λ e. omega arith)
 
   some-small : (n : ℕ) → n ≤ length xs
-      → natAbs (upTo nothing plus n (shareAt xs ys st ds r2 i j) .pulls) ≤ 2000000 * upTo nothing plus n (shareAt xs ys st ds r2 i j) .weights
+      → natAbs (upTo nothing plus n (shareAt xs ys st ds r2 i j) .pulls) ≤ mostLimit * upTo nothing plus n (shareAt xs ys st ds r2 i j) .weights
   unfolding upTo
   some-small zero h = omega arith
   some-small (suc n) h =
@@ -320,6 +315,6 @@ module _ (xs ys : List ℤ) (st : List ℕ) (ds : List ℤ) (r2 i j : ℕ) (cs :
         share-small n h,
       )
 
-  pub over-small : natAbs (sumsOver xs ys st ds r2 i j .pulls) ≤ 2000000 * sumsOver xs ys st ds r2 i j .weights
+  pub over-small : natAbs (sumsOver xs ys st ds r2 i j .pulls) ≤ mostLimit * sumsOver xs ys st ds r2 i j .weights
   unfolding sumsOver
   over-small = some-small (length xs) (omega arith)

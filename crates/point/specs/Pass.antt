@@ -11,8 +11,9 @@ use lib.ListN.{length, getD, set}
 use lib.IntN.{ℤ, pos, natAbs, _+ℤ_}
 use Rattle.lists.specs.Sums.{upTo}
 use Rattle.lists.specs.Filled.{Filled, filled-set, filled-join, filled-all}
-use Rattle.scheme.specs.Units.{Field, stored, fieldOf}
+use Rattle.scheme.specs.Units.{mostSide, Field, stored, fieldOf, mostStations, mostRadius, mostLimit}
 use Rattle.scheme.specs.Correction.{Sums, nothing, plus, correction}
+use Rattle.scheme.specs.Most.{mostPoints, mostSquare, mostWeights, mostField}
 use Rattle.scheme.specs.Accepted.{Shaped}
 use Rattle.point.specs.Near.{nearShare, Sized, near-small, sumsOver, Columns, Near}
 
@@ -29,25 +30,25 @@ unfoldable pub rowS : (sup : List ℕ) (lx : List ℤ) (ly : List ℕ) (ld : Lis
 rowS sup lx ly ld n r2 bit base k = getD sup k 0 + cond (ltb 0 (rowSums lx ly ld n r2 (k - base) .weights)) bit 0
 
 pub record RowReady (z : List ℤ) (sup : List ℕ) (base nx : ℕ) (lx : List ℤ) (ly : List ℕ) (ld : List ℤ) (n r2 bit : ℕ) : Type 0 where
-  pub few : n ≤ 512
-  pub narrow : nx ≤ 64
+  pub few : n ≤ mostStations
+  pub narrow : nx ≤ mostSide
   pub inside : base + nx ≤ length z
-  pub short : length z ≤ 4096
+  pub short : length z ≤ mostPoints
   pub both : length sup ≡ length z
-  pub close : r2 ≤ 1048576
+  pub close : r2 ≤ mostSquare
   pub sized : (t : ℕ) → t < n → Sized lx ly ld t
-  pub low : (k : ℕ) → base ≤ k → natAbs (getD z k (pos 0)) ≤ 13000000
+  pub low : (k : ℕ) → base ≤ k → natAbs (getD z k (pos 0)) ≤ mostField
   pub free : (k : ℕ) → base ≤ k → getD sup k 0 + bit < 256
 
 -- a turn along the row: w and wd are the sums at column i
 module _ {z₀ : List ℤ} {sup₀ : List ℕ} {base nx : ℕ} {lx : List ℤ} {ly : List ℕ} {ld : List ℤ} {n r2 bit : ℕ}
     (ok : RowReady z₀ sup₀ base nx lx ly ld n r2 bit) {z : List ℤ} {sup : List ℕ} {i : ℕ} (turn : i < nx)
     (pz : Filled (pos 0) (rowZ z₀ lx ly ld n r2 base) base (base + i) z₀ z) (ps : Filled 0 (rowS sup₀ lx ly ld n r2 bit base) base (base + i) sup₀ sup) where
-  pub place-in : (base + i < length z) × (base + i < length sup) × (base + i < 4096)
+  pub place-in : (base + i < length z) × (base + i < length sup) × (base + i < mostPoints)
   place-in =
       (omega (arith, pz .same-length, ok .inside), omega (arith, ps .same-length, ok .both, ok .inside), omega (arith, ok .inside, ok .short))
 
-  pub value-low : natAbs (getD z (base + i) (pos 0)) ≤ 13000000
+  pub value-low : natAbs (getD z (base + i) (pos 0)) ≤ mostField
   value-low = rw (pz .rest (base + i) (omega arith)) (ok .low (base + i) (omega arith))
 
   pub bit-free : getD sup (base + i) 0 + bit < 256
@@ -60,7 +61,7 @@ module _ {z₀ : List ℤ} {sup₀ : List ℕ} {base nx : ℕ} {lx : List ℤ} {
   next-place = omega arith
 
   module _ {w : ℕ} {wd : ℤ} (w-is : w ≡ rowSums lx ly ld n r2 i .weights) (wd-is : wd ≡ rowSums lx ly ld n r2 i .pulls) where
-    pub sums-small : (w ≤ 51200) × (natAbs wd ≤ 2000000 * w)
+    pub sums-small : (w ≤ mostWeights) × (natAbs wd ≤ mostLimit * w)
     sums-small =
         let h = near-small lx ly ld r2 i n (ok .sized) in
         rw (w-is, wd-is) (omega (arith, h .weights-most, ok .few), h .pulls-most)
@@ -99,9 +100,9 @@ passS sup nx xs ys st ds r2 bit k = backed sup nx xs ys st ds r2 bit (k % nx) (k
 pub record PassReady (z : List ℤ) (sup : List ℕ) (nx ny : ℕ) (xs ys : List ℤ) (st : List ℕ) (ds : List ℤ) (radius bit : ℕ) : Type 0 where
   pub shape : Shaped nx ny (length z)
   pub both : length sup ≡ length z
-  pub close : radius ≤ 1024
+  pub close : radius ≤ mostRadius
   pub columns : Columns xs ys st ds
-  pub low : (k : ℕ) → natAbs (getD z k (pos 0)) ≤ 13000000
+  pub low : (k : ℕ) → natAbs (getD z k (pos 0)) ≤ mostField
   pub free : (k : ℕ) → getD sup k 0 + bit < 256
 
 -- ---- a row of the pass
@@ -111,16 +112,16 @@ module _ {z₀ : List ℤ} {sup₀ : List ℕ} {nx ny : ℕ} {xs ys : List ℤ} 
   abbrev r2 : ℕ
   r2 = radius * radius
 
-  pub r2-close : r2 ≤ 1048576
+  pub r2-close : r2 ≤ mostSquare
   r2-close = mul-le-mul (ok .close) (ok .close)
 
   row-in : (j : ℕ) → j < ny → j * nx + nx ≤ nx * ny
   row-in j h = omega (arith, mul-le-mul-right nx h)
 
-  pub short : length z₀ ≤ 4096
+  pub short : length z₀ ≤ mostPoints
   short = rw (ok .shape .whole) (mul-le-mul (ok .shape .few-columns) (ok .shape .few-rows))
 
-  pub row-place : (j : ℕ) → j < ny → j * nx + nx ≤ 4096
+  pub row-place : (j : ℕ) → j < ny → j * nx + nx ≤ mostPoints
   row-place j h = omega (arith, row-in j h, short, ok .shape .whole)
 
   module _ {j : ℕ} (hj : j < ny) {z : List ℤ} {sup : List ℕ}

@@ -1,16 +1,16 @@
 // Sums and corrections at the points of a grid (document 01, "One scan", Correction).
 ghost use mathlib.Core.Path.{_≡_};
 ghost use Prim.Native.Nat.{ℕ, _+_, _*_, _≤_, _<_};
-ghost use lib.IntN.{natAbs};
 ghost use mathlib.Core.Bool.{cond};
 ghost use lib.Dec.{ltb};
 ghost use lib.ListN.{length};
-ghost use lib.IntN.{ℤ, pos, _+ℤ_, _*ℤ_};
+ghost use lib.IntN.{pos, natAbs, _+ℤ_, _*ℤ_};
 ghost use Rattle.lists.specs.Sums.{upTo};
 ghost use Rattle.lists.specs.Filled.{Filled};
-ghost use Rattle.scheme.specs.Units.{stored};
+ghost use Rattle.scheme.specs.Units.{mostSide, stored, mostStations, mostLimit};
 ghost use Rattle.scheme.specs.Weight.{weight};
 ghost use Rattle.scheme.specs.Correction.{nothing, plus, correction};
+ghost use Rattle.scheme.specs.Most.{mostAlong, mostSquare, mostWeights, mostPulls, mostField};
 ghost use Rattle.point.specs.Near.{nearShare, Sized, WithNear, rowGap, Columns, Roomy, Near};
 ghost use Rattle.point.specs.Pass.{rowZ, rowS, RowReady, PassReady, corrected, backed};
 
@@ -22,7 +22,7 @@ pub struct Sums {
 
 // The sums with one more station, of difference d at squared distance d2.
 fn more(w: u64, wd: i64, r2: u32, d2: u32, d: i64) -> Sums
-    requires { ⌜ (w ≤ 51200) × (natAbs wd ≤ 102400000000) × (r2 ≤ 1048576) × (natAbs d ≤ 2000000) ⌝ }
+    requires { ⌜ (w ≤ mostWeights) × (natAbs wd ≤ mostPulls) × (r2 ≤ mostSquare) × (natAbs d ≤ mostLimit) ⌝ }
     ensures { λ s. ⌜ (s .w ≡ w + weight r2 d2) × (s .wd ≡ wd +ℤ pos (weight r2 d2) *ℤ d) ⌝ }
 {
     if r2 <= d2 {
@@ -46,7 +46,7 @@ fn with_near(
     i: usize,
     r2: u32,
 ) -> Sums
-    requires { ⌜ (w ≤ 51200) × (natAbs wd ≤ 102400000000) × (t < 512) × (i < 64) × (r2 ≤ 1048576) × Sized (now lx) (now ly) (now ld) t ⌝ }
+    requires { ⌜ (w ≤ mostWeights) × (natAbs wd ≤ mostPulls) × (t < mostStations) × (i < mostSide) × (r2 ≤ mostSquare) × Sized (now lx) (now ly) (now ld) t ⌝ }
     ensures { λ s. ⌜ WithNear (now (lx .entry)) (now (ly .entry)) (now (ld .entry)) r2 i t w wd (s .w) (s .wd) ⌝ }
 {
     let px = (64 * i) as i32;
@@ -62,7 +62,7 @@ fn point_sums(
     i: usize,
     r2: u32,
 ) -> Sums
-    requires { ⌜ (n ≤ 512) × (i < 64) × (r2 ≤ 1048576) × ((t : ℕ) → t < n → Sized (now lx) (now ly) (now ld) t) ⌝ }
+    requires { ⌜ (n ≤ mostStations) × (i < mostSide) × (r2 ≤ mostSquare) × ((t : ℕ) → t < n → Sized (now lx) (now ly) (now ld) t) ⌝ }
     ensures { λ s. ⌜ (s .w ≡ upTo nothing plus n (nearShare (now (lx .entry)) (now (ly .entry)) (now (ld .entry)) r2 i) .weights)
         × (s .wd ≡ upTo nothing plus n (nearShare (now (lx .entry)) (now (ly .entry)) (now (ld .entry)) r2 i) .pulls) ⌝ }
 {
@@ -81,7 +81,7 @@ fn point_sums(
 
 // A point's value after its correction.
 fn moved(z: i32, w: u64, wd: i64) -> i32
-    requires { ⌜ (natAbs z ≤ 13000000) × (w ≤ 51200) × (natAbs wd ≤ 2000000 * w) ⌝ }
+    requires { ⌜ (natAbs z ≤ mostField) × (w ≤ mostWeights) × (natAbs wd ≤ mostLimit * w) ⌝ }
     ensures { λ r. ⌜ r ≡ z +ℤ correction (record { weights = w; pulls = wd }) ⌝ }
 {
     if w == 0 {
@@ -100,7 +100,7 @@ fn with_bit(b: u8, w: u64, bit: u8) -> u8
 
 // The squared distance of a station to grid row j; the squared radius for one that is not accepted.
 fn row_gap(verdict: u8, y: i32, j: usize, r2: u32) -> u32
-    requires { ⌜ (j < 64) × (verdict ≡ 0 → natAbs y ≤ 4096) ⌝ }
+    requires { ⌜ (j < mostSide) × (verdict ≡ 0 → natAbs y ≤ mostAlong) ⌝ }
     ensures { λ r. ⌜ r ≡ rowGap verdict y j r2 ⌝ }
 {
     if verdict == 0 {
@@ -128,7 +128,7 @@ fn near_row(
     r2: u32,
     j: usize,
 ) -> usize
-    requires { ⌜ (r2 ≤ 1048576) × (j < 64) × Columns (now x) (now y) (now verdict) (now d) × Roomy (now lx) (now ly) (now ld) ⌝ }
+    requires { ⌜ (r2 ≤ mostSquare) × (j < mostSide) × Columns (now x) (now y) (now verdict) (now d) × Roomy (now lx) (now ly) (now ld) ⌝ }
     ensures { λ n. ⌜ Roomy (now (lx .exit)) (now (ly .exit)) (now (ld .exit))
         × Near (now (lx .exit)) (now (ly .exit)) (now (ld .exit)) n (now (x .entry)) (now (y .entry)) (now (verdict .entry)) (now (d .entry)) r2 j (length (now (x .entry))) ⌝ }
 {

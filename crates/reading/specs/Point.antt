@@ -10,18 +10,18 @@ use lib.Ieee.{binary64, ofBits, ofInt}
 use Rattle.lists.specs.Tests.{and-true}
 use Rattle.scheme.specs.declared.Reading.{Reading}
 use Rattle.scheme.specs.declared.Reading.the-variants.{Backed, FirstGuess, OffGrid, Refused}
-use Rattle.scheme.specs.Units.{Field, fieldOf}
+use Rattle.scheme.specs.Units.{Field, fieldOf, step}
 use Rattle.scheme.specs.Refusals.{refusedIf, badShape, readingRefusal}
 use Rattle.scheme.specs.Verdicts.{onAxis}
 use Rattle.scheme.specs.Value.{place, sumAt}
-use Rattle.scheme.specs.Readings.{double, positiveZero, readingValue, isBacked, readingIn, reading}
+use Rattle.scheme.specs.Readings.{double, positiveZero, isBacked, readingIn, reading}
 use Rattle.scheme.specs.Cells.{place-on}
 use Rattle.verdict.specs.Verdict.{on-axis}
 
 -- ---- of a field of the right shape
 
 abbrev pub Along : ℕ → ℤ → Type 0
-Along n x = (x ≡ pos (natAbs x)) × (natAbs x ≤ 64 * (n - 1))
+Along n x = (x ≡ pos (natAbs x)) × (natAbs x ≤ step * (n - 1))
 
 pub along-both : (nx ny : ℕ) (x y : ℤ) → onAxis nx x && onAxis ny y ≡ true → Along nx x × Along ny y
 along-both nx ny x y on = let (h, k) = and-true (onAxis nx x) (onAxis ny y) on in (on-axis nx x h, on-axis ny y k)
@@ -46,11 +46,11 @@ module _ (nx ny : ℕ) (z : Field ℤ) (support : Field ℕ) (x y : ℤ) where
     here r = r ≡ readingIn nx ny z support x y
 
     pub backed : isBacked nx ny support (natAbs x) (natAbs y) ≡ true → here (Backed (double (sumAt nx ny z (natAbs x) (natAbs y)) 262144))
-    unfolding readingIn readingValue
+    unfolding readingIn
     backed e = rw (on, place-x, place-y, e)
 
     pub not-backed : isBacked nx ny support (natAbs x) (natAbs y) ≡ false → here (FirstGuess (double (sumAt nx ny z (natAbs x) (natAbs y)) 262144))
-    unfolding readingIn readingValue
+    unfolding readingIn
     not-backed e = rw (on, place-x, place-y, e)
 
 -- ---- of any field

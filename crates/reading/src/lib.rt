@@ -4,11 +4,11 @@ ghost use mathlib.Core.Bool.{_&&_};
 ghost use Prim.Native.Nat.{_-_, _*_, _≤_};
 ghost use lib.ListN.{length};
 ghost use lib.IntN.{pos, natAbs};
-ghost use Rattle.scheme.specs.Units.{fieldOf};
+ghost use Rattle.scheme.specs.Units.{fieldOf, step};
 ghost use Rattle.scheme.specs.Accepted.{Shaped};
-ghost use Rattle.scheme.specs.Readings.{double, cornerBacked, isBacked, readingIn, kindOf, valueOf};
+ghost use Rattle.scheme.specs.Readings.{double, isBacked, readingIn, kindOf, valueOf};
 ghost use Rattle.scheme.specs.Promises.{Reads, ReadsKind, ReadsValue};
-ghost use Rattle.reading.specs.Backing.{allBacked};
+ghost use Rattle.reading.specs.Backing.{cornerBacked, allBacked};
 use scheme::Reading;
 
 // Neighbouring points are 64 position units apart.
@@ -27,7 +27,7 @@ pub fn double(n: i64, d: u32) -> f64
 
 // A corner with a share of a times b parts: a nonzero one needs a nonzero support byte.
 fn corner_backed(a: u32, b: u32, support: u8) -> bool
-    requires { ⌜ (a ≤ 64) × (b ≤ 64) ⌝ }
+    requires { ⌜ (a ≤ step) × (b ≤ step) ⌝ }
     ensures { λ r. ⌜ r ≡ cornerBacked (a * b) support ⌝ }
 {
     if a * b == 0 {
@@ -44,7 +44,7 @@ fn both(p: bool, q: bool) -> bool
 
 // Every one of four corners p, q over r, s, at a and b units past the first.
 fn all_backed(a: u32, b: u32, p: u8, q: u8, r: u8, s: u8) -> bool
-    requires { ⌜ (a ≤ 64) × (b ≤ 64) ⌝ }
+    requires { ⌜ (a ≤ step) × (b ≤ step) ⌝ }
     ensures { λ t. ⌜ t ≡ allBacked a b p q r s ⌝ }
 {
     let mut t = corner_backed(STEP - a, STEP - b, p);
@@ -55,7 +55,7 @@ fn all_backed(a: u32, b: u32, p: u8, q: u8, r: u8, s: u8) -> bool
 
 // Every corner with a nonzero share has a nonzero support byte, at a position on the grid.
 fn is_backed(support: &[u8], nx: usize, ny: usize, x: u32, y: u32) -> bool
-    requires { ⌜ Shaped nx ny (length (now support)) × (x ≤ 64 * (nx - 1)) × (y ≤ 64 * (ny - 1)) ⌝ }
+    requires { ⌜ Shaped nx ny (length (now support)) × (x ≤ step * (nx - 1)) × (y ≤ step * (ny - 1)) ⌝ }
     ensures { λ r. ⌜ r ≡ isBacked nx ny (fieldOf 0 nx (now (support .entry))) x y ⌝ }
 {
     let s = interpolation::spot_of(nx, ny, x, y);

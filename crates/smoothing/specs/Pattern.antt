@@ -19,9 +19,9 @@ use Rattle.lists.specs.Sums.{upTo, upTo-same, upTo-most}
 use Rattle.scheme.specs.Units.{Field, fieldOf}
 use Rattle.scheme.specs.Rounding.{rounded}
 use Rattle.scheme.specs.Smoothing.{pattern, patternAt, patternRow, patternSum, inner, smoothed}
+use Rattle.scheme.specs.Most.{mostPoints, mostField}
 use Rattle.scheme.specs.Accepted.{Shaped}
 use Rattle.scheme.specs.Nearest.{rounded-size}
-use Rattle.scheme.specs.Bounds.{mostField}
 
 -- a stored field whose values are all within the bound of an accepted run
 abbrev pub Small : List ℤ → Type 0
@@ -47,21 +47,21 @@ pattern-most a b =
     (every-at (λ n. leb n 4) 0 refl (getD pattern b []) (every-at (every (λ n. leb n 4)) [] refl pattern refl b) a)
 
 module _ (l : List ℤ) (small : Small l) where
-  pub term-size : (p b a : ℕ) → natAbs (term l p b a) ≤ 52000000
+  pub term-size : (p b a : ℕ) → natAbs (term l p b a) ≤ 4 * mostField
   unfolding term
   term-size p b a = rw (size-mul (pos (patternAt a b)) (getD l (p + a) (pos 0))) (mul-le-mul (pattern-most a b) (small (p + a)))
 
   -- after a turns, and after all three
-  pub row-size : (p b a : ℕ) → a ≤ 3 → natAbs (upTo (pos 0) _+ℤ_ a (term l p b)) ≤ 156000000
-  row-size p b a h = omega (arith, upTo-most 52000000 a (term l p b) (λ k e. term-size p b k))
+  pub row-size : (p b a : ℕ) → a ≤ 3 → natAbs (upTo (pos 0) _+ℤ_ a (term l p b)) ≤ 12 * mostField
+  row-size p b a h = omega (arith, upTo-most (4 * mostField) a (term l p b) (λ k e. term-size p b k))
 
-  pub row-whole : (p b : ℕ) → natAbs (rowAt l p b) ≤ 156000000
+  pub row-whole : (p b : ℕ) → natAbs (rowAt l p b) ≤ 12 * mostField
   unfolding rowAt
   row-whole p b = row-size p b 3 (omega arith)
 
   -- after b rows
-  pub rows-size : (nx p b : ℕ) → b ≤ 3 → natAbs (upTo (pos 0) _+ℤ_ b (λ k. rowAt l (p + k * nx) k)) ≤ 468000000
-  rows-size nx p b h = omega (arith, upTo-most 156000000 b (λ k. rowAt l (p + k * nx) k) (λ k e. row-whole (p + k * nx) k))
+  pub rows-size : (nx p b : ℕ) → b ≤ 3 → natAbs (upTo (pos 0) _+ℤ_ b (λ k. rowAt l (p + k * nx) k)) ≤ 36 * mostField
+  rows-size nx p b h = omega (arith, upTo-most (12 * mostField) b (λ k. rowAt l (p + k * nx) k) (λ k e. row-whole (p + k * nx) k))
 
 -- ---- the pattern laid on an inner point of the grid is the paper's
 
@@ -85,7 +85,7 @@ unfolding nineAt rowAt patternSum patternRow
 nine-is l nx i j hi hj =
     upTo-same (pos 0) _+ℤ_ 3 _ _ (λ b e. upTo-same (pos 0) _+ℤ_ 3 _ _ (λ a f. term-is l nx i j a b hi hj))
 
-pub nine-size : (l : List ℤ) (nx p : ℕ) → Small l → natAbs (nineAt l nx p) ≤ 468000000
+pub nine-size : (l : List ℤ) (nx p : ℕ) → Small l → natAbs (nineAt l nx p) ≤ 36 * mostField
 unfolding nineAt
 nine-size l nx p small = rows-size l small nx p 3 (omega arith)
 
@@ -112,7 +112,7 @@ module _ (nx ny : ℕ) (z : Field ℤ) (i j : ℕ) where
 
 pub record InGrid (nx i j len : ℕ) : Type 0 where
   pub inside : j * nx + i < len
-  pub few : len ≤ 4096
+  pub few : len ≤ mostPoints
 
 pub in-grid : (nx ny i j len : ℕ) → Shaped nx ny len → i < nx → j < ny → InGrid nx i j len
 in-grid nx ny i j len shape hi hj =
@@ -154,8 +154,8 @@ module _ (l : List ℤ) (small : Small l) (nx p : ℕ) (n : ℤ) (sum : n ≡ ni
     pub quotient-is : r ≡ rounded (nineAt l nx p) 16
     quotient-is = rw (nine-back, sum) at quotient
 
-    quotient-small : natAbs r ≤ 29250000
-    quotient-small = rw quotient-is (rounded-size (nineAt l nx p) 16 29250000 (nine-size l nx p small))
+    quotient-small : natAbs r ≤ 3 * mostField
+    quotient-small = rw quotient-is (rounded-size (nineAt l nx p) 16 (3 * mostField) (omega (arith, nine-size l nx p small)))
 
     pub quotient-back : toZ w64 (ofZ w64 r) ≡ r
     quotient-back = bits-back w64 r (omega (arith, quotient-small))

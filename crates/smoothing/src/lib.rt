@@ -5,8 +5,9 @@ ghost use Prim.Native.Nat.{_+_, _*_, _≤_, _<_};
 ghost use lib.ListN.{length, getD};
 ghost use lib.IntN.{pos};
 ghost use Rattle.lists.specs.Filled.{Filled};
-ghost use Rattle.scheme.specs.Units.{fieldOf, stored};
+ghost use Rattle.scheme.specs.Units.{mostSide, stored, fieldOf};
 ghost use Rattle.scheme.specs.Smoothing.{inner, smoothed};
+ghost use Rattle.scheme.specs.Most.{mostPoints};
 ghost use Rattle.scheme.specs.Accepted.{Shaped};
 ghost use Rattle.smoothing.specs.Pattern.{Small, rowAt, nineAt};
 ghost use Rattle.smoothing.specs.Pass.{smoothK};
@@ -17,7 +18,7 @@ const PATTERN: [[u32; 3]; 3] = [[1, 2, 1], [2, 4, 2], [1, 2, 1]];
 
 // Row b of the pattern, laid on three places from p on.
 fn row_sum(z: &[i32], p: usize, b: usize) -> i64
-    requires { ⌜ (b < 3) × (p + 3 ≤ length (now z)) × (length (now z) ≤ 4096) × Small (now z) ⌝ }
+    requires { ⌜ (b < 3) × (p + 3 ≤ length (now z)) × (length (now z) ≤ mostPoints) × Small (now z) ⌝ }
     ensures { λ r. ⌜ r ≡ rowAt (now (z .entry)) p b ⌝ }
 {
     let mut s = Total { t: 0 };
@@ -31,7 +32,7 @@ fn row_sum(z: &[i32], p: usize, b: usize) -> i64
 
 // The pattern, laid on the nine places whose lowest is p, in a grid of nx columns.
 fn pattern_sum(z: &[i32], nx: usize, p: usize) -> i64
-    requires { ⌜ (nx ≤ 64) × (p + 2 * nx + 3 ≤ length (now z)) × (length (now z) ≤ 4096) × Small (now z) ⌝ }
+    requires { ⌜ (nx ≤ mostSide) × (p + 2 * nx + 3 ≤ length (now z)) × (length (now z) ≤ mostPoints) × Small (now z) ⌝ }
     ensures { λ r. ⌜ r ≡ nineAt (now (z .entry)) nx p ⌝ }
 {
     let mut s = Total { t: 0 };
@@ -45,7 +46,7 @@ fn pattern_sum(z: &[i32], nx: usize, p: usize) -> i64
 
 // Neither the first nor the last of n.
 fn is_inner(n: usize, i: usize) -> bool
-    requires { ⌜ i < 64 ⌝ }
+    requires { ⌜ i < mostSide ⌝ }
     ensures { λ r. ⌜ r ≡ inner n i ⌝ }
 {
     if 0 < i { i + 1 < n } else { false }
@@ -53,7 +54,7 @@ fn is_inner(n: usize, i: usize) -> bool
 
 // Not on the border of a grid of nx columns and ny rows.
 fn is_inner_point(nx: usize, ny: usize, i: usize, j: usize) -> bool
-    requires { ⌜ (i < 64) × (j < 64) ⌝ }
+    requires { ⌜ (i < mostSide) × (j < mostSide) ⌝ }
     ensures { λ r. ⌜ r ≡ inner nx i && inner ny j ⌝ }
 {
     if is_inner(nx, i) {
@@ -77,7 +78,7 @@ pub fn smooth_at(z: &[i32], nx: usize, ny: usize, i: usize, j: usize) -> i32
 
 // Row j into the second grid, which has its rows where the grid has them.
 fn smooth_row(out: &mut [i32; 4096], z: &[i32], nx: usize, ny: usize, j: usize)
-    requires { ⌜ Shaped nx ny (length (now z)) × Small (now z) × (j < ny) × (length (now out) ≡ 4096) ⌝ }
+    requires { ⌜ Shaped nx ny (length (now z)) × Small (now z) × (j < ny) × (length (now out) ≡ mostPoints) ⌝ }
     ensures { λ u. ⌜ Filled (pos 0) (smoothK (now (z .entry)) nx ny) (j * nx) (j * nx + nx) (now (out .entry)) (now (out .exit)) ⌝ }
 {
     let mut i: usize = 0;
@@ -89,7 +90,7 @@ fn smooth_row(out: &mut [i32; 4096], z: &[i32], nx: usize, ny: usize, j: usize)
 
 // The second grid has room for the largest grid; only as many of its places as the grid has are taken.
 fn put_back(z: &mut [i32], out: &[i32; 4096])
-    requires { ⌜ length (now z) ≤ 4096 ⌝ }
+    requires { ⌜ length (now z) ≤ mostPoints ⌝ }
     ensures { λ u. ⌜ Filled (pos 0) (λ k. getD (now (out .entry)) k (pos 0)) 0 (length (now (z .entry))) (now (z .entry)) (now (z .exit)) ⌝ }
 {
     let mut k: usize = 0;

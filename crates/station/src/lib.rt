@@ -1,18 +1,19 @@
 // How a scan judges the stations (document 01, "One scan", Difference).
 ghost use mathlib.Core.Path.{_≡_};
-ghost use Prim.Native.Nat.{ℕ, _+_, _-_, _≤_, _<_};
+ghost use Prim.Native.Nat.{ℕ, _≤_};
 ghost use lib.ListN.{length, getD};
 ghost use lib.IntN.{pos, natAbs};
 ghost use Rattle.lists.specs.Filled.{Filled};
+ghost use Rattle.scheme.specs.Units.{mostScans};
 ghost use Rattle.scheme.specs.Difference.{afterTest};
+ghost use Rattle.scheme.specs.Most.{mostField, mostDifference};
 ghost use Rattle.scheme.specs.Accepted.{Shaped};
-ghost use Rattle.scheme.specs.Bounds.{mostField};
 ghost use Rattle.station.specs.Judge.{OnGrid, JudgeReady, diffOf, diffAt, verdictAt};
 
 // The observation less the value of the field there, 0 for a row that is not accepted, whose position may be off the grid.
 fn difference(verdict: u8, x: i32, y: i32, value: i32, z: &[i32], nx: usize, ny: usize) -> i64
     requires { ⌜ Shaped nx ny (length (now z)) × ((k : ℕ) → natAbs (getD (now z) k (pos 0)) ≤ mostField) × (verdict ≡ 0 → OnGrid nx ny x y value) ⌝ }
-    ensures { λ r. ⌜ (r ≡ diffOf (now (z .entry)) nx ny verdict x y value) × (natAbs r ≤ 14000000) ⌝ }
+    ensures { λ r. ⌜ (r ≡ diffOf (now (z .entry)) nx ny verdict x y value) × (natAbs r ≤ mostDifference) ⌝ }
 {
     if verdict != 0 {
         return 0;
@@ -22,7 +23,7 @@ fn difference(verdict: u8, x: i32, y: i32, value: i32, z: &[i32], nx: usize, ny:
 
 // |d|, for the E test.
 fn size_of(d: i64) -> u64
-    requires { ⌜ natAbs d ≤ 14000000 ⌝ }
+    requires { ⌜ natAbs d ≤ mostDifference ⌝ }
     ensures { λ r. ⌜ r ≡ natAbs d ⌝ }
 {
     if d < 0 { (-d) as u64 } else { d as u64 }
@@ -30,7 +31,7 @@ fn size_of(d: i64) -> u64
 
 // The verdict after the E test of a scan. A row that is no longer accepted keeps the verdict of its first refusal.
 fn verdict_after(verdict: u8, d: i64, limit: u32, scan: u8) -> u8
-    requires { ⌜ (natAbs d ≤ 14000000) × (scan ≤ 6) ⌝ }
+    requires { ⌜ (natAbs d ≤ mostDifference) × (scan ≤ mostScans) ⌝ }
     ensures { λ r. ⌜ r ≡ afterTest scan limit d verdict ⌝ }
 {
     if verdict != 0 {

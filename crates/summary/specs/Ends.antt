@@ -11,9 +11,10 @@ use lib.IntN.{ℤ, pos, _-ℤ_}
 use mir.Syntax.{w32}
 use mir.Val.{SFits}
 use Rattle.scheme.specs.declared.Units.{Units}
+use Rattle.scheme.specs.Units.{partsOfUnit}
 use Rattle.scheme.specs.Refusals.{refusedIf, badShape, summaryRefusal}
-use Rattle.scheme.specs.Readings.{double, lesser, greater, lowest, highest, unitsOf, zeros, summary}
-use Rattle.scheme.specs.Exact.{of-lesser, of-greater}
+use Rattle.scheme.specs.Readings.{double, lowest, highest, unitsOf, zeros, summary}
+use Rattle.scheme.specs.Exact.{lesser, greater, of-lesser, of-greater}
 
 -- the ends of the first k values: with what is left after them they make the ends of all
 pub record EndsTo (field : List ℤ) (k : ℕ) (low high : ℤ) : Type 0 where
@@ -43,7 +44,7 @@ module _ (field : List ℤ) where
 -- ---- the summary
 
 abbrev pub unitsBetween : (low high : ℤ) → Units
-unitsBetween low high = record { lowest = double low 64; highest = double high 64; span = double (high -ℤ low) 64 }
+unitsBetween low high = record { lowest = double low partsOfUnit; highest = double high partsOfUnit; span = double (high -ℤ low) partsOfUnit }
 
 -- the ends of all values are those of the field
 pub units-are : (field : List ℤ) (low high : ℤ) → 0 < length field → EndsTo field (length field) low high → unitsBetween low high ≡ unitsOf field

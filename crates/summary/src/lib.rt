@@ -2,8 +2,9 @@
 ghost use mathlib.Core.Path.{_≡_};
 ghost use Prim.Native.Nat.{_<_};
 ghost use lib.ListN.{length};
-ghost use Rattle.scheme.specs.Readings.{lesser, greater, unitsOf};
+ghost use Rattle.scheme.specs.Readings.{unitsOf};
 ghost use Rattle.scheme.specs.Promises.{Summarises};
+ghost use Rattle.scheme.specs.Exact.{lesser, greater};
 ghost use Rattle.summary.specs.Ends.{EndsTo, unitsBetween};
 use scheme::Summary;
 use scheme::Units;

@@ -11,8 +11,8 @@ use mir.Syntax.{w32}
 use mir.Val.{Fits}
 use Rattle.integers.specs.Order.{less-parts, not-less-parts}
 use Rattle.lists.specs.Tests.{not-both}
-use Rattle.scheme.specs.Units.{Request, Station, noEnd, isMissing}
-use Rattle.scheme.specs.Verdicts.{serves, missing, outOfService, observedAfter, tooOld, onAxis, offGrid, firstThatFits, beforeScans}
+use Rattle.scheme.specs.Units.{isMissing, mostSide, step, Station, noEnd}
+use Rattle.scheme.specs.Verdicts.{serves, outOfService, onAxis, offGrid, firstThatFits, beforeScans}
 
 abbrev pub stationOf : (x y value : ℤ) (observed from until : ℕ) → Station
 stationOf x y value observed from until =
@@ -22,61 +22,54 @@ stationOf x y value observed from until =
 abbrev pub servesAt : (from until minute : ℕ) → Bool
 servesAt from until minute = leb from minute && (eqb until noEnd || ltb minute until)
 
--- a request of that grid, analysis minute and greatest age
-pub record Suits (q : Request) (nx ny time age : ℕ) : Type 0 where
-  pub columns : q .nx ≡ nx
-  pub rows : q .ny ≡ ny
-  pub minute : q .T ≡ time
-  pub oldest : q .A ≡ age
-
 -- a position below zero is on no axis, and any other is where it says
 pub below-axis : (n : ℕ) (x : ℤ) → ltZ x (pos 0) ≡ true → onAxis n x ≡ false
 unfolding onAxis
 below-axis n (pos x) e = absurd (omega (arith, less-parts (pos x) (pos 0) e))
 below-axis n (negsuc x) e = refl
 
-pub along-axis : (n : ℕ) (x : ℤ) → ltZ x (pos 0) ≡ false → (T (nonNeg x)) × (leb (natAbs x) (64 * (n - 1)) ≡ onAxis n x)
+pub along-axis : (n : ℕ) (x : ℤ) → ltZ x (pos 0) ≡ false → (T (nonNeg x)) × (leb (natAbs x) (step * (n - 1)) ≡ onAxis n x)
 unfolding onAxis
 along-axis n (pos x) e = (tt, refl)
 along-axis n (negsuc x) e = absurd (omega (arith, not-less-parts (negsuc x) (pos 0) e))
 
 -- on the axis it is a natural number, which fits
-pub on-axis : (n : ℕ) (x : ℤ) → onAxis n x ≡ true → (x ≡ pos (natAbs x)) × (natAbs x ≤ 64 * (n - 1))
+pub on-axis : (n : ℕ) (x : ℤ) → onAxis n x ≡ true → (x ≡ pos (natAbs x)) × (natAbs x ≤ step * (n - 1))
 unfolding onAxis
-on-axis n (pos x) e = (refl, leb-true x (64 * (n - 1)) e)
+on-axis n (pos x) e = (refl, leb-true x (step * (n - 1)) e)
 on-axis n (negsuc x) e = absurd (not-both (sym e))
 
-pub place-fits : (n : ℕ) (x : ℤ) → n ≤ 64 → x ≡ pos (natAbs x) → natAbs x ≤ 64 * (n - 1) → T (nonNeg x) × Fits w32 (natAbs x)
+pub place-fits : (n : ℕ) (x : ℤ) → n ≤ mostSide → x ≡ pos (natAbs x) → natAbs x ≤ step * (n - 1) → T (nonNeg x) × Fits w32 (natAbs x)
 place-fits n x few e h = (rw e tt, record { fits = omega arith })
 
-module _ (q : Request) (x y value : ℤ) (observed from until nx ny time age : ℕ) (suits : Suits q nx ny time age) where
+module _ (x y value : ℤ) (observed from until nx ny time age : ℕ) where
   abbrev s : Station
   s = stationOf x y value observed from until
 
-  pub is-missing : isMissing value ≡ true → 1 ≡ beforeScans q s
-  unfolding beforeScans firstThatFits missing
+  pub is-missing : isMissing value ≡ true → 1 ≡ beforeScans nx ny time age s
+  unfolding beforeScans firstThatFits
   is-missing e = rw e
 
   module _ (there : isMissing value ≡ false) where
-    pub not-serving : servesAt from until observed && servesAt from until time ≡ false → 2 ≡ beforeScans q s
-    unfolding beforeScans firstThatFits missing outOfService serves
-    not-serving e = rw (there, suits .minute, e)
+    pub not-serving : servesAt from until observed && servesAt from until time ≡ false → 2 ≡ beforeScans nx ny time age s
+    unfolding beforeScans firstThatFits outOfService serves
+    not-serving e = rw (there, e)
 
     module _ (serving : servesAt from until observed && servesAt from until time ≡ true) where
-      pub is-after : ltb time observed ≡ true → 3 ≡ beforeScans q s
-      unfolding beforeScans firstThatFits missing outOfService serves observedAfter
-      is-after e = rw (there, suits .minute, serving, e)
+      pub is-after : ltb time observed ≡ true → 3 ≡ beforeScans nx ny time age s
+      unfolding beforeScans firstThatFits outOfService serves
+      is-after e = rw (there, serving, e)
 
       module _ (before : ltb time observed ≡ false) where
-        pub is-old : ltb age (time - observed) ≡ true → 4 ≡ beforeScans q s
-        unfolding beforeScans firstThatFits missing outOfService serves observedAfter tooOld
-        is-old e = rw (there, suits .minute, suits .oldest, serving, before, e)
+        pub is-old : ltb age (time - observed) ≡ true → 4 ≡ beforeScans nx ny time age s
+        unfolding beforeScans firstThatFits outOfService serves
+        is-old e = rw (there, serving, before, e)
 
         module _ (fresh : ltb age (time - observed) ≡ false) where
-          pub is-off : onAxis nx x && onAxis ny y ≡ false → 5 ≡ beforeScans q s
-          unfolding beforeScans firstThatFits missing outOfService serves observedAfter tooOld offGrid
-          is-off e = rw (there, suits .minute, suits .oldest, suits .columns, suits .rows, serving, before, fresh, e)
+          pub is-off : onAxis nx x && onAxis ny y ≡ false → 5 ≡ beforeScans nx ny time age s
+          unfolding beforeScans firstThatFits outOfService serves offGrid
+          is-off e = rw (there, serving, before, fresh, e)
 
-          pub is-accepted : onAxis nx x && onAxis ny y ≡ true → 0 ≡ beforeScans q s
-          unfolding beforeScans firstThatFits missing outOfService serves observedAfter tooOld offGrid
-          is-accepted e = rw (there, suits .minute, suits .oldest, suits .columns, suits .rows, serving, before, fresh, e)
+          pub is-accepted : onAxis nx x && onAxis ny y ≡ true → 0 ≡ beforeScans nx ny time age s
+          unfolding beforeScans firstThatFits outOfService serves offGrid
+          is-accepted e = rw (there, serving, before, fresh, e)

@@ -2,9 +2,9 @@
 ghost use mathlib.Core.Path.{_≡_};
 ghost use mathlib.Core.Bool.{_&&_};
 ghost use Prim.Native.Nat.{_≤_};
-ghost use Rattle.scheme.specs.Units.{Request};
+ghost use Rattle.scheme.specs.Units.{mostSide};
 ghost use Rattle.scheme.specs.Verdicts.{onAxis, beforeScans};
-ghost use Rattle.verdict.specs.Verdict.{servesAt, Suits, stationOf};
+ghost use Rattle.verdict.specs.Verdict.{stationOf, servesAt};
 
 // Until this minute means no end.
 const NO_END: u32 = 4294967295;
@@ -35,7 +35,7 @@ fn serves_both(from: u32, until: u32, observed: u32, time: u32) -> bool
 
 // On an axis of n points, its ends included.
 fn on_axis(n: usize, x: i32) -> bool
-    requires { ⌜ (1 ≤ n) × (n ≤ 64) ⌝ }
+    requires { ⌜ (1 ≤ n) × (n ≤ mostSide) ⌝ }
     ensures { λ r. ⌜ r ≡ onAxis n x ⌝ }
 {
     if x < 0 {
@@ -46,7 +46,7 @@ fn on_axis(n: usize, x: i32) -> bool
 
 // On a grid of nx columns and ny rows, its border included.
 pub fn on_grid(nx: usize, ny: usize, x: i32, y: i32) -> bool
-    requires { ⌜ (1 ≤ nx) × (nx ≤ 64) × (1 ≤ ny) × (ny ≤ 64) ⌝ }
+    requires { ⌜ (1 ≤ nx) × (nx ≤ mostSide) × (1 ≤ ny) × (ny ≤ mostSide) ⌝ }
     ensures { λ r. ⌜ r ≡ onAxis nx x && onAxis ny y ⌝ }
 {
     if on_axis(nx, x) {
@@ -69,8 +69,8 @@ pub fn first_verdict(
     time: u32,
     age: u32,
 ) -> u8
-    requires { ⌜ (1 ≤ nx) × (nx ≤ 64) × (1 ≤ ny) × (ny ≤ 64) ⌝ }
-    ensures { λ r. ⌜ ((q : Request) → Suits q nx ny time age → r ≡ beforeScans q (stationOf x y value observed from until)) ⌝ }
+    requires { ⌜ (1 ≤ nx) × (nx ≤ mostSide) × (1 ≤ ny) × (ny ≤ mostSide) ⌝ }
+    ensures { λ r. ⌜ r ≡ beforeScans nx ny time age (stationOf x y value observed from until) ⌝ }
 {
     if checks::is_missing(value) {
         return 1;

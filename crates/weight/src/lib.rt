@@ -3,6 +3,7 @@ ghost use mathlib.Core.Path.{_≡_};
 ghost use Prim.Native.Nat.{_+_, _≤_};
 ghost use lib.IntN.{natAbs, _-ℤ_};
 ghost use Rattle.scheme.specs.Weight.{square, weight};
+ghost use Rattle.scheme.specs.Most.{mostSquare};
 
 // A weight is in parts of this.
 const SCALE: u32 = 100;
@@ -27,7 +28,7 @@ pub fn squared_distance(x: i32, px: i32, gap: u32) -> u32
 // The weight at squared distance d2 for squared radius r2. A station beyond the radius costs a compare and no division. The quotient's
 // upper part is the same for all stations of a scan: 100(R² - d2) = 200R² - 100(R² + d2).
 pub fn weight(r2: u32, d2: u32) -> u32
-    requires { ⌜ r2 ≤ 1048576 ⌝ }
+    requires { ⌜ r2 ≤ mostSquare ⌝ }
     ensures { λ r. ⌜ r ≡ weight r2 d2 ⌝ }
 {
     if r2 <= d2 {

@@ -9,6 +9,7 @@ use mir.Val.{toZ, ofZ}
 use mir.Facts.{toZ-ofZ, sfits-widen}
 use Rattle.integers.specs.Sizes.{size-add, size-mul}
 use Rattle.integers.specs.Words.{size-fits}
+use Rattle.scheme.specs.Units.{step}
 use Rattle.interpolation.proofs.corner.Statement.{statement}
 use Rattle.interpolation.proofs.corner.Tie as tie
 use Rattle.interpolation.proofs.corner.Reads as reads
@@ -19,7 +20,7 @@ module _ (s : lts.Start (plus-reads.Asked, plus-reads.Learnt) reads.Pre reads.Po
   abbrev parts : ℕ
   parts = s .args .a * s .args .b
 
-  few : parts ≤ 4096
+  few : parts ≤ step * step
   few = mul-le-mul (s .pre .0) (s .pre .1)
 
   share-small : parts * natAbs (s .args .v) ≤ 8796093022208

@@ -6,6 +6,7 @@ use mathlib.Core.List.{List}
 use lib.ListN.{length-replicate}
 use lib.IntN.{ℤ, pos}
 use Rattle.lists.specs.Filled.{Filled, filled-none}
+use Rattle.scheme.specs.Units.{mostStations}
 use Rattle.point.specs.Near.{Roomy}
 use Rattle.point.specs.Pass.{rowZ, rowS, RowReady, passZ, passS, r2-close, row-place, row-ready, next-z, next-s, all-z, all-s}
 use Rattle.point.proofs.correct.Statement.{statement}
@@ -59,7 +60,7 @@ loop-holds : tie.Need-loop-holds Inv-loop μ-loop
 loop-holds c =
     let s = c .before .before in (
       omega arith,
-      record { x-long = length-replicate {A = ℤ} 512 (pos 0); y-long = length-replicate {A = ℕ} 512 0; d-long = length-replicate {A = ℤ} 512 (pos 0) },
+      record { x-long = length-replicate {A = ℤ} mostStations (pos 0); y-long = length-replicate {A = ℕ} mostStations 0; d-long = length-replicate {A = ℤ} mostStations (pos 0) },
       filled-none (pos 0) _ 0 (0 * s .args .nx) (s .args .z .now) (omega arith),
       filled-none 0 _ 0 (0 * s .args .nx) (s .args .support .now) (omega arith),
     )

@@ -12,6 +12,8 @@ use mir.Val.{toZ, ofZ}
 use Rattle.integers.specs.Sizes.{size-add}
 use Rattle.integers.specs.Words.{bits-back}
 use Rattle.lists.specs.Filled.{Filled, filled-none}
+use Rattle.scheme.specs.Units.{mostLimit}
+use Rattle.scheme.specs.Most.{mostPoints, mostWeights, mostField}
 use Rattle.scheme.specs.Correction.{correction}
 use Rattle.scheme.specs.Bounds.{correction-size}
 use Rattle.point.specs.Pass.{rowZ, rowS, place-in, value-low, bit-free, sums-small, next-value, next-support}
@@ -40,10 +42,10 @@ module _ (k : tie.In-loop Inv-loop μ-loop) where
   abbrev i : ℕ
   i = k .before .loop .i
 
-  here : (s .args .base + i < length z) × (s .args .base + i < length support) × (s .args .base + i < 4096)
+  here : (s .args .base + i < length z) × (s .args .base + i < length support) × (s .args .base + i < mostPoints)
   here = place-in (s .pre) (k .loop-test .taken) (k .before .loop .inv .1) (k .before .loop .inv .2)
 
-  low : natAbs (getD z (s .args .base + i) (pos 0)) ≤ 13000000
+  low : natAbs (getD z (s .args .base + i) (pos 0)) ≤ mostField
   low = value-low (s .pre) (k .loop-test .taken) (k .before .loop .inv .1) (k .before .loop .inv .2)
 
   free : getD support (s .args .base + i) 0 + s .args .bit < 256
@@ -60,7 +62,7 @@ module _ (c : tie.After-point-sums Inv-loop μ-loop) where
   abbrev wd : ℤ
   wd = c .point-sums .result .wd
 
-  small : (w ≤ 51200) × (natAbs wd ≤ 2000000 * w)
+  small : (w ≤ mostWeights) × (natAbs wd ≤ mostLimit * w)
   small = sums-small (s k .pre) (k .loop-test .taken) (k .before .loop .inv .1) (k .before .loop .inv .2) (c .point-sums .ensures .0) (c .point-sums .ensures .1)
 
   wd-is : toZ w64 (ofZ w64 wd) ≡ wd
@@ -76,7 +78,7 @@ module _ (c : tie.After-point-sums Inv-loop μ-loop) where
 
 -- the new value is an i32
 back : (c : tie.After-point-sums Inv-loop μ-loop) (v : ℤ) → v ≡ getD (z (k c)) (s (k c) .args .base + i (k c)) (pos 0) +ℤ correction (record { weights = w c; pulls = wd c }) → toZ w32 (ofZ w32 v) ≡ v
-back c v e = bits-back w32 v (rw e (omega (arith, low (k c), size-add (getD (z (k c)) (s (k c) .args .base + i (k c)) (pos 0)) (correction (record { weights = w c; pulls = wd c })), correction-size 2000000 (record { weights = w c; pulls = wd c }) (small c .1))))
+back c v e = bits-back w32 v (rw e (omega (arith, low (k c), size-add (getD (z (k c)) (s (k c) .args .base + i (k c)) (pos 0)) (correction (record { weights = w c; pulls = wd c })), correction-size mostLimit (record { weights = w c; pulls = wd c }) (small c .1))))
 
 loop-holds : tie.Need-loop-holds Inv-loop μ-loop
 loop-holds c =

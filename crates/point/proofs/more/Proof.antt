@@ -10,6 +10,8 @@ use mir.Val.{toZ, ofZ}
 use mir.Facts.{toZ-ofZ, toZ-pos}
 use Rattle.integers.specs.Sizes.{size-add, size-mul}
 use Rattle.integers.specs.Words.{fits-size, bits-back}
+use Rattle.scheme.specs.Units.{mostLimit}
+use Rattle.scheme.specs.Weight.{scale}
 use Rattle.scheme.specs.Weights.{weight-beyond, weight-most}
 use Rattle.point.proofs.more.Statement.{statement}
 use Rattle.point.proofs.more.Tie as tie
@@ -27,10 +29,10 @@ module _ (c : lts.After-weight (weight-reads.Asked, weight-reads.Learnt) reads.P
   abbrev d : ℤ
   d = s .args .d
 
-  q-most : q ≤ 100
+  q-most : q ≤ scale
   q-most = rw (c .weight .ensures) (weight-most (s .args .r2) (s .args .d2))
 
-  product-small : natAbs (pos q *ℤ d) ≤ 200000000
+  product-small : natAbs (pos q *ℤ d) ≤ scale * mostLimit
   product-small = rw (size-mul (pos q) d) (mul-le-mul q-most (s .pre .3))
 
   sum-small : natAbs (s .args .wd +ℤ pos q *ℤ d) < 9223372036854775808

@@ -1,5 +1,5 @@
--- `point::moved` meets its contract: a correction is at most 2,000,000 in size, so that the value stays an i32. Assumes nothing.
-use Prim.Native.Nat.{ℕ, _≤_}
+-- `point::moved` meets its contract: a correction is at most the greatest limit in size, so that the value stays an i32. Assumes nothing.
+use Prim.Native.Nat.{ℕ, _+_, _≤_}
 use native.Mathlib.Omega.{arith}
 use mathlib.Core.Path.{_≡_, sym, ap, _∙_}
 use borrow.Author.Tests.{eq-eqb, ne-eqb}
@@ -9,6 +9,8 @@ use mir.Val.{toZ, ofZ}
 use mir.Facts.{toZ-ofZ, sfits-widen}
 use Rattle.integers.specs.Sizes.{size-add}
 use Rattle.integers.specs.Words.{fits-size, bits-back}
+use Rattle.scheme.specs.Units.{mostLimit}
+use Rattle.scheme.specs.Most.{mostField}
 use Rattle.scheme.specs.Rounding.{rounded}
 use Rattle.scheme.specs.Nearest.{rounded-size}
 use Rattle.scheme.specs.Correction.{correction}
@@ -40,10 +42,10 @@ module _ (c : lts.After-rounded (rounded-reads.Asked, rounded-reads.Learnt) read
   r-is : r ≡ rounded (s .args .wd) (s .args .w)
   r-is = rw (toZ-ofZ (s .fits .wd)) at (c .rounded .ensures)
 
-  r-small : natAbs r ≤ 2000000
-  r-small = rw r-is (rounded-size (s .args .wd) (s .args .w) 2000000 (s .pre .2))
+  r-small : natAbs r ≤ mostLimit
+  r-small = rw r-is (rounded-size (s .args .wd) (s .args .w) mostLimit (s .pre .2))
 
-  sum-small : natAbs (z +ℤ r) ≤ 15000000
+  sum-small : natAbs (z +ℤ r) ≤ mostField + mostLimit
   sum-small = omega (arith, size-add z r, r-small, s .pre .0)
 
   -- what the code computes on the way

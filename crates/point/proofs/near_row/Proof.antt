@@ -9,6 +9,7 @@ use lib.ListN.{length, getD}
 use lib.IntN.{ℤ, pos}
 use mir.Syntax.{w32, w64}
 use mir.Facts.{toZ-ofZ}
+use Rattle.scheme.specs.Units.{mostStations}
 use Rattle.point.specs.Near.{rowGap, Roomy, Near, near-none, near-step, roomy-set}
 use Rattle.point.proofs.near_row.Statement.{statement}
 use Rattle.point.proofs.near_row.Tie as tie
@@ -29,7 +30,7 @@ record Turn (lenx leny lens n k : ℕ) : Type 0 where
   turn : k < lenx
   same-y : leny ≡ lenx
   same-s : lens ≡ lenx
-  few : lenx ≤ 512
+  few : lenx ≤ mostStations
   no-more : n ≤ k
 
 at : (k : lts.In-loop (row-gap-reads.Asked, row-gap-reads.Learnt, one-if-below-reads.Asked, one-if-below-reads.Learnt) reads.Pre reads.Post Inv-loop μ-loop)

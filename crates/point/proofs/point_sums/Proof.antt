@@ -7,6 +7,8 @@ use lib.IntN.{ℤ, natAbs}
 use mir.Syntax.{w64}
 use mir.Val.{toZ, ofZ}
 use Rattle.integers.specs.Words.{bits-back}
+use Rattle.scheme.specs.Units.{mostSide, mostStations}
+use Rattle.scheme.specs.Most.{mostSquare, mostWeights, mostPulls}
 use Rattle.point.specs.Near.{Sized, Down, WithNear, down-none, down-all, down-small, down-next}
 use Rattle.point.proofs.point_sums.Statement.{statement}
 use Rattle.point.proofs.point_sums.Tie as tie
@@ -38,10 +40,10 @@ module _ (s : tie.Start Inv-loop μ-loop) where
   r2 = s .args .r2
 
   module _ (t : ℕ) (w : ℕ) (wd : ℤ) (above : ℕ) (next-is : above ≡ t + 1) (inside : above ≤ n) (behind : Down lx ly ld r2 i n above w wd) where
-    w-small : w ≤ 51200
+    w-small : w ≤ mostWeights
     w-small = omega (arith, down-small lx ly ld r2 i n above w wd (s .pre .3) behind, s .pre .0)
 
-    wd-small : natAbs wd ≤ 102400000000
+    wd-small : natAbs wd ≤ mostPulls
     wd-small = omega (arith, w-small, behind .kept)
 
     wd-back : toZ w64 (ofZ w64 wd) ≡ wd
@@ -50,7 +52,7 @@ module _ (s : tie.Start Inv-loop μ-loop) where
     here : Sized lx ly ld t
     here = s .pre .3 t (omega arith)
 
-    ready : (w ≤ 51200) × (natAbs (toZ w64 (ofZ w64 wd)) ≤ 102400000000) × (t < 512) × (i < 64) × (r2 ≤ 1048576) × Sized lx ly ld t
+    ready : (w ≤ mostWeights) × (natAbs (toZ w64 (ofZ w64 wd)) ≤ mostPulls) × (t < mostStations) × (i < mostSide) × (r2 ≤ mostSquare) × Sized lx ly ld t
     ready = (w-small, rw wd-back wd-small, omega (arith, s .pre .0), s .pre .1, s .pre .2, here)
 
     next : (w' : ℕ) (wd' : ℤ) → WithNear lx ly ld r2 i t w (toZ w64 (ofZ w64 wd)) w' wd' → Down lx ly ld r2 i n t w' wd'

@@ -8,6 +8,7 @@ use lib.IntN.{pos}
 use mir.Syntax.{w32}
 use mir.Val.{toZ}
 use mir.Facts.{toZ-ofZ, toZ-pos}
+use Rattle.scheme.specs.Units.{step}
 use Rattle.point.specs.Near.{rowGap}
 use Rattle.point.proofs.row_gap.Statement.{statement}
 use Rattle.point.proofs.row_gap.Tie as tie
@@ -16,8 +17,8 @@ use Rattle.point.proofs.row_gap.Lts as lts
 use Rattle.weight.proofs.square_apart.Reads as square-apart-reads
 
 -- where the grid row stands
-row-at : (s : lts.Start (square-apart-reads.Asked, square-apart-reads.Learnt) reads.Pre reads.Post) → toZ w32 (64 * s .args .j) ≡ pos (64 * s .args .j)
-row-at s = toZ-pos w32 {n = 64 * s .args .j} (omega (arith, s .pre .0))
+row-at : (s : lts.Start (square-apart-reads.Asked, square-apart-reads.Learnt) reads.Pre reads.Post) → toZ w32 (step * s .args .j) ≡ pos (step * s .args .j)
+row-at s = toZ-pos w32 {n = step * s .args .j} (omega (arith, s .pre .0))
 
 mul-square-apart : tie.Need-mul-square-apart
 mul-square-apart c = search needs

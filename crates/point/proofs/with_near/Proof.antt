@@ -9,6 +9,7 @@ use mir.Syntax.{w32, w64}
 use mir.Val.{toZ, ofZ}
 use mir.Facts.{toZ-pos, toZ-ofZ}
 use Rattle.integers.specs.Words.{bits-back}
+use Rattle.scheme.specs.Units.{step}
 use Rattle.point.specs.Near.{Sized}
 use Rattle.point.proofs.with_near.Statement.{statement}
 use Rattle.point.proofs.with_near.Tie as tie
@@ -33,8 +34,8 @@ module _ (s : lts.Start (squared-distance-reads.Asked, squared-distance-reads.Le
   d-back : toZ w64 (ofZ w64 d) ≡ d
   d-back = bits-back w64 d (omega (arith, here .d-small))
 
-  px-is : toZ w32 (64 * s .args .i) ≡ pos (64 * s .args .i)
-  px-is = toZ-pos w32 {n = 64 * s .args .i} (omega (arith, s .pre .3))
+  px-is : toZ w32 (step * s .args .i) ≡ pos (step * s .args .i)
+  px-is = toZ-pos w32 {n = step * s .args .i} (omega (arith, s .pre .3))
 
   wd-back : toZ w64 (ofZ w64 (s .args .wd)) ≡ s .args .wd
   wd-back = toZ-ofZ (s .fits .wd)

@@ -2,7 +2,6 @@
 use native.Mathlib.Omega.{arith}
 use native.Mathlib.Nat.{mul-le-mul}
 use borrow.Author.Tests.{eq-eqb, ne-eqb}
-use Rattle.scheme.specs.Readings.{cornerBacked}
 use Rattle.reading.proofs.corner_backed.Statement.{statement}
 use Rattle.reading.proofs.corner_backed.Tie as tie
 
@@ -10,11 +9,9 @@ mul-if1 : tie.Need-mul-if1
 mul-if1 c = record { fits = omega (arith, mul-le-mul (c .pre .0) (c .pre .1)) }
 
 returns : tie.Need-returns
-unfolding cornerBacked
 returns c = rw (eq-eqb _ _ (c .if1 .taken))
 
 returns-2 : tie.Need-returns-2
-unfolding cornerBacked
 returns-2 c = rw (ne-eqb _ _ (c .if1 .left))
 
 pub corner-backed-spec : {M : Type 1} → statement M

@@ -1,6 +1,6 @@
 -- `reading::kind_of` meets its contract: each arm knows its case. Assumes nothing.
 use borrow.Author.Needs.{needs}
-use Rattle.scheme.specs.Readings.{kindOf}
+use Rattle.scheme.specs.Readings.{numbersOf}
 use Rattle.reading.proofs.kind_of.Statement.{statement}
 use Rattle.reading.proofs.kind_of.Tie as tie
 
@@ -17,19 +17,19 @@ enum-told-4 : tie.Need-enum-told-4
 enum-told-4 c = search needs
 
 returns : tie.Need-returns
-unfolding kindOf
+unfolding numbersOf
 returns c = rw (c .enum-told .given .1)
 
 returns-2 : tie.Need-returns-2
-unfolding kindOf
+unfolding numbersOf
 returns-2 c = rw (c .enum-told2 .given .1)
 
 returns-3 : tie.Need-returns-3
-unfolding kindOf
+unfolding numbersOf
 returns-3 c = rw (c .enum-told3 .given .1)
 
 returns-4 : tie.Need-returns-4
-unfolding kindOf
+unfolding numbersOf
 returns-4 c = rw (c .enum-told4 .given .1)
 
 pub kind-of-spec : {M : Type 1} → statement M

@@ -1,6 +1,6 @@
 -- `reading::value_of` meets its contract: each arm knows its case, and the literal 0.0 is positive zero. Assumes nothing.
 use borrow.Author.Needs.{needs}
-use Rattle.scheme.specs.Readings.{valueOf}
+use Rattle.scheme.specs.Readings.{numbersOf}
 use Rattle.reading.specs.Point.{zero-is}
 use Rattle.reading.proofs.value_of.Statement.{statement}
 use Rattle.reading.proofs.value_of.Tie as tie
@@ -18,19 +18,19 @@ enum-told-2 : tie.Need-enum-told-2
 enum-told-2 c = search needs
 
 returns : tie.Need-returns
-unfolding valueOf
+unfolding numbersOf
 returns c = rw (c .enum-told .given .1) zero-is
 
 returns-2 : tie.Need-returns-2
-unfolding valueOf
+unfolding numbersOf
 returns-2 c = rw (c .before .r .given .1)
 
 returns-3 : tie.Need-returns-3
-unfolding valueOf
+unfolding numbersOf
 returns-3 c = rw (c .before .r2 .given .1)
 
 returns-4 : tie.Need-returns-4
-unfolding valueOf
+unfolding numbersOf
 returns-4 c = rw (c .enum-told2 .given .1) zero-is
 
 pub value-of-spec : {M : Type 1} → statement M

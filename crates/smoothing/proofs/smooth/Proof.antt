@@ -7,13 +7,14 @@ use mathlib.Core.List.{List}
 use lib.ListN.{replicate, length-replicate}
 use lib.IntN.{ℤ, pos}
 use Rattle.lists.specs.Filled.{Filled, filled-none}
+use Rattle.scheme.specs.Most.{mostPoints}
 use Rattle.smoothing.specs.Pass.{smoothK, row-next, put-back-is}
 use Rattle.smoothing.proofs.smooth.Statement.{statement}
 use Rattle.smoothing.proofs.smooth.Tie as tie
 
 -- the second grid at first
 abbrev blank : List ℤ
-blank = replicate 4096 (pos 0)
+blank = replicate mostPoints (pos 0)
 
 abbrev Inv-loop : tie.InvT-loop
 Inv-loop z nx ny out₀ j₀ out j = (j ≤ ny) × Filled (pos 0) (smoothK z nx ny) 0 (j * nx) blank out
@@ -30,7 +31,7 @@ smooth-row-requires : tie.Need-smooth-row-requires Inv-loop μ-loop
 smooth-row-requires c κs =
     let t = c .before .before in
     let o = t .before in
-    (o .before .pre .0, o .before .pre .1, t .loop-test .taken, o .loop .inv .1 .same-length ∙ length-replicate {A = ℤ} 4096 (pos 0))
+    (o .before .pre .0, o .before .pre .1, t .loop-test .taken, o .loop .inv .1 .same-length ∙ length-replicate {A = ℤ} mostPoints (pos 0))
 
 add-j : tie.Need-add-j Inv-loop μ-loop
 add-j c = omega arith

@@ -8,6 +8,7 @@ use mir.Syntax.{w32, w64}
 use mir.Val.{toZ, ofZ}
 use mir.Facts.{toZ-ofZ, sfits-widen}
 use Rattle.integers.specs.Words.{fits-size, bits-back}
+use Rattle.scheme.specs.Most.{mostDifference}
 use Rattle.verdict.specs.Verdict.{place-fits}
 use Rattle.station.specs.Judge.{OnGrid, diffOf, read-size, diff-size}
 use Rattle.station.proofs.difference.Statement.{statement}
@@ -17,7 +18,7 @@ module _ (s : tie.Start) where
   abbrev D : ℤ
   D = diffOf (s .args .z .now) (s .args .nx) (s .args .ny) (s .args .verdict) (s .args .x) (s .args .y) (s .args .value)
 
-  D-small : natAbs D ≤ 14000000
+  D-small : natAbs D ≤ mostDifference
   D-small =
       diff-size (s .args .z .now) (s .args .nx) (s .args .ny) (s .pre .0) (s .pre .1) (s .args .verdict) (s .args .x) (s .args .y) (s .args .value) (s .pre .2)
 

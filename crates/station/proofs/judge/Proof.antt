@@ -11,6 +11,7 @@ use mir.Val.{toZ, ofZ}
 use mir.Facts.{toZ-ofZ}
 use Rattle.integers.specs.Words.{bits-back}
 use Rattle.lists.specs.Filled.{Filled, filled-none, filled-set}
+use Rattle.scheme.specs.Units.{mostStations}
 use Rattle.station.specs.Judge.{diffOf, diffAt, verdictAt}
 use Rattle.station.proofs.judge.Statement.{statement}
 use Rattle.station.proofs.judge.Tie as tie
@@ -42,7 +43,7 @@ module _ (c : tie.In-loop Inv-loop μ-loop) where
   abbrev k : ℕ
   k = c .before .loop .k
 
-  few : k < 512
+  few : k < mostStations
   few = omega (arith, start .pre .few)
 
   in-d : k < length (c .before .loop .d)

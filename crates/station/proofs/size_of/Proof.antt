@@ -12,6 +12,7 @@ use mir.Val.{Fits, toZ, ofZ}
 use mir.Facts.{toZ-ofZ}
 use Rattle.integers.specs.Order.{less-parts, not-less-parts}
 use Rattle.integers.specs.Words.{fits-size, bits-back}
+use Rattle.scheme.specs.Most.{mostDifference}
 use Rattle.station.proofs.size_of.Statement.{statement}
 use Rattle.station.proofs.size_of.Tie as tie
 
@@ -23,7 +24,7 @@ kept : (d : ℤ) → ltZ d (pos 0) ≡ false → d ≡ pos (natAbs d)
 kept (pos n) e = refl
 kept (negsuc n) e = absurd (omega (arith, not-less-parts (negsuc n) (pos 0) e))
 
-unsigned : (z : ℤ) (n : ℕ) → z ≡ pos n → n ≤ 14000000 → T (nonNeg z) × Fits w64 (natAbs z)
+unsigned : (z : ℤ) (n : ℕ) → z ≡ pos n → n ≤ mostDifference → T (nonNeg z) × Fits w64 (natAbs z)
 unsigned z n e h = rw e (tt, record { fits = omega arith })
 
 module _ (c : tie.Then1) where

@@ -1,17 +1,14 @@
 -- `summary::greater` meets its contract. Assumes nothing.
 use mir.Facts.{toZ-ofZ}
-use Rattle.scheme.specs.Readings.{greater}
 use Rattle.summary.proofs.greater.Statement.{statement}
 use Rattle.summary.proofs.greater.Tie as tie
 
 returns : tie.Need-returns
-unfolding greater
 returns c =
     let f = c .before .fits in
     rw (toZ-ofZ (f .b)) (rw (rw (toZ-ofZ (f .a), toZ-ofZ (f .b)) at (c .if1 .taken)))
 
 returns-2 : tie.Need-returns-2
-unfolding greater
 returns-2 c =
     let f = c .before .fits in
     rw (toZ-ofZ (f .a)) (rw (rw (toZ-ofZ (f .a), toZ-ofZ (f .b)) at (c .if1 .left)))

@@ -1,17 +1,14 @@
 -- `summary::lesser` meets its contract. Assumes nothing.
 use mir.Facts.{toZ-ofZ}
-use Rattle.scheme.specs.Readings.{lesser}
 use Rattle.summary.proofs.lesser.Statement.{statement}
 use Rattle.summary.proofs.lesser.Tie as tie
 
 returns : tie.Need-returns
-unfolding lesser
 returns c =
     let f = c .before .fits in
     rw (toZ-ofZ (f .a)) (rw (rw (toZ-ofZ (f .a), toZ-ofZ (f .b)) at (c .if1 .taken)))
 
 returns-2 : tie.Need-returns-2
-unfolding lesser
 returns-2 c =
     let f = c .before .fits in
     rw (toZ-ofZ (f .b)) (rw (rw (toZ-ofZ (f .a), toZ-ofZ (f .b)) at (c .if1 .left)))

@@ -33,25 +33,25 @@ is-missing-requires c κs = search needs
 returns : tie.Need-returns
 returns c =
     let m = c .before in
-    λ q suits. is-missing q _ _ _ _ _ _ _ _ _ _ suits (sym (rw (toZ-ofZ (m .before .fits .value)) at (m .is-missing .ensures)) ∙ c .if1 .taken)
+    is-missing _ _ _ _ _ _ _ _ _ _ (sym (rw (toZ-ofZ (m .before .fits .value)) at (m .is-missing .ensures)) ∙ c .if1 .taken)
 
 serves-both-requires : tie.Need-serves-both-requires
 serves-both-requires c κs = search needs
 
 returns-2 : tie.Need-returns-2
 returns-2 c =
-    λ q suits. not-serving q _ _ _ _ _ _ _ _ _ _ suits (there (c .before .before))
+    not-serving _ _ _ _ _ _ _ _ _ _ (there (c .before .before))
     (sym (c .before .serves-both .ensures) ∙ not-true _ (c .if2 .taken))
 
 returns-3 : tie.Need-returns-3
 returns-3 c =
     let e = c .before in
-    λ q suits. is-after q _ _ _ _ _ _ _ _ _ _ suits (there (e .before .before)) (serving e) (lt-ltb _ _ (c .if3 .taken))
+    is-after _ _ _ _ _ _ _ _ _ _ (there (e .before .before)) (serving e) (lt-ltb _ _ (c .if3 .taken))
 
 returns-4 : tie.Need-returns-4
 returns-4 c =
     let e = c .before .before in
-    λ q suits. is-old q _ _ _ _ _ _ _ _ _ _ suits (there (e .before .before)) (serving e) (le-ltb _ _ (c .before .if3 .left)) (lt-ltb _ _ (c .if4 .taken))
+    is-old _ _ _ _ _ _ _ _ _ _ (there (e .before .before)) (serving e) (le-ltb _ _ (c .before .if3 .left)) (lt-ltb _ _ (c .if4 .taken))
 
 on-grid-requires : tie.Need-on-grid-requires
 on-grid-requires c κs = search needs
@@ -62,7 +62,7 @@ returns-5 c =
     let e = o .before .before .before in
     let f = e .before .before .before .before .fits in
     let on = rw (toZ-ofZ (f .x), toZ-ofZ (f .y)) at (o .on-grid .ensures) in
-    λ q suits. is-off q _ _ _ _ _ _ _ _ _ _ suits (there (e .before .before)) (serving e) (le-ltb _ _ (o .before .before .if3 .left))
+    is-off _ _ _ _ _ _ _ _ _ _ (there (e .before .before)) (serving e) (le-ltb _ _ (o .before .before .if3 .left))
     (le-ltb _ _ (o .before .if4 .left)) (sym on ∙ not-true _ (c .if5 .taken))
 
 returns-6 : tie.Need-returns-6
@@ -71,7 +71,7 @@ returns-6 c =
     let e = o .before .before .before in
     let f = e .before .before .before .before .fits in
     let on = rw (toZ-ofZ (f .x), toZ-ofZ (f .y)) at (o .on-grid .ensures) in
-    λ q suits. is-accepted q _ _ _ _ _ _ _ _ _ _ suits (there (e .before .before)) (serving e) (le-ltb _ _ (o .before .before .if3 .left))
+    is-accepted _ _ _ _ _ _ _ _ _ _ (there (e .before .before)) (serving e) (le-ltb _ _ (o .before .before .if3 .left))
     (le-ltb _ _ (o .before .if4 .left)) (sym on ∙ not-false _ (c .if5 .left))
 
 pub first-verdict-spec : {M : Type 1} → statement M
