@@ -1,11 +1,13 @@
 // Rows 6 to 8 of the refusal table (document 01): the first bad entry of a plan, value of a first guess, row of the station list.
 ghost use mathlib.Core.Path.{_≡_};
-ghost use mathlib.Core.Bool.{not, _&&_};
-ghost use Prim.Native.Nat.{_≤_, _<_};
+ghost use mathlib.Core.Bool.{Bool, not, _&&_};
+ghost use mathlib.Core.List.{List};
+ghost use Prim.Native.Nat.{ℕ, _≤_, _<_};
 ghost use lib.ListN.{length};
-ghost use Rattle.lists.specs.First.{first, ended};
-ghost use Rattle.scheme.specs.Units.{Request, Columns, stationAt, amongℤ, valueInRange, isMissing};
+ghost use Rattle.lists.specs.First.{first, firstIn, ended};
+ghost use Rattle.scheme.specs.Units.{amongℤ, within, mostValue, isMissing, mostStations, stationsOf, mostScans, Plan};
 ghost use Rattle.scheme.specs.Refusals.{rising, badScan, badGuess, badStation};
+ghost use Rattle.scheme.specs.Promises.{sixColumns};
 ghost use Rattle.scheme.specs.Accepted.{Shaped};
 ghost use Rattle.checks.specs.Tested.{badRow};
 
@@ -31,15 +33,15 @@ fn outside(low: i32, high: i32, v: i32) -> bool
 
 // A value, or a position, out of range.
 fn value_bad(v: i32) -> bool
-    ensures { λ r. ⌜ r ≡ not (valueInRange v) ⌝ }
+    ensures { λ r. ⌜ r ≡ not (within mostValue v) ⌝ }
 {
     outside(-1000000, 1000000, v)
 }
 
 // A radius above the one before it.
 fn rises(radius: &[i32], m: usize) -> bool
-    requires { ⌜ (m < 6) × (m < length (now radius)) ⌝ }
-    ensures { λ r. ⌜ ((q : Request) → q .radius ≡ now (radius .entry) → r ≡ rising q m) ⌝ }
+    requires { ⌜ (m < mostScans) × (m < length (now radius)) ⌝ }
+    ensures { λ r. ⌜ ((p : Plan) → p .radius ≡ now (radius .entry) → r ≡ rising p m) ⌝ }
 {
     if m == 0 {
         return false;
@@ -49,8 +51,8 @@ fn rises(radius: &[i32], m: usize) -> bool
 
 // An entry of a plan: R out of range or rising, or E out of range.
 fn scan_bad(radius: &[i32], limit: &[i32], m: usize) -> bool
-    requires { ⌜ (m < 6) × (m < length (now radius)) × (m < length (now limit)) ⌝ }
-    ensures { λ r. ⌜ ((q : Request) → q .radius ≡ now (radius .entry) → q .limit ≡ now (limit .entry) → r ≡ badScan q m) ⌝ }
+    requires { ⌜ (m < mostScans) × (m < length (now radius)) × (m < length (now limit)) ⌝ }
+    ensures { λ r. ⌜ ((p : Plan) → p .radius ≡ now (radius .entry) → p .limit ≡ now (limit .entry) → r ≡ badScan p m) ⌝ }
 {
     if outside(1, 1024, radius[m]) {
         return true;
@@ -63,7 +65,7 @@ fn scan_bad(radius: &[i32], limit: &[i32], m: usize) -> bool
 
 // A station's value out of range. The mark is none.
 fn reading_bad(v: i32) -> bool
-    ensures { λ r. ⌜ r ≡ not (isMissing v) && not (valueInRange v) ⌝ }
+    ensures { λ r. ⌜ r ≡ not (isMissing v) && not (within mostValue v) ⌝ }
 {
     if is_missing(v) {
         return false;
@@ -89,8 +91,8 @@ fn station_bad(x: i32, y: i32, value: i32, from: u32, until: u32) -> bool
 
 // The first bad entry of a plan, or its count.
 pub fn first_bad_scan(radius: &[i32], limit: &[i32], count: usize) -> usize
-    requires { ⌜ (count ≤ 6) × (count ≤ length (now radius)) × (count ≤ length (now limit)) ⌝ }
-    ensures { λ r. ⌜ ((q : Request) → q .radius ≡ now (radius .entry) → q .limit ≡ now (limit .entry) → ended count r ≡ first count (badScan q)) ⌝ }
+    requires { ⌜ (count ≤ mostScans) × (count ≤ length (now radius)) × (count ≤ length (now limit)) ⌝ }
+    ensures { λ r. ⌜ ((smooth : Bool) → ended count r ≡ first count (badScan (record { scans = count; radius = now (radius .entry); limit = now (limit .entry); smooth = smooth }))) ⌝ }
 {
     let mut m: usize = 0;
     while m < count {
@@ -105,7 +107,7 @@ pub fn first_bad_scan(radius: &[i32], limit: &[i32], count: usize) -> usize
 // The first value of a first guess out of range, or its length.
 pub fn first_bad_guess(first_guess: &[i32], nx: usize, ny: usize) -> usize
     requires { ⌜ Shaped nx ny (length (now «first_guess»)) ⌝ }
-    ensures { λ r. ⌜ ((q : Request) → q .firstGuess ≡ now («first_guess» .entry) → ended (length (now («first_guess» .entry))) r ≡ first (length (now («first_guess» .entry))) (badGuess q)) ⌝ }
+    ensures { λ r. ⌜ ended (length (now («first_guess» .entry))) r ≡ firstIn badGuess (now («first_guess» .entry)) ⌝ }
 {
     'search: loop {
         let mut j: usize = 0;
@@ -125,9 +127,9 @@ pub fn first_bad_guess(first_guess: &[i32], nx: usize, ny: usize) -> usize
 
 // The first bad row of the station list, or its length.
 pub fn first_bad_station(x: &[i32], y: &[i32], value: &[i32], from: &[u32], until: &[u32]) -> usize
-    requires { ⌜ (length (now x) ≤ 512) × (length (now y) ≡ length (now x)) × (length (now value) ≡ length (now x)) × (length (now from) ≡ length (now x)) × (length (now until) ≡ length (now x)) ⌝ }
-    ensures { λ r. ⌜ ((c : Columns) → c .x ≡ now (x .entry) → c .y ≡ now (y .entry) → c .value ≡ now (value .entry) → c .from ≡ now (from .entry) → c .until ≡ now (until .entry)
-        → ended (length (now (x .entry))) r ≡ first (length (now (x .entry))) (λ k. badStation (stationAt c k))) ⌝ }
+    requires { ⌜ (length (now x) ≤ mostStations) × (length (now y) ≡ length (now x)) × (length (now value) ≡ length (now x)) × (length (now from) ≡ length (now x)) × (length (now until) ≡ length (now x)) ⌝ }
+    ensures { λ r. ⌜ ((observed : List ℕ)
+        → ended (length (now (x .entry))) r ≡ firstIn badStation (stationsOf (sixColumns (now (x .entry)) (now (y .entry)) (now (value .entry)) observed (now (from .entry)) (now (until .entry))))) ⌝ }
 {
     let mut k: usize = 0;
     while k < x.len() {

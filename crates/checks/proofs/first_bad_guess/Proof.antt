@@ -8,6 +8,8 @@ use lib.IntN.{pos}
 use mir.Syntax.{w32}
 use mir.Facts.{toZ-ofZ}
 use Rattle.lists.specs.First.{Good, good-more, ends-at, ends-past}
+use Rattle.scheme.specs.Most.{mostPoints}
+use Rattle.scheme.specs.Refusals.{badGuess}
 use Rattle.checks.specs.Tested.{guessBad, of-guess, few-points, in-grid}
 use Rattle.checks.proofs.first_bad_guess.Statement.{statement}
 use Rattle.checks.proofs.first_bad_guess.Tie as tie
@@ -46,7 +48,7 @@ module _ (c : tie.In-loop2 Inv-loop2 μ-loop2 Inv-loop μ-loop Inv-search μ-sea
       in-grid (start .args .nx) (start .args .ny) _ (row .before .loop .j) (c .before .loop2 .i) (start .pre) (row .loop-test .taken)
       (c .loop2-test .taken)
 
-  few : length (start .args .first-guess .now) ≤ 4096
+  few : length (start .args .first-guess .now) ≤ mostPoints
   few = few-points _ _ _ (start .pre)
 
 -- and what its call says
@@ -55,6 +57,7 @@ module _ (c : tie.After-value-bad Inv-loop2 μ-loop2 Inv-loop μ-loop Inv-search
   turn = c .before .before
 
   point-is : c .value-bad .result ≡ guessBad (start turn .args .first-guess .now) (point turn)
+  unfolding badGuess
   point-is =
       let e = toZ-ofZ {w = w32} (sfits-of {z = getD (start turn .args .first-guess .now) (point turn) (pos 0)} (c .before .value-bad-arg .given)) in
       rw e at (c .value-bad .ensures)
@@ -127,8 +130,9 @@ mul-result-2 c =
 returns : tie.Need-returns Inv-loop2 μ-loop2 Inv-loop μ-loop Inv-search μ-search
 returns c =
     let t = turn (c .before) in
-    let bad = guessBad (start t .args .first-guess .now) in
-    λ q e. of-guess q _ _ (point t) e
+    let z = start t .args .first-guess .now in
+    let bad = guessBad z in
+    of-guess z (point t)
     (ends-at _ bad (point t) (in-it t) (t .before .loop2 .inv .1) (sym (point-is (c .before)) ∙ c .if1 .taken))
 
 returns-2 : tie.Need-returns-2 Inv-loop2 μ-loop2 Inv-loop μ-loop Inv-search μ-search
@@ -139,7 +143,7 @@ returns-2 c =
     let r = s .args .ny * s .args .nx in
     let whole : length z ≡ r = omega (arith, s .pre .whole) in
     let j : l .j ≡ s .args .ny = omega arith in
-    λ q e. of-guess q z (length z) r e (ends-past (length z) (guessBad z) r (omega arith) (rw whole (rw j at (l .inv .1))))
+    of-guess z r (ends-past (length z) (guessBad z) r (omega arith) (rw whole (rw j at (l .inv .1))))
 
 pub first-bad-guess-spec : {M : Type 1} → statement M
 first-bad-guess-spec =

@@ -9,6 +9,7 @@ use lib.IntN.{pos}
 use mir.Syntax.{w32}
 use mir.Facts.{toZ-ofZ}
 use Rattle.lists.specs.First.{Good, good-more, ends-at, ends-past}
+use Rattle.scheme.specs.Units.{mostStations}
 use Rattle.checks.specs.Tested.{rowBad, of-columns}
 use Rattle.checks.proofs.first_bad_station.Statement.{statement}
 use Rattle.checks.proofs.first_bad_station.Tie as tie
@@ -31,7 +32,7 @@ module _ (c : tie.In-loop Inv-loop μ-loop) where
   abbrev k : ℕ
   k = c .before .loop .k
 
-  few : k < 512
+  few : k < mostStations
   few = omega (arith, start .pre .0)
 
 -- and what its call says
@@ -87,7 +88,7 @@ station-bad-requires c κs = tt
 returns : tie.Need-returns Inv-loop μ-loop
 returns c =
     let t = turn (c .before) in
-    λ s ex ey ev ef eu. of-columns s _ _ _ _ _ _ _ ex ey ev ef eu
+    λ observed. of-columns _ _ _ observed _ _ (k t)
     (ends-at _ (bad (start t)) (k t) (t .loop-test .taken) (t .before .loop .inv .1) (sym (row-is (c .before)) ∙ c .if1 .taken))
 
 add-k : tie.Need-add-k Inv-loop μ-loop
@@ -105,8 +106,8 @@ returns-2 : tie.Need-returns-2 Inv-loop μ-loop
 returns-2 c =
     let l = c .before .loop in
     let e : l .k ≡ length (c .before .before .before .before .args .x .now) = omega arith in
-    λ s ex ey ev ef eu. of-columns s _ _ _ _ _ _ _ ex ey ev ef eu
-    (ends-past _ (bad (c .before .before .before .before)) _ (omega arith) (rw e at (l .inv .1)))
+    λ observed. of-columns _ _ _ observed _ _ (l .k)
+    (ends-past _ (bad (c .before .before .before .before)) (l .k) (omega arith) (rw e at (l .inv .1)))
 
 pub first-bad-station-spec : {M : Type 1} → statement M
 first-bad-station-spec =

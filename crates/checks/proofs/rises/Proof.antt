@@ -12,7 +12,7 @@ use Rattle.checks.proofs.rises.Tie as tie
 
 returns : tie.Need-returns
 unfolding rising
-returns c = λ q e. rw (c .if1 .taken)
+returns c = λ p e. rw (c .if1 .taken)
 
 sub-result : tie.Need-sub-result
 sub-result c = search needs
@@ -35,7 +35,7 @@ returns-2 c =
     let r = s .args .radius .now in
     let before = toZ-ofZ {w = w32} (sfits-of {z = getD r (s .args .m - 1) (pos 0)} (c .before .result .given)) in
     let here = toZ-ofZ {w = w32} (sfits-of {z = getD r (s .args .m) (pos 0)} (c .result2 .given)) in
-    λ q e. rw (before, here, ← e) (rising-after q (s .args .m) (c .before .before .if1 .left))
+    λ p e. rw (before, here, ← e) (rising-after p (s .args .m) (c .before .before .if1 .left))
 
 pub rises-spec : {M : Type 1} → statement M
 rises-spec =

@@ -6,7 +6,7 @@ use lib.ListN.{getD}
 use lib.IntN.{pos}
 use mir.Syntax.{w32}
 use mir.Facts.{toZ-ofZ}
-use Rattle.scheme.specs.Units.{Request, amongℤ, mostRadius, mostLimit}
+use Rattle.scheme.specs.Units.{amongℤ, mostRadius, mostLimit, Plan}
 use Rattle.scheme.specs.Refusals.{rising, badScan}
 use Rattle.checks.proofs.scan_bad.Statement.{statement}
 use Rattle.checks.proofs.scan_bad.Tie as tie
@@ -25,8 +25,8 @@ module _ (c : tie.After-rises) where
   abbrev tested : tie.After-outside
   tested = c .before .before
 
-  rising-is : (q : Request) → q .radius ≡ start tested .args .radius .now → c .rises .result ≡ rising q (start tested .args .m)
-  rising-is q e = c .rises .ensures q e
+  rising-is : (p : Plan) → p .radius ≡ start tested .args .radius .now → c .rises .result ≡ rising p (start tested .args .m)
+  rising-is p e = c .rises .ensures p e
 
 module _ (c : tie.After-outside2) where
   abbrev begin : tie.Start
@@ -48,7 +48,7 @@ outside-requires c κs = search needs
 
 returns : tie.Need-returns
 unfolding badScan
-returns c = λ q er el. rw (er, ← (radius-is (c .before)), c .if1 .taken)
+returns c = λ p er el. rw (er, ← (radius-is (c .before)), c .if1 .taken)
 
 rises-requires : tie.Need-rises-requires
 rises-requires c κs = search needs
@@ -57,7 +57,7 @@ returns-2 : tie.Need-returns-2
 unfolding badScan
 returns-2 c =
     let r = c .before in
-    λ q er el. rw (← (rising-is r q er), c .if2 .taken, er, ← (radius-is (tested r)), r .before .if1 .left)
+    λ p er el. rw (← (rising-is r p er), c .if2 .taken, er, ← (radius-is (tested r)), r .before .if1 .left)
 
 mul-outside-2 : tie.Need-mul-outside-2
 mul-outside-2 c = search needs
@@ -73,7 +73,7 @@ unfolding badScan
 returns-3 c =
     let f = c .before .before in
     let r = f .before in
-    λ q er el. rw (← (rising-is r q er), f .if2 .left, er, el, ← (radius-is (tested r)), r .before .if1 .left) (limit-is c)
+    λ p er el. rw (← (rising-is r p er), f .if2 .left, er, el, ← (radius-is (tested r)), r .before .if1 .left) (limit-is c)
 
 pub scan-bad-spec : {M : Type 1} → statement M
 scan-bad-spec =

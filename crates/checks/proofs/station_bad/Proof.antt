@@ -3,7 +3,7 @@ use borrow.Author.Needs.{needs}
 use mathlib.Core.Path.{_≡_}
 use mathlib.Core.Bool.{not, _&&_}
 use mir.Facts.{toZ-ofZ}
-use Rattle.scheme.specs.Units.{valueInRange, isMissing}
+use Rattle.scheme.specs.Units.{within, mostValue, isMissing, mostPosition}
 use Rattle.scheme.specs.Refusals.{badStation}
 use Rattle.checks.specs.Tested.{badRow}
 use Rattle.checks.proofs.station_bad.Statement.{statement}
@@ -11,15 +11,15 @@ use Rattle.checks.proofs.station_bad.Tie as tie
 
 -- what each call says
 module _ (c : tie.After-reading-bad) where
-  reading-is : c .reading-bad .result ≡ not (isMissing (c .before .args .value)) && not (valueInRange (c .before .args .value))
+  reading-is : c .reading-bad .result ≡ not (isMissing (c .before .args .value)) && not (within mostValue (c .before .args .value))
   reading-is = rw (toZ-ofZ (c .before .fits .value)) at (c .reading-bad .ensures)
 
 module _ (c : tie.After-value-bad) where
-  x-is : c .value-bad .result ≡ not (valueInRange (c .before .before .before .args .x))
+  x-is : c .value-bad .result ≡ not (within mostPosition (c .before .before .before .args .x))
   x-is = rw (toZ-ofZ (c .before .before .before .fits .x)) at (c .value-bad .ensures)
 
 module _ (c : tie.After-value-bad2) where
-  y-is : c .value-bad2 .result ≡ not (valueInRange (c .before .before .before .before .before .args .y))
+  y-is : c .value-bad2 .result ≡ not (within mostPosition (c .before .before .before .before .before .args .y))
   y-is = rw (toZ-ofZ (c .before .before .before .before .before .fits .y)) at (c .value-bad2 .ensures)
 
 reading-bad-requires : tie.Need-reading-bad-requires
