@@ -1,20 +1,20 @@
 -- The stations of the cut, as a loop keeps them: each is put after those kept, and counted if it is on the cut.
-use Prim.Native.Nat.{ℕ, _+_, _*_, _≤_, _<_}
+use Prim.Native.Nat.{ℕ, _+_, _-_, _*_, _≤_, _<_}
 use native.Mathlib.Omega.{arith}
 use mathlib.Core.Path.{_≡_, refl, sym, ap, _∙_}
-use mathlib.Core.Bool.{Bool, true, false, cond, _&&_}
+use mathlib.Core.Bool.{Bool, true, false, cond}
 use mathlib.Core.List.{List, [], _∷_, _++_, map}
 use lib.ListN.{length, getD, set, length-set}
 use lib.Seq.{getD-set-same, getD-set-other}
 use lib.IntN.{ℤ, pos, natAbs, _-ℤ_}
 use Rattle.lists.specs.Tab.{tab, tab-same, tab-more}
 use Rattle.lists.specs.Keep.{keep}
-use Rattle.scheme.specs.Units.{Columns, Station, stationAt, step, mostPosition}
-use Rattle.scheme.specs.Reach.{Span, onSpan, counted}
+use Rattle.scheme.specs.Units.{mostSide, step, mostStations, Station, mostPosition, Columns, stationAt}
+use Rattle.scheme.specs.Refusals.{Window}
+use Rattle.scheme.specs.Reach.{onWindow, counted}
 use Rattle.scheme.specs.Accepted.{Equal}
-use Rattle.verdict.specs.Verdict.{stationOf}
 
--- ---- columns with room for 512 rows
+-- ---- columns with room for every station
 
 -- row m becomes station s
 abbrev pub putAt : Columns → ℕ → Station → Columns
@@ -29,12 +29,12 @@ putAt c m s =
     }
 
 pub record Long (c : Columns) : Type 0 where
-  pub x : length (c .x) ≡ 512
-  pub y : length (c .y) ≡ 512
-  pub value : length (c .value) ≡ 512
-  pub observed : length (c .observed) ≡ 512
-  pub from : length (c .from) ≡ 512
-  pub until : length (c .until) ≡ 512
+  pub x : length (c .x) ≡ mostStations
+  pub y : length (c .y) ≡ mostStations
+  pub value : length (c .value) ≡ mostStations
+  pub observed : length (c .observed) ≡ mostStations
+  pub from : length (c .from) ≡ mostStations
+  pub until : length (c .until) ≡ mostStations
 
 module _ (c : Columns) (m : ℕ) (s : Station) where
   put-long : Long c → Long (putAt c m s)
@@ -61,7 +61,7 @@ module _ (c : Columns) (m : ℕ) (s : Station) where
         getD-set-other (c .until) m k (s .until) 0 n,
       )
 
-  put-same : Long c → m < 512 → stationAt (putAt c m s) m ≡ s
+  put-same : Long c → m < mostStations → stationAt (putAt c m s) m ≡ s
   unfolding stationAt
   put-same l h =
       rw (
@@ -93,63 +93,58 @@ kept-same {A = A} p a (b ∷ l) e = ap (λ (r : List A). cond (p b) (b ∷ r) r)
 
 -- ---- the loop
 
--- on the cut of these two spans
-abbrev pub onSpans : (columns rows : Span) → Station → Bool
-onSpans columns rows s = onSpan columns (s .x) && onSpan rows (s .y)
-
 -- what the loop needs
-pub record KeepReady (columns rows : Span) (all : Columns) : Type 0 where
+pub record KeepReady (w : Window) (all : Columns) : Type 0 where
   pub equal : Equal all
   pub x : (k : ℕ) → k < length (all .x) → natAbs (getD (all .x) k (pos 0)) ≤ mostPosition
   pub y : (k : ℕ) → k < length (all .x) → natAbs (getD (all .y) k (pos 0)) ≤ mostPosition
-  pub columns-first : columns .first ≤ 63
-  pub columns-last : columns .last ≤ 63
-  pub rows-first : rows .first ≤ 63
-  pub rows-last : rows .last ≤ 63
+  pub columns-first : w .columns .first ≤ mostSide - 1
+  pub columns-last : w .columns .last ≤ mostSide - 1
+  pub rows-first : w .rows .first ≤ mostSide - 1
+  pub rows-last : w .rows .last ≤ mostSide - 1
 
 -- the first m rows of c are the cut of the first k rows of all
-pub record Kept (columns rows : Span) (all c : Columns) (k m : ℕ) : Type 0 where
+pub record Kept (w : Window) (all c : Columns) (k m : ℕ) : Type 0 where
   pub no-more : m ≤ k
-  pub stations : tab m (stationAt c) ≡ map (counted columns rows) (keep (onSpans columns rows) (tab k (stationAt all)))
+  pub stations : tab m (stationAt c) ≡ map (counted w) (keep (onWindow w) (tab k (stationAt all)))
 
-module _ (columns rows : Span) (all : Columns) where
-  pub kept-none : (c : Columns) → Kept columns rows all c 0 0
+module _ (w : Window) (all : Columns) where
+  pub kept-none : (c : Columns) → Kept w all c 0 0
   unfolding tab keep
   kept-none c = record { no-more = omega arith; stations = refl }
 
-  kept-next : (c : Columns) (k m : ℕ) (s : Station) → Long c → m < 512 → s ≡ counted columns rows (stationAt all k) → Kept columns rows all c k m
-      → Kept columns rows all (putAt c m s) (k + 1) (m + cond (onSpans columns rows (stationAt all k)) 1 0)
-  kept-next c k m s l h e p = go (onSpans columns rows (stationAt all k)) refl
+  kept-next : (c : Columns) (k m : ℕ) (s : Station) → Long c → m < mostStations → s ≡ counted w (stationAt all k) → Kept w all c k m
+      → Kept w all (putAt c m s) (k + 1) (m + cond (onWindow w (stationAt all k)) 1 0)
+  kept-next c k m s l h e p = go (onWindow w (stationAt all k)) refl
     where
-      before : tab m (stationAt (putAt c m s)) ≡ map (counted columns rows) (keep (onSpans columns rows) (tab k (stationAt all)))
+      before : tab m (stationAt (putAt c m s)) ≡ map (counted w) (keep (onWindow w) (tab k (stationAt all)))
       before = tab-same m (stationAt (putAt c m s)) (stationAt c) (λ i q. put-other c m s i q) ∙ p .stations
 
-      go : (t : Bool) → onSpans columns rows (stationAt all k) ≡ t → Kept columns rows all (putAt c m s) (k + 1) (m + cond t 1 0)
+      go : (t : Bool) → onWindow w (stationAt all k) ≡ t → Kept w all (putAt c m s) (k + 1) (m + cond t 1 0)
       go true q =
           record {
             no-more = omega (arith, p .no-more);
             stations =
                 tab-more m (stationAt (putAt c m s))
-                ∙ rw (before, put-same c m s l h, e, tab-more k (stationAt all)) (sym (kept-more (onSpans columns rows) (counted columns rows) (stationAt all k) (tab k (stationAt all)) q));
+                ∙ rw (before, put-same c m s l h, e, tab-more k (stationAt all)) (sym (kept-more (onWindow w) (counted w) (stationAt all k) (tab k (stationAt all)) q));
           }
       go false q =
           let z : m + 0 ≡ m = omega arith in
           rw z
           (record {
             no-more = omega (arith, p .no-more);
-            stations = before ∙ rw (tab-more k (stationAt all), kept-same (onSpans columns rows) (stationAt all k) (tab k (stationAt all)) q);
+            stations = before ∙ rw (tab-more k (stationAt all), kept-same (onWindow w) (stationAt all k) (tab k (stationAt all)) q);
           })
 
   -- a turn, of the numbers that the code has
   module _ (k : ℕ) where
-    pub counted-is : {x y value : ℤ} → x ≡ getD (all .x) k (pos 0) -ℤ pos (step * columns .first) → y ≡ getD (all .y) k (pos 0) -ℤ pos (step * rows .first)
+    pub counted-is : {x y value : ℤ} → x ≡ getD (all .x) k (pos 0) -ℤ pos (step * w .columns .first) → y ≡ getD (all .y) k (pos 0) -ℤ pos (step * w .rows .first)
         → value ≡ getD (all .value) k (pos 0)
-        → stationOf x y value (getD (all .observed) k 0) (getD (all .from) k 0) (getD (all .until) k 0) ≡ counted columns rows (stationAt all k)
+        → record { x = x; y = y; value = value; observed = getD (all .observed) k 0; from = getD (all .from) k 0; until = getD (all .until) k 0 } ≡ counted w (stationAt all k)
     unfolding counted stationAt
     counted-is ex ey ev = rw (ex, ey, ev)
 
-    pub kept-turn : {c c' : Columns} {m n : ℕ} {s : Station} → Long c → m < 512 → c' ≡ putAt c m s → s ≡ counted columns rows (stationAt all k)
-        → n ≡ cond (onSpan columns (getD (all .x) k (pos 0)) && onSpan rows (getD (all .y) k (pos 0))) 1 0
-        → Kept columns rows all c k m → Long c' × Kept columns rows all c' (k + 1) (m + n)
-    unfolding stationAt
+    pub kept-turn : {c c' : Columns} {m n : ℕ} {s : Station} → Long c → m < mostStations → c' ≡ putAt c m s → s ≡ counted w (stationAt all k)
+        → n ≡ cond (onWindow w (stationAt all k)) 1 0
+        → Kept w all c k m → Long c' × Kept w all c' (k + 1) (m + n)
     kept-turn {c = c} {m = m} {s = s} l h e es en p = rw (e, en) (put-long c m s l, kept-next c k m s l h es p)

@@ -7,7 +7,8 @@ use mathlib.Core.List.{List}
 use lib.Arith.{digits-div, digits-mod}
 use lib.ListN.{length, getD, set}
 use Rattle.lists.specs.Filled.{Filled, filled-none, filled-set, filled-join, filled-all}
-use Rattle.scheme.specs.Units.{Field, stored, fieldOf}
+use Rattle.scheme.specs.Units.{mostSide, Field, stored, fieldOf}
+use Rattle.scheme.specs.Most.{mostPoints}
 use Rattle.scheme.specs.Accepted.{Shaped}
 
 -- ---- a row: n elements from one place to another
@@ -17,9 +18,9 @@ abbrev pub copied : {A : Type 0} → A → (at : ℕ) → List A → (place : �
 copied past at from place k = getD from (place + (k - at)) past
 
 pub record CopyReady (to at from place n : ℕ) : Type 0 where
-  pub to-few : to ≤ 4096
+  pub to-few : to ≤ mostPoints
   pub to-room : at + n ≤ to
-  pub from-few : from ≤ 4096
+  pub from-few : from ≤ mostPoints
   pub from-room : place + n ≤ from
 
 module _ {A : Type 0} (past : A) (at : ℕ) (from : List A) (place : ℕ) where
@@ -39,10 +40,10 @@ partOf past across column row from i j = fieldOf past across from (i + column) (
 
 pub record PartReady (to from across column row wide high : ℕ) : Type 0 where
   pub to-is : to ≡ wide * high
-  pub to-few : to ≤ 4096
-  pub from-few : from ≤ 4096
+  pub to-few : to ≤ mostPoints
+  pub from-few : from ≤ mostPoints
   pub columns : column + wide ≤ across
-  pub few-rows : row + high ≤ 64
+  pub few-rows : row + high ≤ mostSide
   pub rows : (row + high) * across ≤ from
 
 -- of a grid of that many columns
@@ -58,10 +59,10 @@ part-ready {from = from} {across = across} {down = down} {row = row} {wide = wid
       rows = omega (arith, mul-le-mul-right across r, s .whole, mul-comm across down);
     }
   where
-    narrow : wide ≤ 64
+    narrow : wide ≤ mostSide
     narrow = omega (arith, s .few-columns)
 
-    low : high ≤ 64
+    low : high ≤ mostSide
     low = omega (arith, s .few-rows)
 
 -- what the part has at place k

@@ -4,10 +4,8 @@ ghost use Prim.Native.Nat.{_+_, _<_};
 ghost use lib.ListN.{length};
 ghost use lib.IntN.{pos};
 ghost use Rattle.lists.specs.Filled.{Filled};
-ghost use Rattle.scheme.specs.Units.{stored};
-ghost use Rattle.scheme.specs.Promises.{sixColumns};
-ghost use Rattle.verdict.specs.Verdict.{stationOf};
-ghost use Rattle.spans.specs.Spans.{fromTo};
+ghost use Rattle.scheme.specs.Units.{stored, mostStations};
+ghost use Rattle.scheme.specs.Promises.{sixColumns, windowAt};
 ghost use Rattle.cut.specs.Kept.{putAt, Long, KeepReady, Kept};
 ghost use Rattle.cut.specs.Part.{copied, CopyReady, partOf, PartReady};
 
@@ -29,9 +27,9 @@ fn put_station(
     from: u32,
     until: u32,
 )
-    requires { ⌜ m < 512 ⌝ }
+    requires { ⌜ m < mostStations ⌝ }
     ensures { λ u. ⌜ sixColumns (now (kx .exit)) (now (ky .exit)) (now (kvalue .exit)) (now (kobserved .exit)) (now (kfrom .exit)) (now (kuntil .exit))
-        ≡ putAt (sixColumns (now (kx .entry)) (now (ky .entry)) (now (kvalue .entry)) (now (kobserved .entry)) (now (kfrom .entry)) (now (kuntil .entry))) m (stationOf x y value observed from until) ⌝ }
+        ≡ putAt (sixColumns (now (kx .entry)) (now (ky .entry)) (now (kvalue .entry)) (now (kobserved .entry)) (now (kfrom .entry)) (now (kuntil .entry))) m (record { x = x; y = y; value = value; observed = observed; from = from; until = until }) ⌝ }
 {
     kx[m] = x;
     ky[m] = y;
@@ -59,10 +57,10 @@ pub fn keep_stations(
     from: &[u32],
     until: &[u32],
 ) -> usize
-    requires { ⌜ KeepReady (fromTo (columns .first) (columns .last)) (fromTo (rows .first) (rows .last)) (sixColumns (now x) (now y) (now value) (now observed) (now from) (now until))
+    requires { ⌜ KeepReady (windowAt (columns .first) (columns .last) (rows .first) (rows .last)) (sixColumns (now x) (now y) (now value) (now observed) (now from) (now until))
         × Long (sixColumns (now kx) (now ky) (now kvalue) (now kobserved) (now kfrom) (now kuntil)) ⌝ }
     ensures { λ m. ⌜ Long (sixColumns (now (kx .exit)) (now (ky .exit)) (now (kvalue .exit)) (now (kobserved .exit)) (now (kfrom .exit)) (now (kuntil .exit)))
-        × Kept (fromTo (columns .first) (columns .last)) (fromTo (rows .first) (rows .last)) (sixColumns (now (x .entry)) (now (y .entry)) (now (value .entry)) (now (observed .entry)) (now (from .entry)) (now (until .entry))) (sixColumns (now (kx .exit)) (now (ky .exit)) (now (kvalue .exit)) (now (kobserved .exit)) (now (kfrom .exit)) (now (kuntil .exit))) (length (now (x .entry))) m ⌝ }
+        × Kept (windowAt (columns .first) (columns .last) (rows .first) (rows .last)) (sixColumns (now (x .entry)) (now (y .entry)) (now (value .entry)) (now (observed .entry)) (now (from .entry)) (now (until .entry))) (sixColumns (now (kx .exit)) (now (ky .exit)) (now (kvalue .exit)) (now (kobserved .exit)) (now (kfrom .exit)) (now (kuntil .exit))) (length (now (x .entry))) m ⌝ }
 {
     let mut m: usize = 0;
     let mut k: usize = 0;

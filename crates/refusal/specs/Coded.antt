@@ -7,11 +7,12 @@ use mathlib.Core.List.{List, [], _∷_}
 use borrow.Author.Tests.{lt-ltb, le-ltb}
 use lib.ListN.{length}
 use lib.IntN.{ℤ}
-use Rattle.lists.specs.First.{Found, nowhere, at, first, ended}
-use Rattle.scheme.specs.Units.{Request, stationAt}
-use Rattle.scheme.specs.Refusals.{Refusal, accepted, refused, asOne, unlessRefused, inOrder, refusedIf, refusedAt, Window, badWindow, badWindowLengths, badScan, badGuess, badStation, fromFour}
+use Rattle.lists.specs.First.{Found, nowhere, at, first, firstIn, ended}
+use Rattle.scheme.specs.Units.{mostStations, mostScans, Request, Call, asked}
+use Rattle.scheme.specs.Refusals.{Refusal, accepted, refused, asOne, unlessRefused, inOrder, refusedIf, refusedAt, Window, badWindow, pointsAlong, badLengths, badColumns, badScan, badGuess, badStation, fromFive}
 use Rattle.scheme.specs.Accepted.{Shaped}
-use Rattle.scheme.specs.Promises.{both, Settles}
+use Rattle.scheme.specs.Promises.{Settles}
+use Rattle.scheme.specs.OneOutcome.{both}
 
 -- the number says the refusal, and 0 says that there is none
 pub record Coded (r : ℕ) (f : Refusal) : Type 0 where
@@ -31,30 +32,33 @@ module _ {A : Type 0} (result found : A) {r : ℕ} {f : Refusal} (c : Coded r f)
   pub works : {left : A} → r ≡ 0 → left ≡ result → Settles f result found 0 left
   works none e = both (sym none ∙ c .same) (e ∙ rw (c .only none))
 
--- ---- rows 2 to 8 of the window query
+-- ---- the rows from 4 on, which the two calls share, and those from 2 on of the window query
 
-abbrev pub fromTwo : Request → Window → (grid support : ℕ) → List Refusal
-fromTwo q w grid support =
-    refusedIf 2 (badWindow q w)
-    ∷ refusedIf 3 (badWindowLengths w grid support)
-    ∷ fromFour q
+abbrev pub fromFour : Call → List Refusal
+fromFour c = refusedIf 4 (badColumns (c .stations)) ∷ fromFive (asked c)
 
--- ---- rows 6 to 8
+abbrev pub fromTwo : Call → Window → (grid support : ℕ) → List Refusal
+fromTwo c w grid support =
+    refusedIf 2 (badWindow (c .nx) (c .ny) w)
+    ∷ refusedIf 3 (badLengths (pointsAlong (w .columns) * pointsAlong (w .rows)) grid support)
+    ∷ fromFour c
+
+-- ---- the rows from 6 on, which search the request
 
 abbrev pub fromSix : Request → List Refusal
 fromSix q =
-    refusedAt 6 (first (q .scans) (badScan q))
-    ∷ refusedAt 7 (first (length (q .firstGuess)) (badGuess q))
-    ∷ refusedAt 8 (first (length (q .columns .x)) (λ k. badStation (stationAt (q .columns) k)))
+    refusedAt 6 (first (q .plan .scans) (badScan (q .plan)))
+    ∷ refusedAt 7 (firstIn badGuess (q .firstGuess))
+    ∷ refusedAt 8 (firstIn badStation (q .stations))
     ∷ []
 
 -- what their tests need of the rows before
 pub record SixReady (nx ny : ℕ) (fg xs ys vs : List ℤ) (fs us : List ℕ) (scans : ℕ) (radius limit : List ℤ) : Type 0 where
   pub shape : Shaped nx ny (length fg)
-  pub scans-few : scans ≤ 6
+  pub scans-few : scans ≤ mostScans
   pub radii : scans ≤ length radius
   pub limits : scans ≤ length limit
-  pub few : length xs ≤ 512
+  pub few : length xs ≤ mostStations
   pub y : length ys ≡ length xs
   pub value : length vs ≡ length xs
   pub from : length fs ≡ length xs

@@ -1,9 +1,10 @@
 // Rows 1 to 5 of the refusal table (document 01), whose place is 0: a test for each, on lengths and counts alone.
 ghost use mathlib.Core.Path.{_≡_};
 ghost use mathlib.Core.Bool.{not, _||_};
-ghost use lib.Dec.{eqb, leb, ltb};
-ghost use Rattle.scheme.specs.Units.{among, mostScans, mostStations};
-ghost use Rattle.scheme.specs.Refusals.{badShape};
+ghost use lib.Dec.{eqb, ltb};
+ghost use Rattle.scheme.specs.Units.{among, mostStations, mostScans};
+ghost use Rattle.scheme.specs.Refusals.{badShape, badWindow, badLengths};
+ghost use Rattle.scheme.specs.Promises.{windowAt};
 
 // 1: nx or ny out of 2..64, or the field is not nx·ny long
 pub fn shape_bad(nx: usize, ny: usize, len: usize) -> bool
@@ -33,7 +34,7 @@ pub fn window_bad(
     top: usize,
     bottom: usize,
 ) -> bool
-    ensures { λ r. ⌜ r ≡ ltb right left || ltb bottom top || leb nx right || leb ny bottom ⌝ }
+    ensures { λ r. ⌜ r ≡ badWindow nx ny (windowAt left right top bottom) ⌝ }
 {
     if right < left {
         return true;
@@ -49,7 +50,7 @@ pub fn window_bad(
 
 // 3: a result slice of the wrong length
 pub fn lengths_bad(points: usize, rows: usize, grid: usize, support: usize, verdict: usize) -> bool
-    ensures { λ r. ⌜ r ≡ not (eqb grid points) || not (eqb support points) || not (eqb verdict rows) ⌝ }
+    ensures { λ r. ⌜ r ≡ badLengths points grid support || not (eqb verdict rows) ⌝ }
 {
     if grid != points {
         return true;
@@ -62,7 +63,7 @@ pub fn lengths_bad(points: usize, rows: usize, grid: usize, support: usize, verd
 
 // The same for the window query, whose two results are as long as the window.
 pub fn window_lengths_bad(points: usize, grid: usize, support: usize) -> bool
-    ensures { λ r. ⌜ r ≡ not (eqb grid points) || not (eqb support points) ⌝ }
+    ensures { λ r. ⌜ r ≡ badLengths points grid support ⌝ }
 {
     if grid != points {
         return true;

@@ -1,11 +1,14 @@
 // The reach of a window and the spans of the cut (document 01, "Reach of a window"), along one axis at a time.
 ghost use mathlib.Core.Path.{_≡_};
-ghost use mathlib.Core.Bool.{cond, _&&_};
+ghost use mathlib.Core.Bool.{cond};
+ghost use mathlib.Core.List.{List};
 ghost use Prim.Native.Nat.{_+_, _-_, _*_, _/_, _≤_, _<_, min};
-ghost use lib.IntN.{pos, natAbs, _-ℤ_};
-ghost use Rattle.scheme.specs.Units.{Request, step, mostRadius, mostPosition};
-ghost use Rattle.scheme.specs.Reach.{reach, widened, onSpan};
-ghost use Rattle.spans.specs.Spans.{fromTo, Planned, Plans, mostReach};
+ghost use lib.IntN.{ℤ, pos, natAbs, _-ℤ_};
+ghost use Rattle.scheme.specs.Units.{mostSide, step, Station, mostPosition, mostRadius};
+ghost use Rattle.scheme.specs.Reach.{reach, widened, onSpan, onWindow};
+ghost use Rattle.scheme.specs.Promises.{windowAt};
+ghost use Rattle.scheme.specs.Most.{mostReach};
+ghost use Rattle.spans.specs.Spans.{fromTo, Radii};
 
 // ---- the reach, and the spans of the cut
 
@@ -20,8 +23,8 @@ fn steps(radius: u32, smooth: bool) -> usize
 
 // The total over the scans of the plan.
 pub fn reach(radius: &[i32], count: usize, smooth: bool) -> usize
-    requires { ⌜ Planned (now radius) count ⌝ }
-    ensures { λ r. ⌜ (r ≤ mostReach) × ((q : Request) → Plans q (now (radius .entry)) count smooth → r ≡ reach q) ⌝ }
+    requires { ⌜ Radii (now radius) count ⌝ }
+    ensures { λ r. ⌜ (r ≤ mostReach) × ((limit : List ℤ) → r ≡ reach (record { scans = count; radius = now (radius .entry); limit = limit; smooth = smooth })) ⌝ }
 {
     let mut total: usize = 0;
     let mut m: usize = 0;
@@ -53,8 +56,8 @@ fn lower(a: usize, b: usize) -> usize
 
 // The window widened by the reach, cut at the edge of a grid of n points along this axis.
 pub fn widened(reach: usize, n: usize, first: usize, last: usize) -> Span
-    requires { ⌜ (reach ≤ mostReach) × (last < n) × (n ≤ 64) ⌝ }
-    ensures { λ r. ⌜ fromTo (r .first) (r .last) ≡ widened reach n first last ⌝ }
+    requires { ⌜ (reach ≤ mostReach) × (last < n) × (n ≤ mostSide) ⌝ }
+    ensures { λ r. ⌜ fromTo (r .first) (r .last) ≡ widened reach n (fromTo first last) ⌝ }
 {
     Span {
         first: less(first, reach),
@@ -66,7 +69,7 @@ pub fn widened(reach: usize, n: usize, first: usize, last: usize) -> Span
 
 // On a span, its ends included.
 fn on_span(span: Span, x: i32) -> bool
-    requires { ⌜ (span .first ≤ 63) × (span .last ≤ 63) ⌝ }
+    requires { ⌜ (span .first ≤ mostSide - 1) × (span .last ≤ mostSide - 1) ⌝ }
     ensures { λ r. ⌜ r ≡ onSpan (fromTo (span .first) (span .last)) x ⌝ }
 {
     if x < 0 {
@@ -81,8 +84,8 @@ fn on_span(span: Span, x: i32) -> bool
 
 // 1 for a station on the cut, and else 0: what it adds to the number of those kept.
 pub fn one_if_on_cut(columns: Span, rows: Span, x: i32, y: i32) -> usize
-    requires { ⌜ (columns .first ≤ 63) × (columns .last ≤ 63) × (rows .first ≤ 63) × (rows .last ≤ 63) ⌝ }
-    ensures { λ r. ⌜ r ≡ cond (onSpan (fromTo (columns .first) (columns .last)) x && onSpan (fromTo (rows .first) (rows .last)) y) 1 0 ⌝ }
+    requires { ⌜ (columns .first ≤ mostSide - 1) × (columns .last ≤ mostSide - 1) × (rows .first ≤ mostSide - 1) × (rows .last ≤ mostSide - 1) ⌝ }
+    ensures { λ r. ⌜ ((s : Station) → s .x ≡ x → s .y ≡ y → r ≡ cond (onWindow (windowAt (columns .first) (columns .last) (rows .first) (rows .last)) s) 1 0) ⌝ }
 {
     if on_span(columns, x) {
         if on_span(rows, y) { 1 } else { 0 }
@@ -93,7 +96,7 @@ pub fn one_if_on_cut(columns: Span, rows: Span, x: i32, y: i32) -> usize
 
 // A position counted from the cut's lower corner, which is at `first` along this axis.
 pub fn counted(x: i32, first: usize) -> i32
-    requires { ⌜ (natAbs x ≤ mostPosition) × (first ≤ 63) ⌝ }
+    requires { ⌜ (natAbs x ≤ mostPosition) × (first ≤ mostSide - 1) ⌝ }
     ensures { λ r. ⌜ r ≡ x -ℤ pos (step * first) ⌝ }
 {
     x - ((64 * first) as i32)

@@ -2,17 +2,16 @@
 use Prim.Native.Nat.{ℕ, _+_, _-_, _≤_, _<_}
 use native.Mathlib.Omega.{arith}
 use borrow.Author.Needs.{sfits-of}
-use mathlib.Core.Path.{_≡_, _∙_}
+use mathlib.Core.Path.{_≡_, sym, _∙_}
 use lib.ListN.{length, getD}
 use lib.IntN.{pos}
 use mir.Syntax.{w32}
 use mir.Val.{toZ, ofZ}
 use mir.Facts.{toZ-ofZ}
 use Rattle.integers.specs.Words.{bits-back}
-use Rattle.scheme.specs.Units.{Columns}
-use Rattle.scheme.specs.Reach.{Span}
-use Rattle.scheme.specs.Promises.{sixColumns}
-use Rattle.spans.specs.Spans.{fromTo}
+use Rattle.scheme.specs.Units.{mostStations, Columns, stationAt}
+use Rattle.scheme.specs.Refusals.{Window}
+use Rattle.scheme.specs.Promises.{sixColumns, windowAt}
 use Rattle.cut.specs.Kept.{Long, Kept, kept-none, counted-is, kept-turn}
 use Rattle.cut.proofs.keep_stations.Statement.{statement}
 use Rattle.cut.proofs.keep_stations.Tie as tie
@@ -20,7 +19,7 @@ use Rattle.cut.proofs.keep_stations.Tie as tie
 abbrev Inv-loop : tie.InvT-loop
 Inv-loop kx₀ ky₀ kvalue₀ kobserved₀ kfrom₀ kuntil₀ columns rows x y value observed from until m₀ k₀ kx ky kvalue kobserved kfrom kuntil m k =
     (k ≤ length x) × Long (sixColumns kx ky kvalue kobserved kfrom kuntil)
-    × Kept (fromTo (columns .first) (columns .last)) (fromTo (rows .first) (rows .last)) (sixColumns x y value observed from until) (sixColumns kx ky kvalue kobserved kfrom kuntil) k m
+    × Kept (windowAt (columns .first) (columns .last) (rows .first) (rows .last)) (sixColumns x y value observed from until) (sixColumns kx ky kvalue kobserved kfrom kuntil) k m
 
 abbrev μ-loop : tie.MeasureT-loop
 μ-loop kx₀ ky₀ kvalue₀ kobserved₀ kfrom₀ kuntil₀ columns rows x y value observed from until m₀ k₀ kx ky kvalue kobserved kfrom kuntil m k = length x - k
@@ -33,19 +32,16 @@ module _ (t : tie.In-loop Inv-loop μ-loop) where
   abbrev k : ℕ
   k = t .before .loop .k
 
-  abbrev columns : Span
-  columns = fromTo (start .args .columns .first) (start .args .columns .last)
-
-  abbrev rows : Span
-  rows = fromTo (start .args .rows .first) (start .args .rows .last)
+  abbrev w : Window
+  w = let a = start .args in windowAt (a .columns .first) (a .columns .last) (a .rows .first) (a .rows .last)
 
   abbrev all : Columns
   all = sixColumns (start .args .x .now) (start .args .y .now) (start .args .value .now) (start .args .observed .now) (start .args .from .now) (start .args .until .now)
 
-  few : k < 512
+  few : k < mostStations
   few = omega (arith, start .pre .0 .equal .few, t .loop-test .taken)
 
-  room : t .before .loop .m < 512
+  room : t .before .loop .m < mostStations
   room = omega (arith, few, t .before .loop .inv .2 .no-more)
 
   x-is : toZ w32 (ofZ w32 (getD (all .x) k (pos 0))) ≡ getD (all .x) k (pos 0)
@@ -74,7 +70,7 @@ abbrev at-count : tie.After-one-if-on-cut Inv-loop μ-loop → tie.In-loop Inv-l
 at-count c = at-put (c .before .before .before .before)
 
 loop-holds : tie.Need-loop-holds Inv-loop μ-loop
-loop-holds c = let s = c .before .before .before in (omega arith, s .pre .1, kept-none _ _ _ _)
+loop-holds c = let s = c .before .before .before in (omega arith, s .pre .1, kept-none _ _ _)
 
 mul-counted : tie.Need-mul-counted Inv-loop μ-loop
 mul-counted c = omega (arith, few (at-x c))
@@ -156,15 +152,16 @@ module _ (c : tie.After-one-if-on-cut Inv-loop μ-loop) where
   abbrev left : Columns
   left = let l = put .put-station .last in sixColumns (l .0) (l .1 .0) (l .1 .1 .0) (l .1 .1 .1 .0) (l .1 .1 .1 .1 .0) (l .1 .1 .1 .1 .1 .0)
 
-  next : Long left × Kept (columns t) (rows t) (all t) left (k t + 1) (t .before .loop .m + c .one-if-on-cut .result)
+  next : Long left × Kept (w t) (all t) left (k t + 1) (t .before .loop .m + c .one-if-on-cut .result)
+  unfolding stationAt
   next =
       let v = put .before .before .before .before in
       let y = v .before in
       let x = y .before .before in
       let i = t .before .loop .inv in
-      kept-turn (columns t) (rows t) (all t) (k t) (i .1) (room t) (put .put-station .ensures)
-      (counted-is (columns t) (rows t) (all t) (k t) (toZ-ofZ (record { sfits = x .counted .ok }) ∙ rw (x-is t) at (x .counted .ensures)) (toZ-ofZ (record { sfits = y .counted2 .ok }) ∙ rw (y-is t) at (y .counted2 .ensures)) (toZ-ofZ (sfits-of (v .put-station-arg7 .given))))
-      (rw (x-is t, y-is t) at (c .one-if-on-cut .ensures)) (i .2)
+      kept-turn (w t) (all t) (k t) (i .1) (room t) (put .put-station .ensures)
+      (counted-is (w t) (all t) (k t) (toZ-ofZ (record { sfits = x .counted .ok }) ∙ rw (x-is t) at (x .counted .ensures)) (toZ-ofZ (record { sfits = y .counted2 .ok }) ∙ rw (y-is t) at (y .counted2 .ensures)) (toZ-ofZ (sfits-of (v .put-station-arg7 .given))))
+      (c .one-if-on-cut .ensures (stationAt (all t) (k t)) (sym (x-is t)) (sym (y-is t))) (i .2)
 
 add-m : tie.Need-add-m Inv-loop μ-loop
 add-m c = omega (arith, few (at-count c), next c .1 .no-more)

@@ -2,7 +2,7 @@
 use native.Mathlib.Omega.{arith}
 use borrow.Author.Needs.{needs}
 use mathlib.Core.Path.{sym, _∙_}
-use Rattle.scheme.specs.Refusals.{fromFour, badColumns, badScans}
+use Rattle.scheme.specs.Refusals.{badColumns, badScans, fromFive}
 use Rattle.scheme.specs.Promises.{sixColumns}
 use Rattle.scheme.specs.Accepted.{equal, scans-fit}
 use Rattle.refusal.specs.Coded.{refused-here, not-here}
@@ -16,7 +16,7 @@ coded-requires : tie.Need-coded-requires
 coded-requires c κs = search needs
 
 returns : tie.Need-returns
-unfolding fromFour badColumns
+unfolding badColumns
 returns c =
     let b = c .before .before .columns-bad in
     λ s t a. refused-here 4 _ (omega arith) _ _ (sym (b .ensures) ∙ c .before .if1 .taken) (c .coded .ensures)
@@ -28,7 +28,7 @@ coded-requires-2 : tie.Need-coded-requires-2
 coded-requires-2 c κs = search needs
 
 returns-2 : tie.Need-returns-2
-unfolding fromFour badColumns badScans
+unfolding badColumns badScans fromFive
 returns-2 c =
     let b = c .before .before in
     λ s t a. not-here 4 _ (omega arith) _ _ (sym (b .before .before .columns-bad .ensures) ∙ b .before .if1 .left)
@@ -55,7 +55,7 @@ from-six-requires c κs =
     }
 
 returns-3 : tie.Need-returns-3
-unfolding fromFour badColumns badScans
+unfolding badColumns badScans fromFive
 returns-3 c =
     let b = c .before .before in
     λ s t a. not-here 4 _ (omega arith) _ _ (sym (b .before .before .columns-bad .ensures) ∙ b .before .if1 .left)

@@ -1,14 +1,14 @@
 -- `refusal::from_two` meets its contract: the window's ends are subtracted only where it is on the grid. Assumes nothing.
-use Prim.Native.Nat.{_+_, _-_, _≤_}
+use Prim.Native.Nat.{_*_, _≤_}
 use native.Mathlib.Omega.{arith}
 use native.Mathlib.Nat.{mul-le-mul}
 use borrow.Author.Needs.{needs}
 use mathlib.Core.Path.{sym, _∙_}
-use mathlib.Core.Bool.{false}
-use Rattle.scheme.specs.Units.{Request}
-use Rattle.scheme.specs.Refusals.{Window, pointsOf, badWindow, badWindowLengths}
+use Rattle.scheme.specs.Units.{mostSide}
+use Rattle.scheme.specs.Refusals.{Window, pointsAlong}
 use Rattle.scheme.specs.Accepted.{OnGrid, on-grid}
-use Rattle.scheme.specs.Promises.{requestOf, windowAt}
+use Rattle.scheme.specs.Promises.{windowAt}
+use Rattle.scheme.specs.Most.{mostPoints}
 use Rattle.refusal.specs.Coded.{refused-here, not-here}
 use Rattle.refusal.proofs.from_two.Statement.{statement}
 use Rattle.refusal.proofs.from_two.Tie as tie
@@ -26,7 +26,6 @@ coded-requires : tie.Need-coded-requires
 coded-requires c κs = search needs
 
 returns : tie.Need-returns
-unfolding badWindow
 returns c =
     let b = c .before .before .window-bad in
     λ s t a. refused-here 2 _ (omega arith) _ _ (sym (b .ensures) ∙ c .before .if1 .taken) (c .coded .ensures)
@@ -36,23 +35,19 @@ module _ (c : lts.Else1 (window-bad-reads.Asked, window-bad-reads.Learnt, coded-
   abbrev start : lts.Start (window-bad-reads.Asked, window-bad-reads.Learnt, coded-reads.Asked, coded-reads.Learnt, window-lengths-bad-reads.Asked, window-lengths-bad-reads.Learnt, from-four-reads.Asked, from-four-reads.Learnt) reads.Pre reads.Post
   start = c .before .before .before .before .before
 
-  abbrev q : Request
-  q = let a = start .args in requestOf (a .nx) (a .ny) (a .guess .now) (a .x .now) (a .y .now) (a .value .now) (a .observed .now) (a .from .now) (a .until .now) (a .scans) (a .radius .now) (a .limit .now) false 0 0
-
   abbrev w : Window
   w = let a = start .args in windowAt (a .left) (a .right) (a .top) (a .bottom)
 
-  on : OnGrid q w
-  unfolding badWindow
-  on = on-grid q w (sym (c .before .window-bad .ensures) ∙ c .if1 .left)
+  on : OnGrid (start .args .nx) (start .args .ny) w
+  on = on-grid _ _ w (sym (c .before .window-bad .ensures) ∙ c .if1 .left)
 
-  few : pointsOf w ≤ 4096
+  few : pointsAlong (w .columns) * pointsAlong (w .rows) ≤ mostPoints
   few = mul-le-mul wide high
     where
-      wide : w .right - w .left + 1 ≤ 64
+      wide : pointsAlong (w .columns) ≤ mostSide
       wide = omega (arith, on .right, start .pre .few-columns)
 
-      high : w .bottom - w .top + 1 ≤ 64
+      high : pointsAlong (w .rows) ≤ mostSide
       high = omega (arith, on .bottom, start .pre .few-rows)
 
 sub-points : tie.Need-sub-points
@@ -77,7 +72,6 @@ coded-requires-2 : tie.Need-coded-requires-2
 coded-requires-2 c κs = search needs
 
 returns-2 : tie.Need-returns-2
-unfolding badWindow badWindowLengths
 returns-2 c =
     let b = c .before .before in
     λ s t a. not-here 2 _ (omega arith) _ _ (sym (b .before .before .window-bad .ensures) ∙ b .before .if1 .left)
@@ -87,7 +81,6 @@ from-four-requires : tie.Need-from-four-requires
 from-four-requires c κs = start (c .before .before) .pre
 
 returns-3 : tie.Need-returns-3
-unfolding badWindow badWindowLengths
 returns-3 c =
     let b = c .before .before in
     λ s t a. not-here 2 _ (omega arith) _ _ (sym (b .before .before .window-bad .ensures) ∙ b .before .if1 .left)

@@ -3,7 +3,7 @@ use native.Mathlib.Omega.{arith}
 use native.Mathlib.Nat.{mul-le-mul}
 use borrow.Author.Needs.{needs}
 use mathlib.Core.Path.{sym, _∙_}
-use Rattle.scheme.specs.Refusals.{analysisRefusal, badLengths}
+use Rattle.scheme.specs.Refusals.{analysisRefusal}
 use Rattle.scheme.specs.Accepted.{shaped}
 use Rattle.refusal.specs.Coded.{refused-here, not-here}
 use Rattle.refusal.proofs.of_analysis.Statement.{statement}
@@ -33,7 +33,7 @@ coded-requires-2 : tie.Need-coded-requires-2
 coded-requires-2 c κs = search needs
 
 returns-2 : tie.Need-returns-2
-unfolding analysisRefusal badLengths
+unfolding analysisRefusal
 returns-2 c =
     let b = c .before .before in
     λ s t a. not-here 1 _ (omega arith) _ _ (sym (b .before .before .shape-bad .ensures) ∙ b .before .if1 .left)
@@ -45,7 +45,7 @@ from-four-requires c κs =
     shaped _ _ _ (sym (e .before .shape-bad .ensures) ∙ e .if1 .left)
 
 returns-3 : tie.Need-returns-3
-unfolding analysisRefusal badLengths
+unfolding analysisRefusal
 returns-3 c =
     let b = c .before .before in
     λ s t a. not-here 1 _ (omega arith) _ _ (sym (b .before .before .shape-bad .ensures) ∙ b .before .if1 .left)

@@ -17,7 +17,7 @@ returns c =
     let s = o .before in
     let x = sym (rw (toZ-ofZ (s .fits .x)) at (o .on-span .ensures)) ∙ c .before .before .if1 .taken in
     let y = sym (rw (toZ-ofZ (s .fits .y)) at (c .before .on-span2 .ensures)) ∙ c .if2 .taken in
-    rw (x, y)
+    λ here ex ey. rw (ex, ey, x, y)
 
 returns-2 : tie.Need-returns-2
 returns-2 c =
@@ -25,13 +25,13 @@ returns-2 c =
     let s = o .before in
     let x = sym (rw (toZ-ofZ (s .fits .x)) at (o .on-span .ensures)) ∙ c .before .before .if1 .taken in
     let y = sym (rw (toZ-ofZ (s .fits .y)) at (c .before .on-span2 .ensures)) ∙ c .if2 .left in
-    rw (x, y)
+    λ here ex ey. rw (ex, ey, x, y)
 
 returns-3 : tie.Need-returns-3
 returns-3 c =
     let s = c .before .before in
     let x = sym (rw (toZ-ofZ (s .fits .x)) at (c .before .on-span .ensures)) ∙ c .if1 .left in
-    rw x
+    λ here ex ey. rw (ex, x)
 
 pub one-if-on-cut-spec : {M : Type 1} → statement M
 one-if-on-cut-spec =

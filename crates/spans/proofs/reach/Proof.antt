@@ -1,25 +1,34 @@
 -- `spans::reach` meets its contract. The loop's invariant: the total is that of the scans passed. Assumes nothing.
-use Prim.Native.Nat.{_+_, _-_, _*_, _≤_}
+use Prim.Native.Nat.{ℕ, _+_, _-_, _*_, _/_, _≤_}
 use native.Mathlib.Omega.{arith}
 use mathlib.Core.Path.{_≡_, ap, _∙_}
+use mathlib.Core.Bool.{Bool}
+use mathlib.Core.List.{List}
 use lib.ListN.{getD}
 use lib.IntN.{ℤ, pos, natAbs}
 use mir.Syntax.{w32}
 use mir.Val.{toZ, ofZ}
 use Rattle.integers.specs.Words.{bits-back}
 use Rattle.lists.specs.Sums.{upTo}
-use Rattle.scheme.specs.Units.{Request}
+use Rattle.scheme.specs.Units.{step, mostRadius, Plan}
 use Rattle.scheme.specs.Reach.{steps}
-use Rattle.spans.specs.Spans.{Plans, reach-none, reach-next, reach-all, one-most}
+use Rattle.spans.specs.Spans.{reach-none, reach-next, reach-all, one-most}
 use Rattle.spans.proofs.reach.Statement.{statement}
 use Rattle.spans.proofs.reach.Tie as tie
 
+abbrev plan : ℕ → (radius limit : List ℤ) → Bool → Plan
+plan count radius limit smooth = record { scans = count; radius = radius; limit = limit; smooth = smooth }
+
 abbrev Inv-loop : tie.InvT-loop
 Inv-loop radius count smooth total₀ m₀ total m =
-    (m ≤ count) × (total ≤ 17 * m) × ((q : Request) → Plans q radius count smooth → total ≡ upTo 0 _+_ m (steps q))
+    (m ≤ count) × (total ≤ (mostRadius / step + 1) * m) × ((limit : List ℤ) → total ≡ upTo 0 _+_ m (steps (plan count radius limit smooth)))
 
 abbrev μ-loop : tie.MeasureT-loop
 μ-loop radius count smooth total₀ m₀ total m = count - m
+
+-- the plan of a call
+abbrev here : tie.Start Inv-loop μ-loop → List ℤ → Plan
+here b limit = plan (b .args .count) (b .args .radius .now) limit (b .args .smooth)
 
 -- a turn of the loop
 module _ (c : tie.In-loop Inv-loop μ-loop) where
@@ -34,17 +43,17 @@ module _ (c : tie.In-loop Inv-loop μ-loop) where
       ap (λ (v : ℤ). toZ w32 (ofZ w32 v)) (s .pre .natural (c .before .loop .m) (c .loop-test .taken))
       ∙ bits-back w32 (pos (natAbs R)) (omega (arith, s .pre .close (c .before .loop .m) (c .loop-test .taken)))
 
-  close : natAbs R ≤ 1024
+  close : natAbs R ≤ mostRadius
   close = s .pre .close (c .before .loop .m) (c .loop-test .taken)
 
 loop-holds : tie.Need-loop-holds Inv-loop μ-loop
-loop-holds c = (omega arith, omega arith, λ q p. reach-none q)
+loop-holds c = (omega arith, omega arith, λ limit. reach-none (here c limit))
 
 mul-steps : tie.Need-mul-steps Inv-loop μ-loop
 mul-steps c = let h = s c .pre .few in omega arith
 
 shared-slice-copy-out-steps : tie.Need-shared-slice-copy-out-steps Inv-loop μ-loop
-shared-slice-copy-out-steps c = let h = s c .pre .radii in omega arith
+shared-slice-copy-out-steps c = let h = s c .pre .all in omega arith
 
 cast-steps : tie.Need-cast-steps Inv-loop μ-loop
 cast-steps c = rw (radius-back (c .before)) (tt, record { fits = omega (arith, close (c .before)) })
@@ -72,15 +81,15 @@ loop-again c =
     let e = rw (radius-back k) at (c .steps .ensures) in (
       omega (arith, k .loop-test .taken),
       omega (arith, close k, one-most (s k .args .smooth), l .inv .1),
-      λ q p. reach-next q p (l .m) (l .total) (c .steps .result) (l .inv .2 q p) e,
+      λ limit. reach-next (here (s k) limit) (l .m) (l .total) (c .steps .result) (l .inv .2 limit) e,
     )
 
 returns : tie.Need-returns Inv-loop μ-loop
 returns c =
     let l = c .before .loop in
-    let a = c .before .before .args in
-    let e : l .m ≡ a .count = omega arith in
-    (omega (arith, l .inv .1, c .before .before .pre .few), λ q p. reach-all q p (l .total) (rw e at (l .inv .2 q p)))
+    let b = c .before .before in
+    let e : l .m ≡ b .args .count = omega arith in
+    (omega (arith, l .inv .1, b .pre .few), λ limit. reach-all (here b limit) (l .m) (l .total) e (l .inv .2 limit))
 
 pub reach-spec : {M : Type 1} → statement M
 reach-spec =
