@@ -10,10 +10,10 @@ use lib.ListN.{length, getD}
 use lib.IntN.{ℤ, pos}
 use Rattle.lists.specs.Tests.{and-true}
 use Rattle.lists.specs.Tab.{tab, length-tab, getD-tab, is-tab, map-tab, tab-same}
-use Rattle.scheme.specs.Units.{Request, Columns, Station, stationAt, stations, guess, stored, fieldOf, isMissing}
-use Rattle.scheme.specs.Verdicts.{missing, onAxis, offGrid, firstThatFits, beforeScans}
-use Rattle.scheme.specs.Scan.{start, after}
-use Rattle.scheme.specs.Accepted.{Sound}
+use Rattle.scheme.specs.Units.{isMissing, mostSide, stored, fieldOf, Station, Columns, stationAt, stationsOf, guess, Call, asked}
+use Rattle.scheme.specs.Verdicts.{onAxis, offGrid, firstThatFits, beforeScans}
+use Rattle.scheme.specs.Scan.{begins, start, after}
+use Rattle.scheme.specs.Accepted.{Equal, SoundCall}
 use Rattle.verdict.specs.Verdict.{on-axis}
 use Rattle.station.specs.Judge.{OnGrid}
 use Rattle.scans.specs.Scanned.{rowOf}
@@ -22,15 +22,10 @@ use Rattle.scans.specs.Run.{Reached}
 -- what the first verdicts need
 pub record VerdictsReady (nx ny : ℕ) (c : Columns) (room : ℕ) : Type 0 where
   pub two-columns : 2 ≤ nx
-  pub few-columns : nx ≤ 64
+  pub few-columns : nx ≤ mostSide
   pub two-rows : 2 ≤ ny
-  pub few-rows : ny ≤ 64
-  pub y : length (c .y) ≡ length (c .x)
-  pub value : length (c .value) ≡ length (c .x)
-  pub observed : length (c .observed) ≡ length (c .x)
-  pub from : length (c .from) ≡ length (c .x)
-  pub until : length (c .until) ≡ length (c .x)
-  pub few : length (c .x) ≤ 512
+  pub few-rows : ny ≤ mostSide
+  pub equal : Equal c
   pub room-is : room ≡ length (c .x)
 
 -- a stored first guess is stored
@@ -48,46 +43,46 @@ all-five false false false true e h = absurd (omega arith)
 all-five false false false false true h = absurd (omega arith)
 all-five false false false false false h = (refl, refl)
 
-accepted-on-grid : (q : Request) (s : Station) → beforeScans q s ≡ 0 → (isMissing (s .value) ≡ false) × (onAxis (q .nx) (s .x) ≡ true) × (onAxis (q .ny) (s .y) ≡ true)
-unfolding beforeScans missing offGrid
-accepted-on-grid q s e =
+accepted-on-grid : (nx ny T A : ℕ) (s : Station) → beforeScans nx ny T A s ≡ 0 → (isMissing (s .value) ≡ false) × (onAxis nx (s .x) ≡ true) × (onAxis ny (s .y) ≡ true)
+unfolding beforeScans offGrid
+accepted-on-grid nx ny T A s e =
     let (a, b) = all-five _ _ _ _ _ e in
     let (x, y) = and-true _ _ (not-false _ b) in
     (a, x, y)
 
 -- the start
-module _ (q : Request) (sound : Sound q) (st : List ℕ)
-    (verdicts : st ≡ tab (length (q .columns .x)) (λ k. beforeScans q (stationAt (q .columns) k))) where
-  verdict-is : (k : ℕ) → k < length (q .columns .x) → getD st k 0 ≡ beforeScans q (stationAt (q .columns) k)
-  verdict-is k h = ap (λ (l : List ℕ). getD l k 0) verdicts ∙ getD-tab (length (q .columns .x)) _ k 0 h
+module _ (c : Call) (sound : SoundCall c) (st : List ℕ)
+    (verdicts : st ≡ tab (length (c .stations .x)) (λ k. beforeScans (c .nx) (c .ny) (c .T) (c .A) (stationAt (c .stations) k))) where
+  verdict-is : (k : ℕ) → k < length (c .stations .x) → getD st k 0 ≡ beforeScans (c .nx) (c .ny) (c .T) (c .A) (stationAt (c .stations) k)
+  verdict-is k h = ap (λ (l : List ℕ). getD l k 0) verdicts ∙ getD-tab (length (c .stations .x)) _ k 0 h
 
-  start-rows : start q .rows ≡ tab (length (q .columns .x)) (rowOf (q .columns) st)
-  unfolding start stations
-  start-rows = map-tab _ (length (q .columns .x)) (stationAt (q .columns)) ∙ tab-same (length (q .columns .x)) _ _ same
+  start-rows : start (asked c) .rows ≡ tab (length (c .stations .x)) (rowOf (c .stations) st)
+  unfolding start stationsOf
+  start-rows = map-tab _ (length (c .stations .x)) (stationAt (c .stations)) ∙ tab-same (length (c .stations .x)) _ _ same
     where
-      same : (k : ℕ) → k < length (q .columns .x) → record { station = stationAt (q .columns) k; verdict = beforeScans q (stationAt (q .columns) k) } ≡ rowOf (q .columns) st k
+      same : (k : ℕ) → k < length (c .stations .x) → begins (c .nx) (c .ny) (c .T) (c .A) (stationAt (c .stations) k) ≡ rowOf (c .stations) st k
       same k h = cc (verdict-is k h)
 
-  on-grid : (k : ℕ) → k < length (q .columns .x) → getD st k 0 ≡ 0
-      → OnGrid (q .nx) (q .ny) (getD (q .columns .x) k (pos 0)) (getD (q .columns .y) k (pos 0)) (getD (q .columns .value) k (pos 0))
+  on-grid : (k : ℕ) → k < length (c .stations .x) → getD st k 0 ≡ 0
+      → OnGrid (c .nx) (c .ny) (getD (c .stations .x) k (pos 0)) (getD (c .stations .y) k (pos 0)) (getD (c .stations .value) k (pos 0))
   unfolding stationAt
   on-grid k h e =
-      let (there, x, y) = accepted-on-grid q (stationAt (q .columns) k) (sym (verdict-is k h) ∙ e) in
-      let (x-is, x-in) = on-axis (q .nx) _ x in
-      let (y-is, y-in) = on-axis (q .ny) _ y in
+      let (there, x, y) = accepted-on-grid (c .nx) (c .ny) (c .T) (c .A) (stationAt (c .stations) k) (sym (verdict-is k h) ∙ e) in
+      let (x-is, x-in) = on-axis (c .nx) _ x in
+      let (y-is, y-in) = on-axis (c .ny) _ y in
       record { x-is = x-is; x-in = x-in; y-is = y-is; y-in = y-in; v-small = sound .stations k h .value there }
 
-  pub starts : (sup : List ℕ) → sup ≡ tab (q .nx * q .ny) (λ k. 0) → Reached q 0 (q .firstGuess) sup st
+  pub starts : (sup : List ℕ) → sup ≡ tab (c .nx * c .ny) (λ k. 0) → Reached c 0 (c .firstGuess) sup st
   unfolding after start guess stored
   starts sup e =
       record {
         sound = sound;
         holds =
             record {
-              field = guess-stored (q .nx) (q .ny) (q .firstGuess) (sound .shape .whole);
+              field = guess-stored (c .nx) (c .ny) (c .firstGuess) (sound .request .shape .whole);
               support = e;
               rows = start-rows;
-              long = ap length verdicts ∙ length-tab (length (q .columns .x)) _;
+              long = ap length verdicts ∙ length-tab (length (c .stations .x)) _;
             };
         on-grid = on-grid;
       }

@@ -3,18 +3,18 @@ ghost use mathlib.Core.Path.{_≡_};
 ghost use Prim.Native.Nat.{_≤_};
 ghost use lib.ListN.{length};
 ghost use Rattle.lists.specs.Tab.{tab};
-ghost use Rattle.scheme.specs.Units.{Request, stationAt};
+ghost use Rattle.scheme.specs.Units.{stationAt, asked};
 ghost use Rattle.scheme.specs.Verdicts.{beforeScans};
 ghost use Rattle.scheme.specs.Scan.{analysis};
-ghost use Rattle.scheme.specs.Promises.{sixColumns, requestOf, slices, lengthsOf, Analyses};
-ghost use Rattle.verdict.specs.Verdict.{Suits};
+ghost use Rattle.scheme.specs.Promises.{sixColumns, callOf, slices, Analyses};
+ghost use Rattle.scheme.specs.Most.{mostPoints};
+ghost use Rattle.scheme.specs.Accepted.{CallAccepted};
 ghost use Rattle.analysis.specs.Start.{VerdictsReady};
-ghost use Rattle.analysis.specs.Whole.{WorkReady};
 
 // ---- before the first scan
 
 fn copy(to: &mut [i32], from: &[i32])
-    requires { ⌜ (length (now to) ≡ length (now from)) × (length (now from) ≤ 4096) ⌝ }
+    requires { ⌜ (length (now to) ≡ length (now from)) × (length (now from) ≤ mostPoints) ⌝ }
     ensures { λ u. ⌜ now (to .exit) ≡ now (from .entry) ⌝ }
 {
     let mut k: usize = 0;
@@ -25,7 +25,7 @@ fn copy(to: &mut [i32], from: &[i32])
 }
 
 fn clear(to: &mut [u8])
-    requires { ⌜ length (now to) ≤ 4096 ⌝ }
+    requires { ⌜ length (now to) ≤ mostPoints ⌝ }
     ensures { λ u. ⌜ now (to .exit) ≡ tab (length (now (to .entry))) (λ k. 0) ⌝ }
 {
     let mut k: usize = 0;
@@ -50,8 +50,7 @@ fn first_verdicts(
     age: u32,
 )
     requires { ⌜ VerdictsReady nx ny (sixColumns (now x) (now y) (now value) (now observed) (now from) (now until)) (length (now verdict)) ⌝ }
-    ensures { λ u. ⌜ ((q : Request) → Suits q nx ny time age
-        → now (verdict .exit) ≡ tab (length (now (x .entry))) (λ k. beforeScans q (stationAt (sixColumns (now (x .entry)) (now (y .entry)) (now (value .entry)) (now (observed .entry)) (now (from .entry)) (now (until .entry))) k))) ⌝ }
+    ensures { λ u. ⌜ now (verdict .exit) ≡ tab (length (now (x .entry))) (λ k. beforeScans nx ny time age (stationAt (sixColumns (now (x .entry)) (now (y .entry)) (now (value .entry)) (now (observed .entry)) (now (from .entry)) (now (until .entry))) k)) ⌝ }
 {
     let mut k: usize = 0;
     while k < x.len() {
@@ -94,8 +93,8 @@ pub fn work(
     support: &mut [u8],
     verdict: &mut [u8],
 )
-    requires { ⌜ WorkReady (requestOf nx ny (now guess) (now x) (now y) (now value) (now observed) (now from) (now until) count (now radius) (now limit) smooth time age) (lengthsOf (slices (now grid) (now support) (now verdict))) ⌝ }
-    ensures { λ u. ⌜ slices (now (grid .exit)) (now (support .exit)) (now (verdict .exit)) ≡ analysis (requestOf nx ny (now (guess .entry)) (now (x .entry)) (now (y .entry)) (now (value .entry)) (now (observed .entry)) (now (from .entry)) (now (until .entry)) count (now (radius .entry)) (now (limit .entry)) smooth time age) ⌝ }
+    requires { ⌜ CallAccepted (callOf nx ny (now guess) (sixColumns (now x) (now y) (now value) (now observed) (now from) (now until)) count (now radius) (now limit) smooth time age) (length (now grid)) (length (now support)) (length (now verdict)) ⌝ }
+    ensures { λ u. ⌜ slices (now (grid .exit)) (now (support .exit)) (now (verdict .exit)) ≡ analysis (asked (callOf nx ny (now (guess .entry)) (sixColumns (now (x .entry)) (now (y .entry)) (now (value .entry)) (now (observed .entry)) (now (from .entry)) (now (until .entry))) count (now (radius .entry)) (now (limit .entry)) smooth time age)) ⌝ }
 {
     copy(grid, guess);
     clear(support);
@@ -149,7 +148,7 @@ pub fn analyse(
     support: &mut [u8],
     verdict: &mut [u8],
 ) -> u32
-    ensures { λ r. ⌜ Analyses (requestOf nx ny (now (guess .entry)) (now (x .entry)) (now (y .entry)) (now (value .entry)) (now (observed .entry)) (now (from .entry)) (now (until .entry)) count (now (radius .entry)) (now (limit .entry)) smooth time age) (slices (now (grid .entry)) (now (support .entry)) (now (verdict .entry))) r (slices (now (grid .exit)) (now (support .exit)) (now (verdict .exit))) ⌝ }
+    ensures { λ r. ⌜ Analyses (callOf nx ny (now (guess .entry)) (sixColumns (now (x .entry)) (now (y .entry)) (now (value .entry)) (now (observed .entry)) (now (from .entry)) (now (until .entry))) count (now (radius .entry)) (now (limit .entry)) smooth time age) (slices (now (grid .entry)) (now (support .entry)) (now (verdict .entry))) r (slices (now (grid .exit)) (now (support .exit)) (now (verdict .exit))) ⌝ }
 {
     let refused = refusal::of_analysis(
         nx as usize,

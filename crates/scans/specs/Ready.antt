@@ -10,12 +10,13 @@ use lib.IntN.{ℤ, pos, natAbs}
 use Rattle.integers.specs.Sizes.{size-add}
 use Rattle.lists.specs.Tab.{tab}
 use Rattle.lists.specs.Filled.{Filled, filled-all}
-use Rattle.scheme.specs.Units.{Field, stored, fieldOf, mostLimit, mostRadius}
+use Rattle.scheme.specs.Units.{Field, stored, fieldOf, mostStations, mostScans, mostLimit, mostRadius}
 use Rattle.scheme.specs.Verdicts.{isAccepted}
 use Rattle.scheme.specs.Difference.{afterTest}
 use Rattle.scheme.specs.Correction.{correction}
 use Rattle.scheme.specs.Smoothing.{smoothed}
 use Rattle.scheme.specs.Accepted.{Shaped, same-shape}
+use Rattle.scheme.specs.Most.{mostField}
 use Rattle.scheme.specs.Bounds.{passed, was-accepted, correction-size}
 use Rattle.scheme.specs.Stored.{Same, length-stored, field-stored, stored-same, smoothed-same, stored-all}
 use Rattle.station.specs.Judge.{OnGrid, JudgeReady, diffAt, verdictAt}
@@ -24,19 +25,23 @@ use Rattle.point.specs.Near.{Inside, Columns, sumsOver, over-small}
 use Rattle.point.specs.Pass.{corrected, backed, PassReady}
 use Rattle.scans.specs.Scanned.{Scanned}
 
+-- a value before the last scan of a plan: one limit is still to come
+abbrev pub mostBefore : ℕ
+mostBefore = mostField - mostLimit
+
 pub record ScanReady (nx ny : ℕ) (xs ys vs : List ℤ) (radius limit number bit : ℕ) (z : List ℤ) (sup st : List ℕ) (ds : List ℤ) : Type 0 where
   pub shape : Shaped nx ny (length z)
   pub both : length sup ≡ length z
-  pub low : (k : ℕ) → natAbs (getD z k (pos 0)) ≤ 11000000
+  pub low : (k : ℕ) → natAbs (getD z k (pos 0)) ≤ mostBefore
   pub free : (k : ℕ) → getD sup k 0 + bit < 256
   pub len-y : length ys ≡ length xs
   pub len-v : length vs ≡ length xs
   pub len-st : length st ≡ length xs
-  pub few : length xs ≤ 512
-  pub long : length ds ≡ 512
+  pub few : length xs ≤ mostStations
+  pub long : length ds ≡ mostStations
   pub close : radius ≤ mostRadius
   pub limited : limit ≤ mostLimit
-  pub number-few : number ≤ 6
+  pub number-few : number ≤ mostScans
   pub on-grid : (k : ℕ) → k < length xs → getD st k 0 ≡ 0 → OnGrid nx ny (getD xs k (pos 0)) (getD ys k (pos 0)) (getD vs k (pos 0))
 
 -- smoothing, if it is on
@@ -102,14 +107,14 @@ module _ {nx ny : ℕ} {xs ys vs : List ℤ} {radius limit number bit : ℕ} {z 
         }
 
     -- after the correction
-    corrected-size : (i j : ℕ) → natAbs (corrected z nx xs ys st' ds (radius * radius) i j) ≤ 13000000
+    corrected-size : (i j : ℕ) → natAbs (corrected z nx xs ys st' ds (radius * radius) i j) ≤ mostField
     unfolding corrected fieldOf
     corrected-size i j =
         omega (
           arith,
           size-add (getD z (j * nx + i) (pos 0)) (correction (sumsOver xs ys st' ds (radius * radius) i j)),
           ok .low (j * nx + i),
-          correction-size 2000000 (sumsOver xs ys st' ds (radius * radius) i j) (over-small xs ys st' ds (radius * radius) i j columns),
+          correction-size mostLimit (sumsOver xs ys st' ds (radius * radius) i j) (over-small xs ys st' ds (radius * radius) i j columns),
         )
 
     module _ {z1 : List ℤ} (z1-is : z1 ≡ stored nx ny (corrected z nx xs ys st' ds (radius * radius))) where
@@ -118,7 +123,7 @@ module _ {nx ny : ℕ} {xs ys vs : List ℤ} {radius limit number bit : ℕ} {z 
 
       pub smooth-small : Small z1
       smooth-small =
-          rw z1-is (stored-all (λ (v : ℤ). natAbs v ≤ 13000000) (pos 0) nx ny (corrected z nx xs ys st' ds (radius * radius)) (omega arith) corrected-size)
+          rw z1-is (stored-all (λ (v : ℤ). natAbs v ≤ mostField) (pos 0) nx ny (corrected z nx xs ys st' ds (radius * radius)) (omega arith) corrected-size)
 
       -- and after smoothing
       pub scanned : {smooth : Bool} {z' : List ℤ} {sup' : List ℕ} → z' ≡ smoothedIf nx ny smooth z1

@@ -1,11 +1,12 @@
 // The scans of a plan over lent slices (document 01, "One scan"), from the state that the first one finds.
 ghost use mathlib.Core.Path.{_≡_};
 ghost use lib.ListN.{length};
+ghost use Rattle.scheme.specs.Units.{mostStations};
 ghost use Rattle.scheme.specs.Accepted.{Shaped};
 ghost use Rattle.smoothing.specs.Pattern.{Small};
 ghost use Rattle.scans.specs.Scanned.{Scanned};
 ghost use Rattle.scans.specs.Ready.{ScanReady, smoothedIf};
-ghost use Rattle.scans.specs.Run.{Rest, requestWith, Reached};
+ghost use Rattle.scans.specs.Run.{Rest, callWith, Reached};
 
 // Smoothing, if it is on.
 fn smooth_if(z: &mut [i32], nx: usize, ny: usize, on: bool)
@@ -36,7 +37,7 @@ fn scan(
 )
     requires { ⌜ ScanReady nx ny (now x) (now y) (now value) radius limit number bit (now z) (now support) (now verdict) (now d) ⌝ }
     ensures { λ u. ⌜ Scanned nx ny (now (x .entry)) (now (y .entry)) (now (value .entry)) smooth radius limit number bit (now (z .entry)) (now (support .entry)) (now (verdict .entry)) (now (z .exit)) (now (support .exit)) (now (verdict .exit)) (now (d .exit))
-        × (length (now (d .exit)) ≡ 512) ⌝ }
+        × (length (now (d .exit)) ≡ mostStations) ⌝ }
 {
     station::judge(z, nx, ny, x, y, value, verdict, d, limit, number);
     point::correct(z, support, nx, ny, x, y, verdict, d, radius, bit);
@@ -58,10 +59,10 @@ pub fn scans(
     count: usize,
     smooth: bool,
 )
-    requires { ⌜ ((r : Rest) × Reached (requestWith r nx ny (now x) (now y) (now value) (now radius) (now limit) count smooth) 0 (now z) (now support) (now verdict)) ⌝ }
+    requires { ⌜ ((r : Rest) × Reached (callWith r nx ny (now x) (now y) (now value) (now radius) (now limit) count smooth) 0 (now z) (now support) (now verdict)) ⌝ }
     ensures { λ u. ⌜ ((r : Rest)
-        → Reached (requestWith r nx ny (now (x .entry)) (now (y .entry)) (now (value .entry)) (now (radius .entry)) (now (limit .entry)) count smooth) 0 (now (z .entry)) (now (support .entry)) (now (verdict .entry))
-        → Reached (requestWith r nx ny (now (x .entry)) (now (y .entry)) (now (value .entry)) (now (radius .entry)) (now (limit .entry)) count smooth) count (now (z .exit)) (now (support .exit)) (now (verdict .exit))) ⌝ }
+        → Reached (callWith r nx ny (now (x .entry)) (now (y .entry)) (now (value .entry)) (now (radius .entry)) (now (limit .entry)) count smooth) 0 (now (z .entry)) (now (support .entry)) (now (verdict .entry))
+        → Reached (callWith r nx ny (now (x .entry)) (now (y .entry)) (now (value .entry)) (now (radius .entry)) (now (limit .entry)) count smooth) count (now (z .exit)) (now (support .exit)) (now (verdict .exit))) ⌝ }
 {
     let mut d = [0i64; 512];
     let mut bit: u8 = 1;

@@ -1,7 +1,7 @@
 -- `analysis::analyse` meets its contract: a refusal found before anything is written, or the work. Assumes nothing.
 use borrow.Author.Needs.{needs}
 use Rattle.refusal.specs.Coded.{refuses, works}
-use Rattle.analysis.specs.Whole.{ready}
+use Rattle.scheme.specs.Accepted.{analysis-accepted}
 use Rattle.analysis.proofs.analyse.Statement.{statement}
 use Rattle.analysis.proofs.analyse.Tie as tie
 
@@ -12,7 +12,7 @@ returns : tie.Need-returns
 returns c = refuses _ _ (c .before .of-analysis .ensures _ _ _) (c .if1 .taken)
 
 work-requires : tie.Need-work-requires
-work-requires c κs = let e = c .before .before .before in ready _ _ (e .before .of-analysis .ensures _ _ _ .only (e .if1 .left))
+work-requires c κs = let e = c .before .before .before in analysis-accepted _ _ _ _ (e .before .of-analysis .ensures _ _ _ .only (e .if1 .left))
 
 same-length : tie.Need-same-length
 same-length c = search needs

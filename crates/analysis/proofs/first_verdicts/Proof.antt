@@ -9,17 +9,16 @@ use mir.Syntax.{w32}
 use mir.Val.{toZ, ofZ}
 use mir.Facts.{toZ-ofZ}
 use Rattle.lists.specs.Filled.{Filled, filled-none, filled-set, filled-all}
-use Rattle.scheme.specs.Units.{Request, Columns, stationAt}
+use Rattle.scheme.specs.Units.{mostStations, Columns, stationAt}
 use Rattle.scheme.specs.Verdicts.{beforeScans}
 use Rattle.scheme.specs.Promises.{sixColumns}
-use Rattle.verdict.specs.Verdict.{Suits}
 use Rattle.analysis.proofs.first_verdicts.Statement.{statement}
 use Rattle.analysis.proofs.first_verdicts.Tie as tie
 
 abbrev Inv-loop : tie.InvT-loop
 Inv-loop verdict₀ x y value observed from until nx ny time age k₀ verdict k =
     (k ≤ length x) × (length verdict ≡ length verdict₀)
-    × ((q : Request) → Suits q nx ny time age → Filled 0 (λ k. beforeScans q (stationAt (sixColumns x y value observed from until) k)) 0 k verdict₀ verdict)
+    × Filled 0 (λ k. beforeScans nx ny time age (stationAt (sixColumns x y value observed from until) k)) 0 k verdict₀ verdict
 
 abbrev μ-loop : tie.MeasureT-loop
 μ-loop verdict₀ x y value observed from until nx ny time age k₀ verdict k = length x - k
@@ -35,8 +34,8 @@ module _ (c : tie.In-loop Inv-loop μ-loop) where
   abbrev columns : Columns
   columns = sixColumns (start .args .x .now) (start .args .y .now) (start .args .value .now) (start .args .observed .now) (start .args .from .now) (start .args .until .now)
 
-  few : k < 512
-  few = omega (arith, start .pre .few, c .loop-test .taken)
+  few : k < mostStations
+  few = omega (arith, start .pre .equal .few, c .loop-test .taken)
 
   in-verdict : k < length (c .before .loop .verdict)
   in-verdict = omega (arith, start .pre .room-is, c .before .loop .inv .1, c .loop-test .taken)
@@ -58,7 +57,7 @@ module _ (c : tie.After-first-verdict-arg3 Inv-loop μ-loop) where
 loop-holds : tie.Need-loop-holds Inv-loop μ-loop
 loop-holds c =
     let s = c .before .before .before .before in
-    (omega arith, refl, λ q h. filled-none 0 _ 0 0 (s .args .verdict .now) refl)
+    (omega arith, refl, filled-none 0 _ 0 0 (s .args .verdict .now) refl)
 
 mul-first-verdict : tie.Need-mul-first-verdict Inv-loop μ-loop
 mul-first-verdict c = omega (arith, few c)
@@ -71,32 +70,32 @@ mul-first-verdict-2 c = omega (arith, few (c .before))
 
 shared-slice-copy-out-first-verdict-2 :
     tie.Need-shared-slice-copy-out-first-verdict-2 Inv-loop μ-loop
-shared-slice-copy-out-first-verdict-2 c = omega (arith, start (c .before) .pre .y, c .before .loop-test .taken)
+shared-slice-copy-out-first-verdict-2 c = omega (arith, start (c .before) .pre .equal .y, c .before .loop-test .taken)
 
 mul-first-verdict-3 : tie.Need-mul-first-verdict-3 Inv-loop μ-loop
 mul-first-verdict-3 c = omega (arith, few (c .before .before))
 
 shared-slice-copy-out-first-verdict-3 :
     tie.Need-shared-slice-copy-out-first-verdict-3 Inv-loop μ-loop
-shared-slice-copy-out-first-verdict-3 c = omega (arith, start (c .before .before) .pre .value, c .before .before .loop-test .taken)
+shared-slice-copy-out-first-verdict-3 c = omega (arith, start (c .before .before) .pre .equal .value, c .before .before .loop-test .taken)
 
 mul-first-verdict-4 : tie.Need-mul-first-verdict-4 Inv-loop μ-loop
 mul-first-verdict-4 c = omega (arith, few (turn c))
 
 shared-slice-read-first-verdict : tie.Need-shared-slice-read-first-verdict Inv-loop μ-loop
-shared-slice-read-first-verdict c = omega (arith, start (turn (c .before)) .pre .observed, turn (c .before) .loop-test .taken)
+shared-slice-read-first-verdict c = omega (arith, start (turn (c .before)) .pre .equal .observed, turn (c .before) .loop-test .taken)
 
 mul-first-verdict-5 : tie.Need-mul-first-verdict-5 Inv-loop μ-loop
 mul-first-verdict-5 c = omega (arith, few (turn (c .before)))
 
 shared-slice-read-first-verdict-2 : tie.Need-shared-slice-read-first-verdict-2 Inv-loop μ-loop
-shared-slice-read-first-verdict-2 c = omega (arith, start (turn (c .before .before)) .pre .from, turn (c .before .before) .loop-test .taken)
+shared-slice-read-first-verdict-2 c = omega (arith, start (turn (c .before .before)) .pre .equal .from, turn (c .before .before) .loop-test .taken)
 
 mul-first-verdict-6 : tie.Need-mul-first-verdict-6 Inv-loop μ-loop
 mul-first-verdict-6 c = omega (arith, few (turn (c .before .before)))
 
 shared-slice-read-first-verdict-3 : tie.Need-shared-slice-read-first-verdict-3 Inv-loop μ-loop
-shared-slice-read-first-verdict-3 c = omega (arith, start (turn (c .before .before .before)) .pre .until, turn (c .before .before .before) .loop-test .taken)
+shared-slice-read-first-verdict-3 c = omega (arith, start (turn (c .before .before .before)) .pre .equal .until, turn (c .before .before .before) .loop-test .taken)
 
 first-verdict-requires : tie.Need-first-verdict-requires Inv-loop μ-loop
 first-verdict-requires c κs =
@@ -120,8 +119,8 @@ loop-again c =
     let l = t .before .loop in (
       omega (arith, t .loop-test .taken),
       length-set (l .verdict) (k t) (c .first-verdict .result) ∙ l .inv .1,
-      λ q h. filled-set 0 _ 0 (k t) (k t + 1) (start t .args .verdict .now) (l .verdict) _ refl (omega arith) (in-verdict t)
-          (rw (x-is g, y-is g, value-is g) at (c .first-verdict .ensures q h)) (l .inv .2 q h),
+      filled-set 0 _ 0 (k t) (k t + 1) (start t .args .verdict .now) (l .verdict) _ refl (omega arith) (in-verdict t)
+          (rw (x-is g, y-is g, value-is g) at (c .first-verdict .ensures)) (l .inv .2),
     )
 
 same-length : tie.Need-same-length Inv-loop μ-loop
@@ -132,7 +131,7 @@ returns c =
     let o = c .before in
     let s = o .before .before .before .before .before in
     let e : o .loop .k ≡ length (s .args .x .now) = omega arith in
-    λ q h. filled-all 0 _ (length (s .args .x .now)) (s .args .verdict .now) (o .loop .verdict) (s .pre .room-is) (rw e at (o .loop .inv .2 q h))
+    filled-all 0 _ (length (s .args .x .now)) (s .args .verdict .now) (o .loop .verdict) (s .pre .room-is) (rw e at (o .loop .inv .2))
 
 pub first-verdicts-spec : {M : Type 1} → statement M
 first-verdicts-spec =

@@ -1,9 +1,9 @@
 -- `analysis::work` meets its contract: the start, then the scans. Assumes nothing.
 use borrow.Author.Needs.{needs}
 use native.Mathlib.Omega.{arith}
-use mathlib.Core.Path.{refl, sym, _∙_}
-use Rattle.scans.specs.Run.{Rest, requestWith, Reached}
-use Rattle.analysis.specs.Whole.{few-points, begins, whole}
+use mathlib.Core.Path.{sym, _∙_}
+use Rattle.scans.specs.Run.{Rest, callWith, Reached}
+use Rattle.analysis.specs.Whole.{few-points, begun, whole}
 use Rattle.analysis.proofs.work.Statement.{statement}
 use Rattle.analysis.proofs.work.Tie as tie
 use Rattle.analysis.proofs.work.Reads as reads
@@ -16,10 +16,10 @@ use Rattle.scans.proofs.scans.Reads as scans-reads
 copy-requires : tie.Need-copy-requires
 copy-requires c κs =
     let w = c .before .before .before .before .before .before .pre in
-    (w .grid ∙ sym (w .sound .shape .whole), omega (arith, w .sound .shape .whole, few-points _ _ w))
+    (w .grid-long ∙ sym (w .sound .request .shape .whole), omega (arith, w .sound .request .shape .whole, few-points _ _ _ _ w))
 
 clear-requires : tie.Need-clear-requires
-clear-requires c κs = let w = c .before .before .before .before .before .before .before .before .before .pre in omega (arith, w .support, few-points _ _ w)
+clear-requires c κs = let w = c .before .before .before .before .before .before .before .before .before .pre in omega (arith, w .support-long, few-points _ _ _ _ w)
 
 first-verdicts-requires : tie.Need-first-verdicts-requires
 first-verdicts-requires c κs = search needs
@@ -40,14 +40,14 @@ module _ (c : lts.After-scans-arg3 (copy-reads.Asked, copy-reads.Learnt, clear-r
         A = s .args .age;
       }
 
-  begun : Reached (requestWith rest (s .args .nx) (s .args .ny) (s .args .x .now) (s .args .y .now) (s .args .value .now) (s .args .radius .now) (s .args .limit .now) (s .args .count) (s .args .smooth)) 0
+  ready : Reached (callWith rest (s .args .nx) (s .args .ny) (s .args .x .now) (s .args .y .now) (s .args .value .now) (s .args .radius .now) (s .args .limit .now) (s .args .count) (s .args .smooth)) 0
       (c .before .before .before .before .before .before .before .before .before .before .before .before .copy .last .0) (c .before .before .before .before .before .before .before .before .before .clear .last .0) (c .before .before .before .before .before .first-verdicts .last .0)
-  begun =
-      begins _ _ (s .pre) _ _ _ (c .before .before .before .before .before .before .before .before .before .before .before .before .copy .ensures) (c .before .before .before .before .before .before .before .before .before .clear .ensures)
-      (c .before .before .before .before .before .first-verdicts .ensures _ (record { columns = refl; rows = refl; minute = refl; oldest = refl }))
+  ready =
+      begun _ _ _ _ (s .pre) _ _ _ (c .before .before .before .before .before .before .before .before .before .before .before .before .copy .ensures) (c .before .before .before .before .before .before .before .before .before .clear .ensures)
+      (c .before .before .before .before .before .first-verdicts .ensures)
 
 scans-requires : tie.Need-scans-requires
-scans-requires c κs = (rest c, begun c)
+scans-requires c κs = (rest c, ready c)
 
 same-length : tie.Need-same-length
 same-length c = search needs
@@ -59,7 +59,7 @@ same-length-3 : tie.Need-same-length-3
 same-length-3 c = search needs
 
 returns : tie.Need-returns
-returns c = let d = c .before .before .before .before .before in whole _ _ _ _ (d .scans .ensures (rest (d .before)) (begun (d .before)))
+returns c = let d = c .before .before .before .before .before in whole _ _ _ _ (d .scans .ensures (rest (d .before)) (ready (d .before)))
 
 pub work-spec : {M : Type 1} → statement M
 work-spec =

@@ -9,16 +9,16 @@ use lib.IntN.{ℤ, pos, natAbs}
 use mir.Syntax.{w32}
 use mir.Val.{toZ, ofZ}
 use Rattle.integers.specs.Words.{bits-back}
-use Rattle.scheme.specs.Units.{Request, R, E}
+use Rattle.scheme.specs.Units.{mostStations, mostScans, R, E, Call}
 use Rattle.scheme.specs.Accepted.{Scanned}
-use Rattle.scans.specs.Run.{Rest, requestWith, Reached, z-long, sup-long, bit-small, ready-for, next-after}
+use Rattle.scans.specs.Run.{Rest, callWith, Reached, z-long, sup-long, bit-small, ready-for, next-after}
 use Rattle.scans.proofs.scans.Statement.{statement}
 use Rattle.scans.proofs.scans.Tie as tie
 
 abbrev Inv-loop : tie.InvT-loop
 Inv-loop z₀ support₀ verdict₀ nx ny x y value radius limit count smooth d₀ bit₀ m₀ z support verdict d bit m =
-    (m ≤ count) × (bit ≡ 2 ^ m) × (length d ≡ 512)
-    × ((r : Rest) → Reached (requestWith r nx ny x y value radius limit count smooth) 0 z₀ support₀ verdict₀ → Reached (requestWith r nx ny x y value radius limit count smooth) m z support verdict)
+    (m ≤ count) × (bit ≡ 2 ^ m) × (length d ≡ mostStations)
+    × ((r : Rest) → Reached (callWith r nx ny x y value radius limit count smooth) 0 z₀ support₀ verdict₀ → Reached (callWith r nx ny x y value radius limit count smooth) m z support verdict)
 
 abbrev μ-loop : tie.MeasureT-loop
 μ-loop z₀ support₀ verdict₀ nx ny x y value radius limit count smooth d₀ bit₀ m₀ z support verdict d bit m = count - m
@@ -28,8 +28,8 @@ module _ (k : tie.In-loop Inv-loop μ-loop) where
   abbrev s : tie.Start Inv-loop μ-loop
   s = k .before .before .before .before
 
-  abbrev q : Request
-  q = requestWith (s .pre .0) (s .args .nx) (s .args .ny) (s .args .x .now) (s .args .y .now) (s .args .value .now) (s .args .radius .now) (s .args .limit .now) (s .args .count) (s .args .smooth)
+  abbrev q : Call
+  q = callWith (s .pre .0) (s .args .nx) (s .args .ny) (s .args .x .now) (s .args .y .now) (s .args .value .now) (s .args .radius .now) (s .args .limit .now) (s .args .count) (s .args .smooth)
 
   abbrev m : ℕ
   m = k .before .loop .m
@@ -38,9 +38,9 @@ module _ (k : tie.In-loop Inv-loop μ-loop) where
   reached = k .before .loop .inv .3 (s .pre .0) (s .pre .1)
 
   -- the entry of the plan
-  few : (m ≤ 5) × (m < length (s .args .radius .now)) × (m < length (s .args .limit .now))
+  few : (m + 1 ≤ mostScans) × (m < length (s .args .radius .now)) × (m < length (s .args .limit .now))
   few =
-      let o = reached .sound in
+      let o = reached .sound .request .plan in
       let h = k .loop-test .taken in
       (omega (arith, o .scans-few), omega (arith, o .radii), omega (arith, o .limits))
 
@@ -50,20 +50,20 @@ module _ (k : tie.In-loop Inv-loop μ-loop) where
   abbrev lim : ℤ
   lim = getD (s .args .limit .now) m (pos 0)
 
-  entry : Scanned q m
-  entry = reached .sound .plan m (k .loop-test .taken)
+  entry : Scanned (q .plan) m
+  entry = reached .sound .request .plan .scan m (k .loop-test .taken)
 
-  radius-back : toZ w32 (ofZ w32 rad) ≡ pos (R q m)
-  radius-back = ap (λ (v : ℤ). toZ w32 (ofZ w32 v)) (entry .radius-is) ∙ bits-back w32 (pos (R q m)) (omega (arith, entry .radius-most))
+  radius-back : toZ w32 (ofZ w32 rad) ≡ pos (R (q .plan) m)
+  radius-back = ap (λ (v : ℤ). toZ w32 (ofZ w32 v)) (entry .radius-is) ∙ bits-back w32 (pos (R (q .plan) m)) (omega (arith, entry .radius-most))
 
-  limit-back : toZ w32 (ofZ w32 lim) ≡ pos (E q m)
-  limit-back = ap (λ (v : ℤ). toZ w32 (ofZ w32 v)) (entry .limit-is) ∙ bits-back w32 (pos (E q m)) (omega (arith, entry .limit-most))
+  limit-back : toZ w32 (ofZ w32 lim) ≡ pos (E (q .plan) m)
+  limit-back = ap (λ (v : ℤ). toZ w32 (ofZ w32 v)) (entry .limit-is) ∙ bits-back w32 (pos (E (q .plan) m)) (omega (arith, entry .limit-most))
 
   -- as the code hands them on
-  radius-is : natAbs (toZ w32 (ofZ w32 rad)) ≡ R q m
+  radius-is : natAbs (toZ w32 (ofZ w32 rad)) ≡ R (q .plan) m
   radius-is = ap natAbs radius-back
 
-  limit-is : natAbs (toZ w32 (ofZ w32 lim)) ≡ E q m
+  limit-is : natAbs (toZ w32 (ofZ w32 lim)) ≡ E (q .plan) m
   limit-is = ap natAbs limit-back
 
 loop-holds : tie.Need-loop-holds Inv-loop μ-loop
