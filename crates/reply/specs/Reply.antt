@@ -8,29 +8,28 @@ use lib.ListN.{length, take}
 use lib.Seq.{length-take-le}
 use lib.IntN.{ℤ}
 use Rattle.scheme.specs.Units.{Request, Columns}
-use Rattle.scheme.specs.Text.{requestLines, outcome, inForm, printed, firstTwo, answerText}
-use Rattle.scheme.specs.Text.Order.{Read}
+use Rattle.scheme.specs.Text.{requestLines, firstTwo, replyText, inForm, answerText}
 use Rattle.request.specs.declared.Asked.{Asked}
 use Rattle.request.specs.declared.RequestRead.{RequestRead}
 use Rattle.request.specs.declared.RequestRead.the-variants.{Value, NotInForm}
+use Rattle.request.specs.Told.{Read}
 use Rattle.request.specs.Whole.{requestRead, requestTold}
-use Rattle.report.specs.Report.{replyText, two-short}
+use Rattle.report.specs.Report.{two-short}
 
 module _ (text : List ℕ) where
   pub over : 65536 < length text → answerText text ≡ firstTwo 10 0
-  unfolding answerText outcome printed
-  over h = rw (lt-ltb 65536 (length text) h, outcome)
+  unfolding answerText
+  over h = rw (lt-ltb 65536 (length text) h)
 
-  pub as-read : (r : Read Request) → length text ≤ 65536 → requestLines 1 text ≡ r → answerText text ≡ printed (inForm r)
-  unfolding answerText outcome
-  as-read r h e = rw (le-ltb 65536 (length text) h, e, outcome)
+  pub as-read : (r : Read Request) → length text ≤ 65536 → requestLines (1, text) ≡ r → answerText text ≡ inForm r
+  unfolding answerText
+  as-read r h e = rw (le-ltb 65536 (length text) h, e)
 
 module _ (guess radius limit : List ℤ) (c : Columns) (read : RequestRead) where
-  pub not-in-form : (line : ℕ) → read ≡ NotInForm line → printed (inForm (requestTold guess radius limit c read)) ≡ firstTwo 9 line
-  unfolding printed
+  pub not-in-form : (line : ℕ) → read ≡ NotInForm line → inForm (requestTold guess radius limit c read) ≡ firstTwo 9 line
   not-in-form line e = rw e
 
-  pub in-form : (q : Asked) → read ≡ Value q → printed (inForm (requestTold guess radius limit c read)) ≡ replyText (requestRead guess radius limit c q)
+  pub in-form : (q : Asked) → read ≡ Value q → inForm (requestTold guess radius limit c read) ≡ replyText (requestRead guess radius limit c q)
   in-form q e = rw e
 
 -- ---- what is lent and what is written

@@ -1,7 +1,7 @@
 // The answer to any text (document 01): the text is read into columns, and these are analysed.
 ghost use mathlib.Core.Path.{_≡_};
 ghost use lib.ListN.{length};
-ghost use Rattle.scheme.specs.Text.{inForm, printed};
+ghost use Rattle.scheme.specs.Text.{inForm};
 ghost use Rattle.scheme.specs.Promises.{sixColumns, Stands, Replies};
 ghost use Rattle.request.specs.Whole.{Lent, Fits, requestTold};
 use request::RequestRead;
@@ -21,7 +21,7 @@ fn reply_to(
     out: &mut [u8],
 ) -> usize
     requires { ⌜ Fits read × Lent (now guess) (now radius) (now limit) (sixColumns (now x) (now y) (now value) (now observed) (now from) (now until)) × (length (now out) ≡ 65536) ⌝ }
-    ensures { λ r. ⌜ Stands (printed (inForm (requestTold (now (guess .entry)) (now (radius .entry)) (now (limit .entry)) (sixColumns (now (x .entry)) (now (y .entry)) (now (value .entry)) (now (observed .entry)) (now (from .entry)) (now (until .entry))) read))) (now (out .entry)) r (now (out .exit)) ⌝ }
+    ensures { λ r. ⌜ Stands (inForm (requestTold (now (guess .entry)) (now (radius .entry)) (now (limit .entry)) (sixColumns (now (x .entry)) (now (y .entry)) (now (value .entry)) (now (observed .entry)) (now (from .entry)) (now (until .entry))) read)) (now (out .entry)) r (now (out .exit)) ⌝ }
 {
     match read {
         RequestRead::NotInForm(line) => answer::first_two(out, 0, 9, line),

@@ -12,7 +12,7 @@ use Rattle.lists.specs.Members.{All, none, more}
 use Rattle.scheme.specs.Units.{Request}
 use Rattle.scheme.specs.Refusals.{Refusal, accepted, refused, numberOf, placeOf, asOne, unlessRefused, inOrder, refusedIf, refusedAt, Lengths, fromFour, analysisRefusal, rightLengths}
 use Rattle.scheme.specs.Scan.{Analysis, analysis}
-use Rattle.scheme.specs.Text.{tested, printed, firstTwo, analysisText}
+use Rattle.scheme.specs.Text.{firstTwo, analysisText, replyText}
 use Rattle.scheme.specs.Text.Pieces.{ascii}
 use Rattle.scheme.specs.Text.Printed.{decimal, keyed}
 use Rattle.scheme.specs.Promises.{both, lengthsOf, Analyses, putFirst, Stands}
@@ -22,10 +22,6 @@ use Rattle.scheme.specs.Decimals.{decimal-length}
 use Rattle.scheme.specs.AnswerSize.{accepted-answer-is-short}
 use Rattle.answer.specs.Written.{Written}
 use Rattle.answer.specs.Rows.{keyed-one}
-
--- the answer to a request in form
-abbrev pub replyText : Request → List ℕ
-replyText q = printed (tested q (analysisRefusal q (rightLengths q)))
 
 -- the results are as long as the grid and the station list
 pub record Measured (nx ny rows : ℕ) (l : Lengths) : Type 0 where
@@ -114,10 +110,9 @@ none-if-zero (refused number place) h e = absurd (omega arith)
 
 -- ---- what the analysis answers, as text
 
-refused-text : (q : Request) (f : Refusal) → (asOne f ≡ 0 → ⊥) → printed (tested q f) ≡ firstTwo (numberOf f) (placeOf f)
-unfolding printed
-refused-text q accepted some = absurd (some refl)
-refused-text q (refused number place) some = refl
+refused-text : {A : Type 0} (f : Refusal) (result other : A) → (asOne f ≡ 0 → ⊥) → unlessRefused f result other ≡ other
+refused-text accepted result other some = absurd (some refl)
+refused-text (refused number place) result other some = refl
 
 module _ (q : Request) (found left : Analysis) (r : ℕ) (m : Measured (q .nx) (q .ny) (length (q .columns .x)) (lengthsOf found)) (p : Analyses q found r left) where
   same : lengthsOf found ≡ rightLengths q
@@ -130,9 +125,10 @@ module _ (q : Request) (found left : Analysis) (r : ℕ) (m : Measured (q .nx) (
   coded = ap (λ (o : ℕ × Analysis). o .0) p ∙ ap (λ (l : Lengths). asOne (analysisRefusal q l)) same
 
   refused-reply : (r ≡ 0 → ⊥) → replyText q ≡ firstTwo (r / 65536) (r % 65536)
+  unfolding replyText
   refused-reply some =
       let t = analysis-tells-refusal-and-place q (rightLengths q) in
-      refused-text q f (λ e. some (coded ∙ e)) ∙ rw (coded, t .0, t .1)
+      refused-text f (analysisText (q .nx) (q .ny) (analysis q)) (firstTwo (numberOf f) (placeOf f)) (λ e. some (coded ∙ e)) ∙ rw (coded, t .0, t .1)
 
   module _ (zero : r ≡ 0) where
     is-accepted : f ≡ accepted
@@ -142,7 +138,7 @@ module _ (q : Request) (found left : Analysis) (r : ℕ) (m : Measured (q .nx) (
     is-analysis = ap (λ (o : ℕ × Analysis). o .1) p ∙ ap (λ (l : Lengths). unlessRefused (analysisRefusal q l) (analysis q) found) same ∙ ap (λ (g : Refusal). unlessRefused g (analysis q) found) is-accepted
 
     accepted-reply : replyText q ≡ analysisText (q .nx) (q .ny) left
-    unfolding printed
+    unfolding replyText
     accepted-reply = rw (is-accepted, is-analysis)
 
     some-columns : 0 < q .nx

@@ -2,7 +2,8 @@
 ghost use mathlib.Core.Path.{_≡_};
 ghost use lib.ListN.{length};
 ghost use Rattle.scheme.specs.Promises.{requestOf, slices, lengthsOf, Stands};
-ghost use Rattle.report.specs.Report.{replyText, Measured, toldText, Tellable};
+ghost use Rattle.scheme.specs.Text.{replyText};
+ghost use Rattle.report.specs.Report.{Measured, toldText, Tellable};
 
 // What the analysis answered, at the start of out; how many bytes it has.
 fn tell(

@@ -1,4 +1,4 @@
--- The lines of a request that say more than one number, and how one number is said. Each is key=value, ended by a line feed.
+-- The lines of a request: one number, and a definition for each key that says more. Each is key=value, ended by a line feed.
 use Prim.Native.Nat.{ℕ}
 use mathlib.Core.List.{List}
 use lib.IntN.{ℤ}
@@ -6,7 +6,7 @@ use Rattle.scheme.specs.Units.{leastSide, mostSide, Station, missingMark
 use Rattle.scheme.specs.Text.Reader.{_>>=_, _>>_, gives, _or_, _before_}
 use Rattle.scheme.specs.Text.Pieces.{ascii, Piece, word, comma, lineFeed, count, unsigned, signed, values}
 
--- a line whose value is one number
+-- one number is the value
 unfoldable pub number : List ℕ → Piece ℕ → Piece ℕ
 number key kind = word key >> (kind before lineFeed)
 

@@ -4,7 +4,7 @@ use mathlib.Core.List.{List, [], _∷_, flatten}
 use Rattle.scheme.specs.Text.Reader.{fails, reads, Reader, _>>=_, gives}
 use Rattle.scheme.specs.Text.Pieces.{Piece}
 
--- lines, from the number of the next line, counted from 1, and the bytes from it on. A failure says the number of the first line not in form
+-- lines, read from the number of the next line, counted from 1, and the bytes from it on; what fails tells the first line not in form
 abbrev pub Text : Type 0 → Type 0
 Text A = Reader (ℕ × List ℕ) ℕ A
 

@@ -14,7 +14,7 @@ abbrev pub ascii : String → List ℕ
 ascii end = []
 ascii (c then s) = code c ∷ ascii s
 
--- a failure says nothing
+-- a piece that fails tells nothing
 abbrev pub Piece : Type 0 → Type 0
 Piece A = Reader (List ℕ) (Unit {0}) A
 
@@ -32,7 +32,7 @@ lineFeed = word (ascii "\n")
 
 -- ---- Numbers are decimal, no plus, no leading zero, no -0
 
--- the digits that follow, after digits that say a
+-- the digits that follow, 48 for 0 to 57 for 9, after digits that say a
 unfoldable pub digits : ℕ → Piece ℕ
 digits a [] = reads a []
 digits a (b ∷ bs) = elim (among 48 57 b) [ true ↦ digits (10 * a + (b - 48)) bs | false ↦ reads a (b ∷ bs) ]

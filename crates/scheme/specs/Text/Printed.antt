@@ -7,7 +7,7 @@ use lib.ListN.{length, take, drop}
 use lib.IntN.{ℤ, pos, negsuc}
 use Rattle.scheme.specs.Text.Pieces.{mark}
 
--- the digits of n, from 48 for 0 on; n has at most one more than the first number says
+-- the digits of n, 48 for 0 to 57 for 9; it has at most one more than the first number says
 unfoldable pub spelled : ℕ → ℕ → List ℕ
 spelled zero n = (48 + n) ∷ []
 spelled (suc more) n = elim (ltb n 10) [ true ↦ (48 + n) ∷ [] | false ↦ spelled more (n / 10) ++ ((48 + n % 10) ∷ []) ]

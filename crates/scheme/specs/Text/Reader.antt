@@ -1,8 +1,8 @@
--- Reading from the front, in one way for the pieces of a line and for the lines of a text.
+-- Reading from the front, said once for the pieces of a line and for the lines of a text.
 infixl 10 _or_
 infixl 15 _before_
 infixl 20 _>>_ _>>=_
--- what is in form says something, and leaves what comes after it; else a failure says where
+-- what is in form says something and leaves what comes after it; what is not fails, with a fault to tell
 pub data Result (Left Fault A : Type 0) : Type 0 where
   fails : Fault → Result Left Fault A
   reads : A → Left → Result Left Fault A
