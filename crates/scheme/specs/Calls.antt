@@ -1,14 +1,14 @@
 -- The call that asks a request: its stations in columns. So what is proved of requests is said of calls.
-use Prim.Native.Nat.{ℕ, _*_}
+use Prim.Native.Nat.{ℕ, _*_, _≤_}
 use mathlib.Core.Path.{_≡_, refl, sym, ap, _∙_}
 use native.Mathlib.Omega.{arith}
 use mathlib.Core.List.{List, [], _∷_, map}
 use borrow.Author.Tests.{eq-eqb}
 use lib.ListN.{length, length-map}
 use Rattle.lists.specs.Tab.{tab}
-use Rattle.scheme.specs.Units.{Station, Columns, stationAt, stationsOf, Request, Call, asked}
+use Rattle.scheme.specs.Units.{mostStations, Station, Columns, stationAt, stationsOf, Request, Call, asked}
 use Rattle.scheme.specs.Refusals.{accepted, inOrder, refusedIf, fromFive, analysisRefusal}
-use Rattle.scheme.specs.Accepted.{Equal, Sound, shape-good, columns-good, lengths-good, request-good}
+use Rattle.scheme.specs.Accepted.{Shaped, Equal, Sound, shape-good, columns-good, lengths-good, request-good}
 
 abbrev pub columnsOf : List Station → Columns
 columnsOf ss =
@@ -34,33 +34,35 @@ columns-back (s ∷ ss) = ap (λ (rest : List Station). s ∷ rest) (columns-bac
 pub asks : (q : Request) → asked (callFor q) ≡ q
 asks q = rw (columns-back (q .stations))
 
--- and its columns are equal
-equal-columns : (q : Request) → Sound q → Equal (callFor q .stations)
-equal-columns q s =
+-- a call of the right shape, with equal columns and results of the right length, is refused as the request that it asks
+pub refused-as-asked : (c : Call) (grid support verdict : ℕ) → Shaped (c .nx) (c .ny) (length (c .firstGuess)) → Equal (c .stations)
+    → grid ≡ c .nx * c .ny → support ≡ c .nx * c .ny → verdict ≡ length (c .stations .x)
+    → analysisRefusal c grid support verdict ≡ inOrder (fromFive (asked c))
+unfolding analysisRefusal inOrder refusedIf
+refused-as-asked c grid support verdict shape equal g s v =
+    rw (shape-good shape, lengths-good (c .nx * c .ny) grid support g s, eq-eqb verdict (length (c .stations .x)) v, columns-good (c .stations) equal)
+
+-- the columns of a list are equal
+pub equal-columns : (ss : List Station) → length ss ≤ mostStations → Equal (columnsOf ss)
+equal-columns ss few =
     record {
       y = one (λ s. s .y);
       value = one (λ s. s .value);
       observed = one (λ s. s .observed);
       from = one (λ s. s .from);
       until = one (λ s. s .until);
-      few = omega (arith, length-map (q .stations) (λ (s : Station). s .x), s .few-stations);
+      few = omega (arith, length-map ss (λ (s : Station). s .x));
     }
   where
-    one : {A : Type 0} (f : Station → A) → length (map f (q .stations)) ≡ length (map (λ (s : Station). s .x) (q .stations))
-    one f = length-map (q .stations) f ∙ sym (length-map (q .stations) (λ (s : Station). s .x))
+    one : {A : Type 0} (f : Station → A) → length (map f ss) ≡ length (map (λ (s : Station). s .x) ss)
+    one f = length-map ss f ∙ sym (length-map ss (λ (s : Station). s .x))
 
 -- a request is accepted if the call that asks it is, with results of the right length
 abbrev pub Accepts : Request → Type 0
 Accepts q = analysisRefusal (callFor q) (q .nx * q .ny) (q .nx * q .ny) (length (q .stations)) ≡ accepted
 
 pub sound-accepted : (q : Request) → Sound q → Accepts q
-unfolding analysisRefusal inOrder refusedIf
 sound-accepted q s =
-    rw (
-      shape-good (s .shape),
-      lengths-good (q .nx * q .ny) _ _ refl refl,
-      eq-eqb (length (q .stations)) (length (callFor q .stations .x)) (sym (length-map (q .stations) (λ (t : Station). t .x))),
-      columns-good (callFor q .stations) (equal-columns q s),
-      columns-back (q .stations),
-    )
-    (request-good q s)
+    refused-as-asked (callFor q) (q .nx * q .ny) (q .nx * q .ny) (length (q .stations)) (s .shape) (equal-columns (q .stations) (s .few-stations)) refl refl
+    (sym (length-map (q .stations) (λ (t : Station). t .x)))
+    ∙ ap (λ (p : Request). inOrder (fromFive p)) (asks q) ∙ request-good q s

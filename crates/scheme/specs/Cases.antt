@@ -1,18 +1,18 @@
 -- A line for each refusal of each call with its place, each verdict, each kind of reading, and the edges of age, service, size and line: what the
 -- theorems leave open is fixed here, by computation.
-use Prim.Native.Nat.{ℕ}
+use Prim.Native.Nat.{ℕ, _<_}
 use mathlib.Core.Path.{_≡_, refl}
-use mathlib.Core.Bool.{false}
+use mathlib.Core.Bool.{true, false}
 use mathlib.Core.List.{List, [], _∷_, _++_, flatten}
-use borrow.Author.Tests.{lt-ltb, le-ltb}
+use borrow.Author.Tests.{lt-ltb, le-ltb, eq-eqb}
 use native.Mathlib.Omega.{arith}
-use lib.ListN.{length}
+use lib.ListN.{length, length-map}
 use lib.IntN.{ℤ, pos, negsuc}
 use Rattle.lists.specs.Tab.{tab}
 use Rattle.lists.specs.Sums.{total, upTo}
 use Rattle.lists.specs.First.{first, firstFrom, orNext}
 use Rattle.scheme.specs.declared.Reading.the-variants.{Backed, FirstGuess, OffGrid, Refused}
-use Rattle.scheme.specs.Units.{isMissing, missingMark, stored, fieldOf, Station, noEnd, Columns, stationAt, stationsOf, R, E, Call, guess}
+use Rattle.scheme.specs.Units.{isMissing, missingMark, stored, fieldOf, mostStations, Station, noEnd, Columns, stationAt, stationsOf, R, E, Call, guess}
 use Rattle.scheme.specs.Refusals.{Refusal, accepted, refused, asOne, inOrder, refusedIf, refusedAt, badShape, Window, badWindow, badLengths, badColumns, badScans, rising, badScan, badGuess, badStation, fromFive, analysisRefusal, windowRefusal, summaryRefusal, readingRefusal}
 use Rattle.scheme.specs.Verdicts.{serves, outOfService, onAxis, offGrid, firstThatFits, beforeScans}
 use Rattle.scheme.specs.Rounding.{rounded}
@@ -29,7 +29,8 @@ use Rattle.scheme.specs.Text.Lines.{number, gridLine, scanLine, rowLine,
 use Rattle.scheme.specs.Text.Order.{lines, rows, nothingAfter}
 use Rattle.scheme.specs.Text.Printed.{spelled, decimal, integer, cells, keyed, gridLines}
 use Rattle.scheme.specs.Promises.{callOf, windowAt}
-use Rattle.scheme.specs.Calls.{columnsOf}
+use Rattle.scheme.specs.Accepted.{columns-good}
+use Rattle.scheme.specs.Calls.{columnsOf, equal-columns}
 use Rattle.scheme.specs.Most.{mostField, mostDifference, mostWeights, mostPulls, mostReach}
 
 -- ---- a call on a grid of two by two, to be damaged
@@ -95,8 +96,8 @@ pub record Refusals : Type 0 where
   pub short-tile-support : windowRefusal (shapedSo 2 2 level) (windowAt 0 0 0 1) 2 1 ≡ refused 3 0
   -- 4: unequal columns, and more than 512
   pub unequal : BothRefuse (stationed (record { x = at0; y = at0; value = at0; observed = 0 ∷ 0 ∷ []; from = 0 ∷ 0 ∷ []; until = 1 ∷ [] })) (refused 4 0)
-  pub many : windowRefusal (stationed (columnsOf (tab 513 (λ k. good)))) all 4 4 ≡ refused 4 0
-  pub most : windowRefusal (stationed (columnsOf (tab 512 (λ k. good)))) all 4 4 ≡ accepted
+  pub many : (ss : List Station) → length ss ≡ 513 → badColumns (columnsOf ss) ≡ true
+  pub most : (ss : List Station) → length ss ≡ 512 → badColumns (columnsOf ss) ≡ false
   -- 5: the count, and the columns of the plan
   pub no-scans : BothRefuse (planned 0 [] []) (refused 5 0)
   pub seven-scans : BothRefuse (planned 7 (tab 7 (λ m. pos 64)) (tab 7 (λ m. pos 0))) (refused 5 0)
@@ -125,6 +126,21 @@ pub record Refusals : Type 0 where
   pub edge-place : BothRefuse (stationed (two (mast (negsuc 999999) (pos 1000000) (pos 0) 0 0 1))) accepted
   pub no-service : BothRefuse (stationed (two (mast (pos 0) (pos 0) (pos 0) 0 noEnd noEnd))) (refused 8 1)
 
+-- more rows than 512, in equal columns
+too-many : (ss : List Station) → mostStations < length ss → badColumns (columnsOf ss) ≡ true
+unfolding badColumns
+too-many ss h =
+    rw (
+      length-map ss (λ (s : Station). s .x),
+      length-map ss (λ (s : Station). s .y),
+      length-map ss (λ (s : Station). s .value),
+      length-map ss (λ (s : Station). s .observed),
+      length-map ss (λ (s : Station). s .from),
+      length-map ss (λ (s : Station). s .until),
+      eq-eqb (length ss) (length ss) refl,
+      lt-ltb mostStations (length ss) h,
+    )
+
 refusals : Refusals
 unfolding analysisRefusal windowRefusal fromFive inOrder refusedIf refusedAt first firstFrom orNext badShape badWindow badLengths badColumns badScans badScan rising badGuess badStation stationsOf stationAt isMissing tab
 refusals =
@@ -147,8 +163,8 @@ refusals =
       short-tile = refl;
       short-tile-support = refl;
       unequal = (refl, refl);
-      many = refl;
-      most = refl;
+      many = λ ss e. too-many ss (omega arith);
+      most = λ ss e. columns-good (columnsOf ss) (equal-columns ss (omega arith));
       no-scans = (refl, refl);
       seven-scans = (refl, refl);
       six-scans = (refl, refl);

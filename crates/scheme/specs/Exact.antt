@@ -2,7 +2,7 @@
 -- rounded, over any i32 values and any grid.
 use Prim.Native.Nat.{ℕ, zero, suc, _+_, _-_, _*_, _^_, _≤_, _<_}
 use native.Mathlib.Omega.{arith}
-use native.Mathlib.Nat.{mul-assoc, mul-pos, mul-le-mul-left, le-of-lt, lt-of-lt-of-le, eq-of-mul-eq-mul-right}
+use native.Mathlib.Nat.{mul-assoc, mul-pos, zero-mul, mul-le-mul-left, le-of-lt, lt-of-lt-of-le, eq-of-mul-eq-mul-right}
 use mathlib.Core.Path.{_≡_, refl, sym, ap, _∙_}
 use mathlib.Core.Logic.{_⊎_, inl, inr}
 use mathlib.Core.Bool.{Bool, true, false, not, cond, _&&_, _||_}
@@ -30,10 +30,10 @@ use Rattle.scheme.specs.declared.Reading.{Reading}
 use Rattle.scheme.specs.declared.Reading.the-variants.{Backed, FirstGuess, OffGrid, Refused}
 use Rattle.scheme.specs.declared.Units.{Units}
 use Rattle.scheme.specs.Units.{Field, fieldOf}
-use Rattle.scheme.specs.Refusals.{accepted, refused, unlessRefused, readingRefusal, refusedIf, badShape}
+use Rattle.scheme.specs.Refusals.{Refusal, accepted, refused, unlessRefused, summaryRefusal, readingRefusal, refusedIf, badShape}
 use Rattle.scheme.specs.Verdicts.{onAxis}
 use Rattle.scheme.specs.Value.{place, cell, corners, sumAt}
-use Rattle.scheme.specs.Readings.{double, positiveZero, isBacked, readingIn, reading, lowest, highest, unitsOf}
+use Rattle.scheme.specs.Readings.{double, positiveZero, isBacked, readingIn, reading, numbersOf, valueOf, lowest, highest, zeros, unitsOf, summary}
 use Rattle.scheme.specs.Accepted.{Shaped, shaped}
 use Rattle.scheme.specs.Cells.{cell-low, cell-high}
 use Rattle.scheme.specs.Bounds.{Within}
@@ -315,9 +315,9 @@ pub record ExactUnits (u : Units) (low high : ℤ) : Type 0 where
   pub highest-exact : Exactly (u .highest) high 64
   pub span-exact : Exactly (u .span) (high -ℤ low) 64
 
-pub summary-exact : (v : ℤ) {rest : List ℤ} → SFits w32 v → All (SFits w32) rest → ExactUnits (unitsOf (v ∷ rest)) (lowest v rest) (highest v rest)
+units-exact : (v : ℤ) {rest : List ℤ} → SFits w32 v → All (SFits w32) rest → ExactUnits (unitsOf (v ∷ rest)) (lowest v rest) (highest v rest)
 unfolding unitsOf
-summary-exact v {rest} f r =
+units-exact v {rest} f r =
     let low = lowest v rest in
     let high = highest v rest in
     record {
@@ -325,3 +325,73 @@ summary-exact v {rest} f r =
       highest-exact = exact high 6 (omega (arith, size-fits w32 high (highest-is-one (SFits w32) v f r))) (omega arith);
       span-exact = exact (high -ℤ low) 6 (omega (arith, span-size v f r .1)) (omega arith);
     }
+
+-- of any field of i32: refusal and place, and of one that is not refused its lowest and highest value and their span, exactly
+pub summary-exact : (nx ny : ℕ) (v : ℤ) {rest : List ℤ} → SFits w32 v → All (SFits w32) rest → badShape nx ny (length (v ∷ rest)) ≡ false
+    → (summary nx ny (v ∷ rest) .refusal ≡ 0) × (summary nx ny (v ∷ rest) .place ≡ 0)
+    × ExactUnits (summary nx ny (v ∷ rest) .units) (lowest v rest) (highest v rest)
+unfolding summary summaryRefusal refusedIf
+summary-exact nx ny v f r good = rw good (refl, refl, units-exact v f r)
+
+-- and of one that is refused three zeros
+pub refused-summary-is-zeros : (nx ny : ℕ) (field : List ℤ) → badShape nx ny (length field) ≡ true
+    → summary nx ny field ≡ record { refusal = 1; place = 0; units = zeros }
+unfolding summary summaryRefusal refusedIf
+refused-summary-is-zeros nx ny field bad = rw bad
+
+-- ---- so of each call that gives a double, one that is zero is positive zero
+
+-- it is zero, of either sign
+abbrev pub IsZero : Float → Type 0
+IsZero x = (s : Bool) × HasValue x s 0 1
+
+exact-zero : (x : Float) (n : ℤ) (k : ℕ) → Exactly x n (2 ^ k) → IsZero x → x ≡ positiveZero
+exact-zero x n k e (s, z) = zero-is-positive x (2 ^ k) (pow-pos k) (rw (none x n (e .value) z) at e)
+  where
+    none : (x : Float) (n : ℤ) → HasValue x (negative n) (natAbs n) (2 ^ k) → HasValue x s 0 1 → n ≡ pos 0
+    none nan n v z = absurd v
+    none (inf t) n v z = absurd v
+    none (fin t m e) n v z = go n (size (natAbs n) (v .1) (omega (arith, z .1)))
+      where
+        go : (n : ℤ) → natAbs n ≡ 0 → n ≡ pos 0
+        go (pos n) h = ap pos h
+        go (negsuc n) h = absurd (omega arith)
+
+        size : (a : ℕ) → m * up e * 2 ^ k ≡ a * down e → m * up e ≡ 0 → a ≡ 0
+        size a p q = eq-of-mul-eq-mul-right (down e) (down-pos e) a 0 (sym p ∙ (rw q (zero-mul (2 ^ k))) ∙ sym (zero-mul (down e)))
+
+pub zero-reading-is-positive : (nx ny : ℕ) (field : List ℤ) (support : List ℕ) (x y : ℤ) → All (SFits w32) field
+    → IsZero (valueOf (reading nx ny field support x y)) → valueOf (reading nx ny field support x y) ≡ positiveZero
+zero-reading-is-positive nx ny field support x y i32 = go (reading nx ny field support x y) (reading-exact nx ny field x y i32 support)
+  where
+    go : (r : Reading) → ReadsExactly r (sum nx ny field x y i32) → IsZero (valueOf r) → valueOf r ≡ positiveZero
+    go OffGrid e z = unfold numbersOf in refl
+    go (FirstGuess v) e z = unfold numbersOf in exact-zero v _ 18 e (unfold numbersOf in z)
+    go (Backed v) e z = unfold numbersOf in exact-zero v _ 18 e (unfold numbersOf in z)
+    go Refused e z = unfold numbersOf in refl
+
+pub record ZerosPositive (u : Units) : Type 0 where
+  pub lowest-zero : IsZero (u .lowest) → u .lowest ≡ positiveZero
+  pub highest-zero : IsZero (u .highest) → u .highest ≡ positiveZero
+  pub span-zero : IsZero (u .span) → u .span ≡ positiveZero
+
+pub zero-summary-is-positive : (nx ny : ℕ) (field : List ℤ) → All (SFits w32) field → ZerosPositive (summary nx ny field .units)
+unfolding summary
+zero-summary-is-positive nx ny field i32 = go (summaryRefusal nx ny (length field)) i32
+  where
+    all-zeros : ZerosPositive zeros
+    all-zeros = record { lowest-zero = λ z. refl; highest-zero = λ z. refl; span-zero = λ z. refl }
+
+    ends : {field : List ℤ} → All (SFits w32) field → ZerosPositive (unitsOf field)
+    ends none = unfold unitsOf in all-zeros
+    ends (more {a = v} {xs = rest} f r) =
+        let e = units-exact v f r in
+        record {
+          lowest-zero = exact-zero _ _ 6 (e .lowest-exact);
+          highest-zero = exact-zero _ _ 6 (e .highest-exact);
+          span-zero = exact-zero _ _ 6 (e .span-exact);
+        }
+
+    go : (f : Refusal) → All (SFits w32) field → ZerosPositive (unlessRefused f (unitsOf field) zeros)
+    go accepted i32 = ends i32
+    go (refused number place) i32 = all-zeros

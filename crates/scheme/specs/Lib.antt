@@ -35,6 +35,7 @@ pub mod Support
 pub mod AnswerSize
 pub mod RoundTrip
 pub mod DeadMasts
+pub mod Entries
 pub mod Axes
 pub mod Laws
 pub mod Near

@@ -1,0 +1,114 @@
+-- Entries past the scan count are not read: two plans that count as many scans and are equal up to there are refused, run and reach alike.
+use Prim.Native.Nat.{ℕ, zero, suc, _+_, _≤_, _<_}
+use native.Mathlib.Omega.{arith}
+use mathlib.Core.Path.{_≡_, refl, sym, ap, _∙_}
+use mathlib.Core.Bool.{Bool, cond}
+use mathlib.Core.List.{List, map}
+use borrow.Author.Tests.{le-ltb}
+use lib.ListN.{length, getD}
+use lib.IntN.{ℤ, pos, natAbs, _+ℤ_}
+use Rattle.lists.specs.Sums.{total, upTo, upTo-same}
+use Rattle.lists.specs.First.{first, first-same}
+use Rattle.scheme.specs.Units.{Field, stored, Station, Plan, R, E, Request, guess}
+use Rattle.scheme.specs.Refusals.{inOrder, refusedAt, badScans, rising, badScan, fromFive}
+use Rattle.scheme.specs.Difference.{Row, judged}
+use Rattle.scheme.specs.Correction.{Sums, nothing, plus, share, correction, backedBy}
+use Rattle.scheme.specs.Smoothing.{smoothed}
+use Rattle.scheme.specs.Scan.{State, start, differences, rowsJudged, sumsAt, corrected, scan, after, Analysis, analysis}
+use Rattle.scheme.specs.Reach.{steps, reach}
+
+-- the same request with another plan
+abbrev pub withPlan : Request → Plan → Request
+withPlan q p = record { nx = q .nx; ny = q .ny; firstGuess = q .firstGuess; stations = q .stations; plan = p; T = q .T; A = q .A }
+
+-- equal up to the count
+pub record UpToCount (p p' : Plan) : Type 0 where
+  pub scans : p' .scans ≡ p .scans
+  pub smooth : p' .smooth ≡ p .smooth
+  pub radii : (m : ℕ) → m < p .scans → getD (p' .radius) m (pos 0) ≡ getD (p .radius) m (pos 0)
+  pub limits : (m : ℕ) → m < p .scans → getD (p' .limit) m (pos 0) ≡ getD (p .limit) m (pos 0)
+
+module _ (q : Request) (p' : Plan) (same : UpToCount (q .plan) p') where
+  same-R : (m : ℕ) → m < q .plan .scans → R p' m ≡ R (q .plan) m
+  unfolding R
+  same-R m h = ap natAbs (same .radii m h)
+
+  same-E : (m : ℕ) → m < q .plan .scans → E p' m ≡ E (q .plan) m
+  unfolding E
+  same-E m h = ap natAbs (same .limits m h)
+
+  -- a scan that is made: it takes R, E and the switch of the plan
+  module _ (m : ℕ) (found : State) (radius limit : ℕ) (smooth : Bool) where
+    abbrev rowsBy : List Row
+    rowsBy = map (judged (m + 1) limit (differences q found)) (found .rows)
+
+    abbrev sumsBy : Field Sums
+    sumsBy i j = total nothing plus (share radius (differences q found) i j) rowsBy
+
+    abbrev correctedBy : Field ℤ
+    correctedBy i j = found .field i j +ℤ correction (sumsBy i j)
+
+    abbrev scanBy : State
+    scanBy =
+        record {
+          field = cond smooth (smoothed (q .nx) (q .ny) correctedBy) correctedBy;
+          support = λ i j. backedBy m (sumsBy i j) (found .support i j);
+          rows = rowsBy;
+        }
+
+  scan-same : (m : ℕ) → m < q .plan .scans → (found : State) → scan (withPlan q p') m found ≡ scan q m found
+  unfolding scan corrected sumsAt rowsJudged
+  scan-same m h found =
+      ap (λ (r : ℕ). scanBy m found r (E p' m) (p' .smooth)) (same-R m h)
+      ∙ ap (λ (e : ℕ). scanBy m found (R (q .plan) m) e (p' .smooth)) (same-E m h)
+      ∙ ap (λ (b : Bool). scanBy m found (R (q .plan) m) (E (q .plan) m) b) (same .smooth)
+
+  after-same : (m : ℕ) → m ≤ q .plan .scans → after (withPlan q p') m ≡ after q m
+  unfolding after
+  after-same zero h = unfold start guess in refl
+  after-same (suc m) h = scan-same m h (after (withPlan q p') m) ∙ ap (scan q m) (after-same m (omega arith))
+
+  -- what an analysis stores of the last state
+  abbrev storedOf : State → Analysis
+  storedOf s = record { grid = stored (q .nx) (q .ny) (s .field); support = stored (q .nx) (q .ny) (s .support); verdict = map (λ r. r .verdict) (s .rows) }
+
+  pub entries-past-the-count-change-no-analysis : analysis (withPlan q p') ≡ analysis q
+  unfolding analysis
+  entries-past-the-count-change-no-analysis =
+      ap (λ (n : ℕ). storedOf (after (withPlan q p') n)) (same .scans) ∙ ap storedOf (after-same (q .plan .scans) (omega arith))
+
+  pub entries-past-the-count-change-no-reach : reach p' ≡ reach (q .plan)
+  unfolding reach steps
+  entries-past-the-count-change-no-reach =
+      ap (λ (n : ℕ). upTo 0 _+_ n (steps p')) (same .scans)
+      ∙ upTo-same 0 _+_ (q .plan .scans) (steps p') (steps (q .plan)) (λ m h. unfold steps in rw (same-R m h, same .smooth))
+
+  -- nor a refusal, where all columns are as long as the count
+  same-rising : (m : ℕ) → m < q .plan .scans → rising p' m ≡ rising (q .plan) m
+  unfolding rising
+  same-rising zero h = refl
+  same-rising (suc m) h = rw (same .radii m (omega arith), same .radii (suc m) h)
+
+  same-bad : (m : ℕ) → m < q .plan .scans → badScan p' m ≡ badScan (q .plan) m
+  unfolding badScan
+  same-bad m h = rw (same .radii m h, same .limits m h, same-rising m h)
+
+  module _ (r : q .plan .scans ≤ length (q .plan .radius)) (l : q .plan .scans ≤ length (q .plan .limit))
+      (r' : q .plan .scans ≤ length (p' .radius)) (l' : q .plan .scans ≤ length (p' .limit)) where
+    same-count : badScans p' ≡ badScans (q .plan)
+    unfolding badScans
+    same-count =
+        rw (
+          same .scans,
+          le-ltb (length (p' .radius)) (q .plan .scans) r',
+          le-ltb (length (p' .limit)) (q .plan .scans) l',
+          le-ltb (length (q .plan .radius)) (q .plan .scans) r,
+          le-ltb (length (q .plan .limit)) (q .plan .scans) l,
+        )
+
+    same-first : first (p' .scans) (badScan p') ≡ first (q .plan .scans) (badScan (q .plan))
+    same-first = ap (λ (n : ℕ). first n (badScan p')) (same .scans) ∙ first-same (q .plan .scans) (badScan p') (badScan (q .plan)) same-bad
+
+    pub entries-past-the-count-change-no-refusal : fromFive (withPlan q p') ≡ fromFive q
+    unfolding fromFive
+    entries-past-the-count-change-no-refusal = rw (same-count, same-first)
