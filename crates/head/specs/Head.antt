@@ -5,7 +5,7 @@ use mathlib.Core.Bool.{Bool}
 use mathlib.Core.List.{List}
 use lib.Dec.{eqb}
 use lib.ListN.{drop}
-use Rattle.scheme.specs.Units.{Request}
+use Rattle.scheme.specs.Units.{leastSide, mostSide, mostScans, Request}
 use Rattle.scheme.specs.Text.{defaultAge}
 use Rattle.scheme.specs.Text.Reader.{fails, _>>=_, gives, _or_}
 use Rattle.scheme.specs.Text.Lines.{gridLine}
@@ -30,9 +30,11 @@ headThen next = do
   next (size .nx) (size .ny) time age (eqb smooth 1) scans
 
 pub record Limits (h : Head) : Type 0 where
-  pub columns : h .nx ≤ 64
-  pub rows : h .ny ≤ 64
-  pub scans : h .scans ≤ 6
+  pub two-columns : leastSide ≤ h .nx
+  pub few-columns : h .nx ≤ mostSide
+  pub two-rows : leastSide ≤ h .ny
+  pub few-rows : h .ny ≤ mostSide
+  pub scans : h .scans ≤ mostScans
   pub line : h .line ≤ 6
 
 pub record HeadIs (s : List ℕ) (h : Head) : Type 0 where

@@ -4,7 +4,7 @@ use mathlib.Core.Path.{_≡_}
 use mathlib.Core.List.{List}
 use lib.ListN.{drop}
 use lib.IntN.{ℤ}
-use Rattle.scheme.specs.Units.{Station}
+use Rattle.scheme.specs.Units.{leastSide, mostSide, Station}
 use Rattle.scheme.specs.Text.Reader.{fails, reads}
 use Rattle.scheme.specs.Text.Lines.{Size, Entry}
 use Rattle.pieces.specs.Told.{Parsed}
@@ -21,8 +21,10 @@ use Rattle.lines.specs.declared.StationRead.the-variants.{Value as Stati
 -- a size that was read, which lies in its range
 pub record SizeIs (s : List ℕ) (p : Parsed Size) (nx ny next : ℕ) : Type 0 where
   pub said : p ≡ reads (record { nx = nx; ny = ny }) (drop next s)
-  pub columns : nx ≤ 64
-  pub rows : ny ≤ 64
+  pub two-columns : leastSide ≤ nx
+  pub few-columns : nx ≤ mostSide
+  pub two-rows : leastSide ≤ ny
+  pub few-rows : ny ≤ mostSide
 
 abbrev pub Sizes : List ℕ → Parsed Size → SizeRead → Type 0
 Sizes s p (SizeValue nx ny next) = SizeIs s p nx ny next

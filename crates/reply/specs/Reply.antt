@@ -1,19 +1,20 @@
 -- What is answered to a text.
 use Prim.Native.Nat.{ℕ, _^_, _≤_, _<_}
 use native.Mathlib.Omega.{arith}
-use mathlib.Core.Path.{_≡_, sym}
+use mathlib.Core.Path.{_≡_, sym, _∙_}
 use mathlib.Core.List.{List}
 use borrow.Author.Tests.{lt-ltb, le-ltb}
 use lib.ListN.{length, take}
 use lib.Seq.{length-take-le}
 use lib.IntN.{ℤ}
-use Rattle.scheme.specs.Units.{Request, Columns}
+use Rattle.scheme.specs.Units.{mostStations, Columns, Request, asked}
+use Rattle.scheme.specs.Accepted.{Equal}
 use Rattle.scheme.specs.Text.{requestLines, firstTwo, replyText, inForm, answerText}
 use Rattle.request.specs.declared.Asked.{Asked}
 use Rattle.request.specs.declared.RequestRead.{RequestRead}
 use Rattle.request.specs.declared.RequestRead.the-variants.{Value, NotInForm}
-use Rattle.request.specs.Told.{Read}
-use Rattle.request.specs.Whole.{requestRead, requestTold}
+use Rattle.request.specs.Told.{Read, Room}
+use Rattle.request.specs.Whole.{firstStations, callRead, requestTold}
 use Rattle.report.specs.Report.{two-short}
 
 module _ (text : List ℕ) where
@@ -29,13 +30,28 @@ module _ (guess radius limit : List ℤ) (c : Columns) (read : RequestRead) wher
   pub not-in-form : (line : ℕ) → read ≡ NotInForm line → inForm (requestTold guess radius limit c read) ≡ firstTwo 9 line
   not-in-form line e = rw e
 
-  pub in-form : (q : Asked) → read ≡ Value q → inForm (requestTold guess radius limit c read) ≡ replyText (requestRead guess radius limit c q)
+  pub in-form : (q : Asked) → read ≡ Value q → inForm (requestTold guess radius limit c read) ≡ replyText (asked (callRead guess radius limit c q))
   in-form q e = rw e
 
 -- ---- what is lent and what is written
 
 pub front-long : {A : Type 0} (n m : ℕ) (l : List A) → n ≤ m → m ≤ length l → n ≡ length (take n l)
 front-long n m l h k = sym (length-take-le n l (omega arith))
+
+-- the fronts of columns that were long enough are equal
+pub front-equal : (n : ℕ) (c : Columns) → n ≤ mostStations → Room mostStations c → Equal (firstStations n c)
+front-equal n c few room =
+    record {
+      y = one (c .y) (room .y);
+      value = one (c .value) (room .value);
+      observed = one (c .observed) (room .observed);
+      from = one (c .from) (room .from);
+      until = one (c .until) (room .until);
+      few = omega (arith, front-long n mostStations (c .x) few (room .x));
+    }
+  where
+    one : {A : Type 0} (l : List A) → mostStations ≤ length l → length (take n l) ≡ length (take n (c .x))
+    one l h = sym (front-long n mostStations l few h) ∙ front-long n mostStations (c .x) few (room .x)
 
 pub two-fit : (number place room : ℕ) → number < 2 ^ 32 → place < 2 ^ 32 → room ≡ 65536 → length (firstTwo number place) ≤ room
 two-fit number place room h k e = omega (arith, two-short number place h k)

@@ -2,32 +2,36 @@
 use Prim.Native.Nat.{ℕ, zero, suc, _+_, _*_, _/_, _%_, _^_, _≤_, _<_}
 use native.Mathlib.Omega.{arith}
 use native.Mathlib.Nat.{mul-comm}
-use mathlib.Core.Path.{_≡_, refl, sym, ap, _∙_}
+use mathlib.Core.Path.{_≡_, refl, sym, ap, subst, _∙_}
 use mathlib.Core.Bool.{Bool, true, false}
 use mathlib.Core.List.{List, [], _∷_, _++_}
 use lib.ListN.{length, drop, length-append}
 use lib.Seq.{sets-eq}
 use Rattle.lists.specs.First.{Found, nowhere, at}
 use Rattle.lists.specs.Members.{All, none, more}
-use Rattle.scheme.specs.Units.{Request}
-use Rattle.scheme.specs.Refusals.{Refusal, accepted, refused, numberOf, placeOf, asOne, unlessRefused, inOrder, refusedIf, refusedAt, Lengths, fromFour, analysisRefusal, rightLengths}
+use Rattle.scheme.specs.Units.{Request, Call, asked}
+use Rattle.scheme.specs.Refusals.{Refusal, accepted, refused, numberOf, placeOf, asOne, unlessRefused, inOrder, refusedIf, refusedAt, fromFive, analysisRefusal}
 use Rattle.scheme.specs.Scan.{Analysis, analysis}
 use Rattle.scheme.specs.Text.{firstTwo, analysisText, replyText}
 use Rattle.scheme.specs.Text.Pieces.{ascii}
 use Rattle.scheme.specs.Text.Printed.{decimal, keyed}
-use Rattle.scheme.specs.Promises.{both, lengthsOf, Analyses, putFirst, Stands}
-use Rattle.scheme.specs.Accepted.{analysis-sound}
-use Rattle.scheme.specs.Places.{analysis-tells-refusal-and-place}
+use Rattle.scheme.specs.Promises.{Analyses, putFirst, Stands}
+use Rattle.scheme.specs.OneOutcome.{both}
+use Rattle.scheme.specs.Accepted.{Shaped, Equal}
+use Rattle.scheme.specs.Calls.{refused-as-asked}
+use Rattle.scheme.specs.Places.{Tells, analysis-tells-refusal-and-place}
 use Rattle.scheme.specs.Decimals.{decimal-length}
 use Rattle.scheme.specs.AnswerSize.{accepted-answer-is-short}
 use Rattle.answer.specs.Written.{Written}
 use Rattle.answer.specs.Rows.{keyed-one}
 
--- the results are as long as the grid and the station list
-pub record Measured (nx ny rows : ℕ) (l : Lengths) : Type 0 where
-  pub grid : l .grid ≡ ny * nx
-  pub support : l .support ≡ ny * nx
-  pub verdict : l .verdict ≡ rows
+-- a call of the right shape, with equal columns and results as long as the grid and the station list
+pub record Measured (c : Call) (grid support verdict : ℕ) : Type 0 where
+  pub shape : Shaped (c .nx) (c .ny) (length (c .firstGuess))
+  pub equal : Equal (c .stations)
+  pub grid-long : grid ≡ c .ny * c .nx
+  pub support-long : support ≡ c .ny * c .nx
+  pub verdict-long : verdict ≡ length (c .stations .x)
 
 -- what an analysis answered, as text: a refusal, or what it left
 abbrev pub toldText : (refused nx ny : ℕ) → Analysis → List ℕ
@@ -97,12 +101,10 @@ unfolding refusedAt
 number-at number nowhere h = tt
 number-at number (at k) h = h
 
-refusal-numbered : (q : Request) (l : Lengths) → Numbered (analysisRefusal q l)
-unfolding analysisRefusal fromFour
-refusal-numbered q l =
-    numbered
-    (more (number-if 1 _ (omega arith)) (more (number-if 3 _ (omega arith)) (more (number-if 4 _ (omega arith)) (more (number-if 5 _ (omega arith))
-    (more (number-at 6 _ (omega arith)) (more (number-at 7 _ (omega arith)) (more (number-at 8 _ (omega arith)) none)))))))
+refusal-numbered : (q : Request) → Numbered (inOrder (fromFive q))
+unfolding fromFive
+refusal-numbered q =
+    numbered (more (number-if 5 _ (omega arith)) (more (number-at 6 _ (omega arith)) (more (number-at 7 _ (omega arith)) (more (number-at 8 _ (omega arith)) none))))
 
 none-if-zero : (f : Refusal) → Numbered f → asOne f ≡ 0 → f ≡ accepted
 none-if-zero accepted h e = refl
@@ -114,52 +116,56 @@ refused-text : {A : Type 0} (f : Refusal) (result other : A) → (asOne f ≡ 0 
 refused-text accepted result other some = absurd (some refl)
 refused-text (refused number place) result other some = refl
 
-module _ (q : Request) (found left : Analysis) (r : ℕ) (m : Measured (q .nx) (q .ny) (length (q .columns .x)) (lengthsOf found)) (p : Analyses q found r left) where
-  same : lengthsOf found ≡ rightLengths q
-  same = let e = mul-comm (q .ny) (q .nx) in rw (m .grid, m .support, m .verdict, e)
-
+module _ (c : Call) (found left : Analysis) (r : ℕ) (m : Measured c (length (found .grid)) (length (found .support)) (length (found .verdict)))
+    (p : Analyses c found r left) where
+  -- the refusal of the request, which is that of the call
   abbrev f : Refusal
-  f = analysisRefusal q (rightLengths q)
+  f = inOrder (fromFive (asked c))
+
+  same : analysisRefusal c (length (found .grid)) (length (found .support)) (length (found .verdict)) ≡ f
+  same =
+      let e = mul-comm (c .ny) (c .nx) in
+      refused-as-asked c _ _ _ (m .shape) (m .equal) (m .grid-long ∙ e) (m .support-long ∙ e) (m .verdict-long)
 
   coded : r ≡ asOne f
-  coded = ap (λ (o : ℕ × Analysis). o .0) p ∙ ap (λ (l : Lengths). asOne (analysisRefusal q l)) same
+  coded = ap (λ (o : ℕ × Analysis). o .0) p ∙ ap asOne same
 
-  refused-reply : (r ≡ 0 → ⊥) → replyText q ≡ firstTwo (r / 65536) (r % 65536)
+  tells : Tells f
+  tells = subst Tells same (analysis-tells-refusal-and-place c _ _ _)
+
+  refused-reply : (r ≡ 0 → ⊥) → replyText (asked c) ≡ firstTwo (r / 65536) (r % 65536)
   unfolding replyText
   refused-reply some =
-      let t = analysis-tells-refusal-and-place q (rightLengths q) in
-      refused-text f (analysisText (q .nx) (q .ny) (analysis q)) (firstTwo (numberOf f) (placeOf f)) (λ e. some (coded ∙ e)) ∙ rw (coded, t .0, t .1)
+      refused-text f (analysisText (c .nx) (c .ny) (analysis (asked c))) (firstTwo (numberOf f) (placeOf f)) (λ e. some (coded ∙ e)) ∙ rw (coded, tells .0, tells .1)
 
   module _ (zero : r ≡ 0) where
     is-accepted : f ≡ accepted
-    is-accepted = none-if-zero f (refusal-numbered q (rightLengths q)) (sym coded ∙ zero)
+    is-accepted = none-if-zero f (refusal-numbered (asked c)) (sym coded ∙ zero)
 
-    is-analysis : left ≡ analysis q
-    is-analysis = ap (λ (o : ℕ × Analysis). o .1) p ∙ ap (λ (l : Lengths). unlessRefused (analysisRefusal q l) (analysis q) found) same ∙ ap (λ (g : Refusal). unlessRefused g (analysis q) found) is-accepted
+    is-analysis : left ≡ analysis (asked c)
+    is-analysis =
+        ap (λ (o : ℕ × Analysis). o .1) p ∙ ap (λ (g : Refusal). unlessRefused g (analysis (asked c)) found) (same ∙ is-accepted)
 
-    accepted-reply : replyText q ≡ analysisText (q .nx) (q .ny) left
+    accepted-reply : replyText (asked c) ≡ analysisText (c .nx) (c .ny) left
     unfolding replyText
     accepted-reply = rw (is-accepted, is-analysis)
 
-    some-columns : 0 < q .nx
-    some-columns = omega (arith, analysis-sound q (rightLengths q) is-accepted .shape .two-columns)
+    accepted-short : length (analysisText (c .nx) (c .ny) left) < 56000
+    accepted-short = rw is-analysis (accepted-answer-is-short c _ _ _ (same ∙ is-accepted))
 
-    accepted-short : length (analysisText (q .nx) (q .ny) left) < 56000
-    accepted-short = rw is-analysis (accepted-answer-is-short q (rightLengths q) is-accepted)
-
-  pub reply-told : replyText q ≡ toldText r (q .nx) (q .ny) left
+  pub reply-told : replyText (asked c) ≡ toldText r (c .nx) (c .ny) left
   reply-told = go r refl
     where
-      go : (m : ℕ) → r ≡ m → replyText q ≡ toldText r (q .nx) (q .ny) left
-      go zero e = accepted-reply e ∙ sym (told-all r (q .nx) (q .ny) left e)
-      go (suc m) e = let some : r ≡ 0 → ⊥ = λ z. omega arith in refused-reply some ∙ sym (told-refused r (q .nx) (q .ny) left some)
+      go : (m : ℕ) → r ≡ m → replyText (asked c) ≡ toldText r (c .nx) (c .ny) left
+      go zero e = accepted-reply e ∙ sym (told-all r (c .nx) (c .ny) left e)
+      go (suc m) e = let some : r ≡ 0 → ⊥ = λ z. omega arith in refused-reply some ∙ sym (told-refused r (c .nx) (c .ny) left some)
 
-  pub tellable : (room : ℕ) → room ≡ 65536 → length (left .grid) ≡ length (found .grid) → length (left .support) ≡ length (found .support) → Tellable r (q .nx) (q .ny) left room
+  pub tellable : (room : ℕ) → room ≡ 65536 → length (left .grid) ≡ length (found .grid) → length (left .support) ≡ length (found .support) → Tellable r (c .nx) (c .ny) left room
   tellable room long g s =
       record {
         two = omega arith;
-        columns = some-columns;
-        grid = sym (g ∙ m .grid);
-        support = sym (s ∙ m .support);
+        columns = λ zero. omega (arith, m .shape .two-columns);
+        grid = sym (g ∙ m .grid-long);
+        support = sym (s ∙ m .support-long);
         all = λ zero. omega (arith, accepted-short zero);
       }

@@ -8,12 +8,14 @@ use mathlib.Core.List.{List, [], _∷_, map}
 use lib.ListN.{length, take, drop, getD, drop-of-length-le}
 use lib.Seq.{drop-cons, length-take-le, getD-take}
 use lib.IntN.{ℤ, pos}
-use Rattle.lists.specs.Tab.{tab, is-tab, map-tab}
-use Rattle.scheme.specs.Units.{Request, Columns, Station, stationAt, columnsOf}
+use Rattle.lists.specs.Tab.{tab, is-tab, map-tab, tab-same}
+use Rattle.scheme.specs.Units.{leastSide, mostSide, mostStations, Station, Columns, stationAt, stationsOf, mostScans, Plan, Request, Call, asked}
 use Rattle.scheme.specs.Text.Reader.{fails, reads, onward, _>>=_, _>>_, gives}
 use Rattle.scheme.specs.Text.{requestLines}
 use Rattle.scheme.specs.Text.Lines.{Entry, scanLine, rowLine, stationLine}
 use Rattle.scheme.specs.Text.Order.{Text, line, lines, rows, nothingAfter}
+use Rattle.scheme.specs.Promises.{sixColumns, callOf}
+use Rattle.scheme.specs.Most.{mostPoints}
 use Rattle.scheme.specs.RoundTrip.{stationsLine}
 use Rattle.head.specs.declared.Head.{Head}
 use Rattle.head.specs.declared.HeadRead.{HeadRead}
@@ -33,18 +35,8 @@ use Rattle.request.specs.Columns.{Kept}
 -- what all lines say
 abbrev gathered : (nx ny time age : ℕ) → Bool → (scans : ℕ) → List Entry → List ℤ → List Station → Request
 gathered nx ny time age smooth scans plan guess stations =
-    record {
-      nx = nx;
-      ny = ny;
-      firstGuess = guess;
-      columns = columnsOf stations;
-      scans = scans;
-      radius = map (λ t. t .radius) plan;
-      limit = map (λ t. t .limit) plan;
-      smooth = smooth;
-      T = time;
-      A = age;
-    }
+    let planned : Plan = record { scans = scans; radius = map (λ t. t .radius) plan; limit = map (λ t. t .limit) plan; smooth = smooth } in
+    record { nx = nx; ny = ny; firstGuess = guess; stations = stations; plan = planned; T = time; A = age }
 
 -- the stations that were counted, and nothing after
 abbrev stationsThen : (List Station → Request) → ℕ → Text Request
@@ -100,7 +92,7 @@ CountSaid s (NotHead k) rows c = Unit {0}
 
 pub record Counts (s : List ℕ) (h : HeadRead) (rows : LinesRead) (c : Counted) : Type 0 where
   pub said : CountSaid s h rows c
-  pub few : c .count ≤ 512
+  pub few : c .count ≤ mostStations
   pub fits : c .line + c .count < 2 ^ 32
 
 abbrev askedOf : Head → (stations line : ℕ) → Asked
@@ -116,48 +108,32 @@ Asks s (NotHead k) c end r = r ≡ NotRequest k
 
 -- what the caller lends has room for every request
 pub record Lent (guess radius limit : List ℤ) (c : Columns) : Type 0 where
-  pub points : 4096 ≤ length guess
-  pub radii : 6 ≤ length radius
-  pub limits : 6 ≤ length limit
-  pub columns : Room 512 c
+  pub points : mostPoints ≤ length guess
+  pub radii : mostScans ≤ length radius
+  pub limits : mostScans ≤ length limit
+  pub columns : Room mostStations c
 
--- the request, its columns the fronts of those that were lent
-abbrev firstStations : ℕ → Columns → Columns
+-- the call, its columns the fronts of those that were lent
+abbrev pub firstStations : ℕ → Columns → Columns
 firstStations n c =
-    record {
-      x = take n (c .x);
-      y = take n (c .y);
-      value = take n (c .value);
-      observed = take n (c .observed);
-      from = take n (c .from);
-      until = take n (c .until);
-    }
+    sixColumns (take n (c .x)) (take n (c .y)) (take n (c .value)) (take n (c .observed)) (take n (c .from)) (take n (c .until))
 
-abbrev pub requestRead : List ℤ → List ℤ → List ℤ → Columns → Asked → Request
-requestRead guess radius limit c a =
-    record {
-      nx = a .nx;
-      ny = a .ny;
-      firstGuess = take (a .ny * a .nx) guess;
-      columns = firstStations (a .stations) c;
-      scans = a .scans;
-      radius = take (a .scans) radius;
-      limit = take (a .scans) limit;
-      smooth = a .smooth;
-      T = a .time;
-      A = a .age;
-    }
+abbrev pub callRead : List ℤ → List ℤ → List ℤ → Columns → Asked → Call
+callRead guess radius limit c a =
+    callOf (a .nx) (a .ny) (take (a .ny * a .nx) guess) (firstStations (a .stations) c) (a .scans) (take (a .scans) radius) (take (a .scans) limit) (a .smooth) (a .time) (a .age)
 
 abbrev pub requestTold : List ℤ → List ℤ → List ℤ → Columns → RequestRead → Read Request
-requestTold guess radius limit c (RequestValue a) = reads (requestRead guess radius limit c a) (a .line, [])
+requestTold guess radius limit c (RequestValue a) = reads (asked (callRead guess radius limit c a)) (a .line, [])
 requestTold guess radius limit c (NotRequest k) = fails k
 
--- the fronts lie inside what was lent
+-- the fronts lie inside what was lent, and the grid has a side of two at least
 pub record AskedFits (a : Asked) : Type 0 where
-  pub columns : a .nx ≤ 64
-  pub rows : a .ny ≤ 64
-  pub scans : a .scans ≤ 6
-  pub stations : a .stations ≤ 512
+  pub two-columns : leastSide ≤ a .nx
+  pub few-columns : a .nx ≤ mostSide
+  pub two-rows : leastSide ≤ a .ny
+  pub few-rows : a .ny ≤ mostSide
+  pub scans : a .scans ≤ mostScans
+  pub stations : a .stations ≤ mostStations
 
 abbrev pub Fits : RequestRead → Type 0
 Fits (RequestValue a) = AskedFits a
@@ -174,16 +150,22 @@ plan-front : (n : ℕ) (rs es : List ℤ) → n ≤ length rs → n ≤ length e
 plan-front n rs es h k =
     (map-tab (λ (t : Entry). t .radius) n (entryAt rs es) ∙ front n (pos 0) rs h, map-tab (λ (t : Entry). t .limit) n (entryAt rs es) ∙ front n (pos 0) es k)
 
-stations-front : (n : ℕ) (c : Columns) → Room n c → columnsOf (tab n (stationAt c)) ≡ firstStations n c
-unfolding stationAt
+stations-front : (n : ℕ) (c : Columns) → Room n c → tab n (stationAt c) ≡ stationsOf (firstStations n c)
+unfolding stationsOf stationAt
 stations-front n c room =
-    let x = map-tab (λ (t : Station). t .x) n (stationAt c) ∙ front n (pos 0) (c .x) (room .x) in
-    let y = map-tab (λ (t : Station). t .y) n (stationAt c) ∙ front n (pos 0) (c .y) (room .y) in
-    let value = map-tab (λ (t : Station). t .value) n (stationAt c) ∙ front n (pos 0) (c .value) (room .value) in
-    let observed = map-tab (λ (t : Station). t .observed) n (stationAt c) ∙ front n 0 (c .observed) (room .observed) in
-    let from = map-tab (λ (t : Station). t .from) n (stationAt c) ∙ front n 0 (c .from) (room .from) in
-    let until = map-tab (λ (t : Station). t .until) n (stationAt c) ∙ front n 0 (c .until) (room .until) in
-    rw (x, y, value, observed, from, until)
+    tab-same n (stationAt c) (stationAt (firstStations n c)) same ∙ ap (λ (m : ℕ). tab m (stationAt (firstStations n c))) (sym (length-take-le n (c .x) (room .x)))
+  where
+    same : (k : ℕ) → k < n → stationAt c k ≡ stationAt (firstStations n c) k
+    same k h =
+        unfold stationAt in
+        rw (
+          getD-take n (c .x) k (pos 0) h,
+          getD-take n (c .y) k (pos 0) h,
+          getD-take n (c .value) k (pos 0) h,
+          getD-take n (c .observed) k 0 h,
+          getD-take n (c .from) k 0 h,
+          getD-take n (c .until) k 0 h,
+        )
 
 pub room-less : (n m : ℕ) (c : Columns) → n ≤ m → Room m c → Room n c
 room-less n m c h r =
@@ -218,11 +200,11 @@ module _ (s : List ℕ) (v : Head) (rs es zs : List ℤ) (c : Columns) (limits :
   abbrev held : List Station → Request
   held = gathered (v .nx) (v .ny) (v .time) (v .age) (v .smooth) (v .scans) (tab (v .scans) (entryAt rs es)) (take (v .ny * v .nx) zs)
 
-  module _ (n : ℕ) (few : n ≤ 512) where
-    fronts : (k : ℕ) → held (tab n (stationAt c)) ≡ requestRead zs rs es c (askedOf v n k)
+  module _ (n : ℕ) (few : n ≤ mostStations) where
+    fronts : (k : ℕ) → held (tab n (stationAt c)) ≡ asked (callRead zs rs es c (askedOf v n k))
     fronts k =
         let (radii, limits) = plan-front (v .scans) rs es (omega (arith, limits .scans, lent .radii)) (omega (arith, limits .scans, lent .limits)) in
-        rw (radii, limits, stations-front n c (room-less n 512 c few (lent .columns)))
+        rw (radii, limits, stations-front n c (room-less n mostStations c few (lent .columns)))
 
     nothing-more : (k : ℕ) (bs : List ℕ) → onward (nothingAfter (k, bs)) (λ _. gives (held (tab n (stationAt c)))) ≡ requestTold zs rs es c (answered v n (nothingAfter (k, bs)))
     unfolding nothingAfter
@@ -241,7 +223,15 @@ module _ (s : List ℕ) (v : Head) (rs es zs : List ℤ) (c : Columns) (limits :
     stations-end false k p end e = refl
 
     fit : (r : Read (Unit {0})) → Fits (answered v n r)
-    fit (reads tt left) = record { columns = limits .columns; rows = limits .rows; scans = limits .scans; stations = few }
+    fit (reads tt left) =
+        record {
+          two-columns = limits .two-columns;
+          few-columns = limits .few-columns;
+          two-rows = limits .two-rows;
+          few-rows = limits .few-rows;
+          scans = limits .scans;
+          stations = few;
+        }
     fit (fails k) = tt
 
 -- the whole, from its parts
@@ -276,12 +266,12 @@ module _ (s : List ℕ) (h : HeadRead) (rows : LinesRead) (n : Counted) where
 
     module _ (limits : Limits v) (p : ℕ) (g : rows ≡ Next p) where
       pub count-not-read : stationsLine (drop p s) ≡ fails tt → n ≡ notCounted (v .line + v .scans + v .ny) → Counts s h rows n
-      count-not-read not f = rw (e, g, f) (record { said = rw (not, line); few = omega arith; fits = omega (arith, limits .line, limits .scans, limits .rows) })
+      count-not-read not f = rw (e, g, f) (record { said = rw (not, line); few = omega arith; fits = omega (arith, limits .line, limits .scans, limits .few-rows) })
 
-      pub count-read : (count next : ℕ) → stationsLine (drop p s) ≡ reads count (drop next s) → count ≤ 512
+      pub count-read : (count next : ℕ) → stationsLine (drop p s) ≡ reads count (drop next s) → count ≤ mostStations
           → n ≡ record { found = true; count = count; line = v .line + v .scans + v .ny + 1; next = next } → Counts s h rows n
       count-read count next is few f =
-          rw (e, g, f) (record { said = rw (is, line, add-one (v .line + v .scans + v .ny)); few = few; fits = omega (arith, limits .line, limits .scans, limits .rows) })
+          rw (e, g, f) (record { said = rw (is, line, add-one (v .line + v .scans + v .ny)); few = few; fits = omega (arith, limits .line, limits .scans, limits .few-rows) })
 
 nothing-left : (k q : ℕ) (s : List ℕ) → length s ≤ q → nothingAfter (k, drop q s) ≡ reads tt (k, [])
 unfolding nothingAfter

@@ -3,7 +3,8 @@ ghost use mathlib.Core.Path.{_≡_};
 ghost use Prim.Native.Nat.{_+_, _*_, _≤_, _<_, _^_};
 ghost use lib.ListN.{length, take, drop};
 ghost use Rattle.lists.specs.Tab.{tab};
-ghost use Rattle.scheme.specs.Units.{stationAt};
+ghost use Rattle.scheme.specs.Units.{stationAt, mostScans};
+ghost use Rattle.scheme.specs.Most.{mostPoints};
 ghost use Rattle.scheme.specs.Text.{requestLines};
 ghost use Rattle.scheme.specs.Text.Lines.{scanLine, rowLine, stationLine};
 ghost use Rattle.scheme.specs.Text.Order.{lines, rows};
@@ -132,7 +133,7 @@ fn station_lines(
 
 // The scans.
 fn plan_lines(s: &[u8], h: HeadRead, radius: &mut [i32], limit: &mut [i32]) -> LinesRead
-    requires { ⌜ Limited h × (6 ≤ length (now radius)) × (6 ≤ length (now limit)) ⌝ }
+    requires { ⌜ Limited h × (mostScans ≤ length (now radius)) × (mostScans ≤ length (now limit)) ⌝ }
     ensures { λ r. ⌜ Plans (now (s .entry)) (now (radius .exit)) (now (limit .exit)) h r ⌝ }
 {
     match h {
@@ -143,7 +144,7 @@ fn plan_lines(s: &[u8], h: HeadRead, radius: &mut [i32], limit: &mut [i32]) -> L
 
 // The first guess.
 fn guess_lines(s: &[u8], h: HeadRead, plan: LinesRead, guess: &mut [i32]) -> LinesRead
-    requires { ⌜ Limited h × (4096 ≤ length (now guess)) ⌝ }
+    requires { ⌜ Limited h × (mostPoints ≤ length (now guess)) ⌝ }
     ensures { λ r. ⌜ Guesses (now (s .entry)) (now (guess .exit)) h plan r ⌝ }
 {
     match h {

@@ -6,6 +6,7 @@ use native.Mathlib.Numerals.{add-one}
 use mathlib.Core.Path.{_≡_, ap, subst, _∙_}
 use mathlib.Core.List.{List}
 use lib.ListN.{drop}
+use Rattle.scheme.specs.Units.{mostScans}
 use Rattle.scheme.specs.Text.Reader.{reads}
 use Rattle.scheme.specs.Text.Pieces.{unsigned}
 use Rattle.scheme.specs.Text.Lines.{gridLine}
@@ -135,9 +136,11 @@ returns-5 c =
     record {
       said = λ next. rw (g .said, line, time-read t, a .age-line .ensures .0, smooth-read m, scans-read n, e);
       limits = record {
-        columns = g .columns;
-        rows = g .rows;
-        scans = subst (Within 1 6) (n .scans .given .1) (n .before .before .number-line3 .ensures .1) .1;
+        two-columns = g .two-columns;
+        few-columns = g .few-columns;
+        two-rows = g .two-rows;
+        few-rows = g .few-rows;
+        scans = subst (Within 1 mostScans) (n .scans .given .1) (n .before .before .number-line3 .ensures .1) .1;
         line = omega (arith, a .age-line .ensures .1);
       };
     }

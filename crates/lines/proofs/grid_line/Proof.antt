@@ -99,7 +99,7 @@ returns-4 c =
     let m = c .before in
     let w = subst (Within 2 64) (after-nx m .nx .given .1) (after-nx m .before .before .unsigned-before .ensures .1 2 64 (after-nx m .before .before .before .before .count-at .ensures .1)) in
     let u = subst (Within 2 64) (m .ny .given .1) (m .before .before .unsigned-before2 .ensures .1 2 64 (m .before .before .before .before .count-at2 .ensures .1)) in
-    record { said = rw (key-read (after-p (after-nx m)), nx-read (after-nx m), ny-read m); columns = w .1; rows = u .1 }
+    record { said = rw (key-read (after-p (after-nx m)), nx-read (after-nx m), ny-read m); two-columns = w .0; few-columns = w .1; two-rows = u .0; few-rows = u .1 }
 
 pub grid-line-spec : {M : Type 1} → statement M
 grid-line-spec =

@@ -2,17 +2,18 @@
 use borrow.Author.Needs.{needs}
 use Prim.Native.Nat.{ℕ, _*_, _≤_}
 use native.Mathlib.Omega.{arith}
-use native.Mathlib.Nat.{mul-le-mul}
+use native.Mathlib.Nat.{mul-le-mul, mul-comm}
 use mathlib.Core.Path.{sym, subst, _∙_}
 use mathlib.Core.List.{List}
 use lib.ListN.{length, replicate, length-replicate}
 use lib.IntN.{ℤ, pos}
-use Rattle.scheme.specs.Units.{Columns}
+use Rattle.scheme.specs.Units.{mostStations, mostScans, Columns}
+use Rattle.scheme.specs.Most.{mostPoints}
 use Rattle.scheme.specs.Promises.{sixColumns}
 use Rattle.request.specs.declared.Asked.{Asked}
 use Rattle.request.specs.Whole.{Fits, AskedFits}
 use Rattle.report.specs.Report.{at-start, stands, stands-as}
-use Rattle.reply.specs.Reply.{front-long, two-fit, not-in-form, in-form}
+use Rattle.reply.specs.Reply.{front-long, front-equal, two-fit, not-in-form, in-form}
 use Rattle.reply.proofs.reply_to.Statement.{statement}
 use Rattle.reply.proofs.reply_to.Tie as tie
 
@@ -32,8 +33,8 @@ module _ (c : tie.After-read2) where
   fits : AskedFits q
   fits = subst Fits (c .read2 .given .1) (start .pre .0)
 
-  few-points : q .ny * q .nx ≤ 4096
-  few-points = mul-le-mul (fits .rows) (fits .columns)
+  few-points : q .ny * q .nx ≤ mostPoints
+  few-points = mul-le-mul (fits .few-rows) (fits .few-columns)
 
 -- the local arrays at first
 abbrev grid₀ : List ℤ
@@ -45,13 +46,13 @@ support₀ = replicate 4096 0
 abbrev verdict₀ : List ℕ
 verdict₀ = replicate 512 0
 
-grid-long : 4096 ≤ length grid₀
+grid-long : mostPoints ≤ length grid₀
 grid-long = omega (arith, length-replicate {A = ℤ} 4096 (pos 0))
 
-support-long : 4096 ≤ length support₀
+support-long : mostPoints ≤ length support₀
 support-long = omega (arith, length-replicate {A = ℕ} 4096 0)
 
-verdict-long : 512 ≤ length verdict₀
+verdict-long : mostStations ≤ length verdict₀
 verdict-long = omega (arith, length-replicate {A = ℕ} 512 0)
 
 first-two-requires : tie.Need-first-two-requires
@@ -76,58 +77,66 @@ cast-scans : tie.Need-cast-scans
 cast-scans c = search needs
 
 slice-aggregate-analysed : tie.Need-slice-aggregate-analysed
-slice-aggregate-analysed c = let k = c .before .before .before .before .before .before in front-long (q k .ny * q k .nx) 4096 (start k .args .guess .now) (few-points k) (start k .pre .1 .points)
+slice-aggregate-analysed c = let k = c .before .before .before .before .before .before in front-long (q k .ny * q k .nx) mostPoints (start k .args .guess .now) (few-points k) (start k .pre .1 .points)
 
 slice-aggregate-analysed-2 : tie.Need-slice-aggregate-analysed-2
-slice-aggregate-analysed-2 c = let k = c .before .before .before .before .before .before .before in front-long (q k .stations) 512 (start k .args .x .now) (fits k .stations) (start k .pre .1 .columns .x)
+slice-aggregate-analysed-2 c = let k = c .before .before .before .before .before .before .before in front-long (q k .stations) mostStations (start k .args .x .now) (fits k .stations) (start k .pre .1 .columns .x)
 
 slice-aggregate-analysed-3 : tie.Need-slice-aggregate-analysed-3
-slice-aggregate-analysed-3 c = let k = c .before .before .before .before .before .before .before .before in front-long (q k .stations) 512 (start k .args .y .now) (fits k .stations) (start k .pre .1 .columns .y)
+slice-aggregate-analysed-3 c = let k = c .before .before .before .before .before .before .before .before in front-long (q k .stations) mostStations (start k .args .y .now) (fits k .stations) (start k .pre .1 .columns .y)
 
 slice-aggregate-analysed-4 : tie.Need-slice-aggregate-analysed-4
-slice-aggregate-analysed-4 c = let k = c .before .before .before .before .before .before .before .before .before in front-long (q k .stations) 512 (start k .args .value .now) (fits k .stations) (start k .pre .1 .columns .value)
+slice-aggregate-analysed-4 c = let k = c .before .before .before .before .before .before .before .before .before in front-long (q k .stations) mostStations (start k .args .value .now) (fits k .stations) (start k .pre .1 .columns .value)
 
 slice-aggregate-analysed-5 : tie.Need-slice-aggregate-analysed-5
-slice-aggregate-analysed-5 c = let k = c .before .before .before .before .before .before .before .before .before .before in front-long (q k .stations) 512 (start k .args .observed .now) (fits k .stations) (start k .pre .1 .columns .observed)
+slice-aggregate-analysed-5 c = let k = c .before .before .before .before .before .before .before .before .before .before in front-long (q k .stations) mostStations (start k .args .observed .now) (fits k .stations) (start k .pre .1 .columns .observed)
 
 slice-aggregate-analysed-6 : tie.Need-slice-aggregate-analysed-6
-slice-aggregate-analysed-6 c = let k = c .before .before .before .before .before .before .before .before .before .before .before in front-long (q k .stations) 512 (start k .args .from .now) (fits k .stations) (start k .pre .1 .columns .from)
+slice-aggregate-analysed-6 c = let k = c .before .before .before .before .before .before .before .before .before .before .before in front-long (q k .stations) mostStations (start k .args .from .now) (fits k .stations) (start k .pre .1 .columns .from)
 
 slice-aggregate-analysed-7 : tie.Need-slice-aggregate-analysed-7
-slice-aggregate-analysed-7 c = let k = c .before .before .before .before .before .before .before .before .before .before .before .before in front-long (q k .stations) 512 (start k .args .until .now) (fits k .stations) (start k .pre .1 .columns .until)
+slice-aggregate-analysed-7 c = let k = c .before .before .before .before .before .before .before .before .before .before .before .before in front-long (q k .stations) mostStations (start k .args .until .now) (fits k .stations) (start k .pre .1 .columns .until)
 
 slice-aggregate-analysed-8 : tie.Need-slice-aggregate-analysed-8
-slice-aggregate-analysed-8 c = let k = c .before .before .before .before .before .before .before .before .before .before .before .before .before in front-long (q k .scans) 6 (start k .args .radius .now) (fits k .scans) (start k .pre .1 .radii)
+slice-aggregate-analysed-8 c = let k = c .before .before .before .before .before .before .before .before .before .before .before .before .before in front-long (q k .scans) mostScans (start k .args .radius .now) (fits k .scans) (start k .pre .1 .radii)
 
 slice-aggregate-analysed-9 : tie.Need-slice-aggregate-analysed-9
-slice-aggregate-analysed-9 c = let k = c .before .before .before .before .before .before .before .before .before .before .before .before .before .before in front-long (q k .scans) 6 (start k .args .limit .now) (fits k .scans) (start k .pre .1 .limits)
+slice-aggregate-analysed-9 c = let k = c .before .before .before .before .before .before .before .before .before .before .before .before .before .before in front-long (q k .scans) mostScans (start k .args .limit .now) (fits k .scans) (start k .pre .1 .limits)
 
 array-borrow-prefix-grid : tie.Need-array-borrow-prefix-grid
 array-borrow-prefix-grid c = few-points (c .before .before .before .before .before .before .before .before .before .before .before .before .before .before)
 
 slice-aggregate-analysed-10 : tie.Need-slice-aggregate-analysed-10
-slice-aggregate-analysed-10 c = let k = c .before .before .before .before .before .before .before .before .before .before .before .before .before .before .before in front-long (q k .ny * q k .nx) 4096 grid₀ (few-points k) grid-long
+slice-aggregate-analysed-10 c = let k = c .before .before .before .before .before .before .before .before .before .before .before .before .before .before .before in front-long (q k .ny * q k .nx) mostPoints grid₀ (few-points k) grid-long
 
 array-borrow-prefix-support : tie.Need-array-borrow-prefix-support
 array-borrow-prefix-support c = few-points (c .before .before .before .before .before .before .before .before .before .before .before .before .before .before .before)
 
 slice-aggregate-analysed-11 : tie.Need-slice-aggregate-analysed-11
-slice-aggregate-analysed-11 c = let k = c .before .before .before .before .before .before .before .before .before .before .before .before .before .before .before .before in front-long (q k .ny * q k .nx) 4096 support₀ (few-points k) support-long
+slice-aggregate-analysed-11 c = let k = c .before .before .before .before .before .before .before .before .before .before .before .before .before .before .before .before in front-long (q k .ny * q k .nx) mostPoints support₀ (few-points k) support-long
 
 array-borrow-prefix-verdict : tie.Need-array-borrow-prefix-verdict
 array-borrow-prefix-verdict c = fits (c .before .before .before .before .before .before .before .before .before .before .before .before .before .before .before .before) .stations
 
 slice-aggregate-analysed-12 : tie.Need-slice-aggregate-analysed-12
-slice-aggregate-analysed-12 c = let k = c .before .before .before .before .before .before .before .before .before .before .before .before .before .before .before .before .before in front-long (q k .stations) 512 verdict₀ (fits k .stations) verdict-long
+slice-aggregate-analysed-12 c = let k = c .before .before .before .before .before .before .before .before .before .before .before .before .before .before .before .before .before in front-long (q k .stations) mostStations verdict₀ (fits k .stations) verdict-long
 
 analysed-requires : tie.Need-analysed-requires
 analysed-requires c κs =
     let k = c .before .before .before .before .before .before .before .before .before .before .before .before .before .before .before .before .before .before in
     let s = start k in (
       record {
-        grid = sym (front-long (q k .ny * q k .nx) 4096 grid₀ (few-points k) grid-long);
-        support = sym (front-long (q k .ny * q k .nx) 4096 support₀ (few-points k) support-long);
-        verdict = sym (front-long (q k .stations) 512 verdict₀ (fits k .stations) verdict-long) ∙ front-long (q k .stations) 512 (s .args .x .now) (fits k .stations) (s .pre .1 .columns .x);
+        shape = record {
+          two-columns = fits k .two-columns;
+          few-columns = fits k .few-columns;
+          two-rows = fits k .two-rows;
+          few-rows = fits k .few-rows;
+          whole = sym (front-long (q k .ny * q k .nx) mostPoints (s .args .guess .now) (few-points k) (s .pre .1 .points)) ∙ mul-comm (q k .ny) (q k .nx);
+        };
+        equal = front-equal (q k .stations) (columns s) (fits k .stations) (s .pre .1 .columns);
+        grid-long = sym (front-long (q k .ny * q k .nx) mostPoints grid₀ (few-points k) grid-long);
+        support-long = sym (front-long (q k .ny * q k .nx) mostPoints support₀ (few-points k) support-long);
+        verdict-long = sym (front-long (q k .stations) mostStations verdict₀ (fits k .stations) verdict-long) ∙ front-long (q k .stations) mostStations (s .args .x .now) (fits k .stations) (s .pre .1 .columns .x);
       },
       s .pre .2,
     )

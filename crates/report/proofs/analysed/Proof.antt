@@ -1,9 +1,9 @@
 -- `report::analysed` meets its contract: the analysis, and what it answered. Assumes nothing.
 use borrow.Author.Needs.{needs}
 use lib.ListN.{length}
-use Rattle.scheme.specs.Units.{Request}
+use Rattle.scheme.specs.Units.{Call}
 use Rattle.scheme.specs.Scan.{Analysis}
-use Rattle.scheme.specs.Promises.{requestOf, slices, Analyses}
+use Rattle.scheme.specs.Promises.{sixColumns, callOf, slices, Analyses}
 use Rattle.report.specs.Report.{reply-told, tellable, stands-as}
 use Rattle.report.proofs.analysed.Statement.{statement}
 use Rattle.report.proofs.analysed.Tie as tie
@@ -12,9 +12,9 @@ module _ (c : tie.After-analyse) where
   abbrev start : tie.Start
   start = c .before .before .before .before .before .before .before .before .before .before
 
-  abbrev request : Request
-  request =
-      requestOf (start .args .nx) (start .args .ny) (start .args .guess .now) (start .args .x .now) (start .args .y .now) (start .args .value .now) (start .args .observed .now) (start .args .from .now) (start .args .until .now)
+  abbrev call : Call
+  call =
+      callOf (start .args .nx) (start .args .ny) (start .args .guess .now) (sixColumns (start .args .x .now) (start .args .y .now) (start .args .value .now) (start .args .observed .now) (start .args .from .now) (start .args .until .now))
       (start .args .count) (start .args .radius .now) (start .args .limit .now) (start .args .smooth) (start .args .time) (start .args .age)
 
   abbrev found : Analysis
@@ -25,7 +25,7 @@ module _ (c : tie.After-analyse) where
       slices (c .analyse .last .1 .1 .1 .1 .1 .1 .1 .1 .1 .1 .1 .1 .1 .1 .1 .0) (c .analyse .last .1 .1 .1 .1 .1 .1 .1 .1 .1 .1 .1 .1 .1 .1 .1 .1 .0)
       (c .analyse .last .1 .1 .1 .1 .1 .1 .1 .1 .1 .1 .1 .1 .1 .1 .1 .1 .1 .0)
 
-  answered : Analyses request found (c .analyse .result) left
+  answered : Analyses call found (c .analyse .result) left
   answered = c .analyse .ensures
 
 analyse-requires : tie.Need-analyse-requires
@@ -36,7 +36,7 @@ tell-requires c κs =
     let k = c .before .before .before .before .before .before .before .before .before in
     let s = start k in
     let kept = k .analyse .kept .1 .1 .1 .1 .1 .1 .1 .1 .1 .1 .1 .1 .1 .1 .1 in
-    tellable (request k) (found k) (left k) (k .analyse .result) (s .pre .0) (answered k) (length (s .args .out .now)) (s .pre .1) (kept .0) (kept .1 .0)
+    tellable (call k) (found k) (left k) (k .analyse .result) (s .pre .0) (answered k) (length (s .args .out .now)) (s .pre .1) (kept .0) (kept .1 .0)
 
 same-length : tie.Need-same-length
 same-length c = c .before .before .before .before .before .before .before .before .before .before .before .before .analyse .kept .1 .1 .1 .1 .1 .1 .1 .1 .1 .1 .1 .1 .1 .1 .1 .0
@@ -53,7 +53,7 @@ same-length-4 c = c .before .before .tell .kept .1 .1 .1 .1 .1 .1 .0
 returns : tie.Need-returns
 returns c =
     let k = c .before .before .before .before .before .before .before .before .before .before .before .before in
-    stands-as (start k .args .out .now) (reply-told (request k) (found k) (left k) (k .analyse .result) (start k .pre .0) (answered k)) (c .before .before .tell .ensures)
+    stands-as (start k .args .out .now) (reply-told (call k) (found k) (left k) (k .analyse .result) (start k .pre .0) (answered k)) (c .before .before .tell .ensures)
 
 pub analysed-spec : {M : Type 1} → statement M
 analysed-spec =

@@ -1,5 +1,6 @@
 -- `request::read_request` meets its contract: part after part. Assumes nothing.
 use borrow.Author.Needs.{needs}
+use Rattle.scheme.specs.Units.{mostStations}
 use Rattle.scheme.specs.Promises.{sixColumns}
 use Rattle.request.specs.Whole.{limited, whole, room-less, lent-kept}
 use Rattle.request.proofs.read_request.Statement.{statement}
@@ -30,7 +31,7 @@ station-lines-requires : tie.Need-station-lines-requires
 station-lines-requires c κs =
     let n = c .before .before .before .before .before .before .before .count-line in
     let s = c .before .before .before .before .before .before .before .before .before .before .before .before .before .before .before .before .before .before .before .before .before in
-    (n .ensures .fits, room-less (n .result .count) 512 (sixColumns (s .args .x .now) (s .args .y .now) (s .args .value .now) (s .args .observed .now) (s .args .from .now) (s .args .until .now)) (n .ensures .few) (s .pre .columns))
+    (n .ensures .fits, room-less (n .result .count) mostStations (sixColumns (s .args .x .now) (s .args .y .now) (s .args .value .now) (s .args .observed .now) (s .args .from .now) (s .args .until .now)) (n .ensures .few) (s .pre .columns))
 
 finished-requires : tie.Need-finished-requires
 finished-requires c κs = c .before .before .before .before .before .before .before .before .before .before .before .before .before .before .before .before .before .count-line .ensures .fits
