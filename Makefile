@@ -1,6 +1,7 @@
 # make run: answer a request.  make test: the gate.  make bench: the archive against plain C.  make soak: a million requests compared.
+# make edits: what each edit that must fail would answer, into docs/EDITS.md.
 # make install PREFIX=/usr/local: archive, header, pkg-config file and the program, for a server's build.
-.PHONY: run test bench soak install clean
+.PHONY: run test bench soak edits install clean
 .DEFAULT_GOAL := test
 
 REQUEST ?= examples/evening.request
@@ -34,6 +35,10 @@ soak:
 	@rt staticlib clause > build/soak/staticlib.log 2>&1 || { echo "make soak: rt staticlib clause failed: see build/soak/staticlib.log" >&2; exit 1; }
 	@rt check analyse > build/soak/check.log 2>&1 || { echo "make soak: rt check analyse failed: see build/soak/check.log" >&2; exit 1; }
 	@scripts/soak target/staticlib target/obj/analyse.o
+
+edits:
+	@scripts/tools rt
+	@scripts/edits
 
 install:
 	@scripts/tools rt

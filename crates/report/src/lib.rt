@@ -1,6 +1,7 @@
 // The answer to a request (document 01): its refusal, or its analysis, as text.
 ghost use mathlib.Core.Path.{_≡_};
 ghost use lib.ListN.{length};
+ghost use Rattle.scheme.specs.Units.{asked};
 ghost use Rattle.scheme.specs.Promises.{sixColumns, callOf, slices, Stands};
 ghost use Rattle.scheme.specs.Text.{replyText};
 ghost use Rattle.report.specs.Report.{Measured, toldText, Tellable};

@@ -51,15 +51,15 @@ add-t19 : tie.Need-add-t19
 add-t19 c = let l = subst Limited (c .before .before .before .before .before .before .before .before .before .before .before .h2 .given .1) (c .before .before .before .before .before .before .before .before .before .before .before .before .before .before .pre) in omega (arith, l .line, l .scans, l .few-rows)
 
 returns : tie.Need-returns
-returns c = let a = c .before .before .before .before .before .args in count-no-head (a .s .now) (a .h) (a .few-rows) (c .no-station .result) (c .before .before .h .given .0 .0) (c .before .before .h .given .1) (c .no-station .ensures) (omega arith)
+returns c = let a = c .before .before .before .before .before .args in count-no-head (a .s .now) (a .h) (a .rows) (c .no-station .result) (c .before .before .h .given .0 .0) (c .before .before .h .given .1) (c .no-station .ensures) (omega arith)
 
 returns-2 : tie.Need-returns-2
-returns-2 c = let a = c .before .before .before .before .before .before .before .before .args in count-no-rows (a .s .now) (a .h) (a .few-rows) (c .no-station2 .result) (c .before .before .before .before .before .h2 .given .0 .0) (c .before .before .before .before .before .h2 .given .1) (c .before .before .rows .given .0 .0) (c .before .before .rows .given .1) (c .no-station2 .ensures) (omega arith)
+returns-2 c = let a = c .before .before .before .before .before .before .before .before .args in count-no-rows (a .s .now) (a .h) (a .rows) (c .no-station2 .result) (c .before .before .before .before .before .h2 .given .0 .0) (c .before .before .before .before .before .h2 .given .1) (c .before .before .rows .given .0 .0) (c .before .before .rows .given .1) (c .no-station2 .ensures) (omega arith)
 
 returns-3 : tie.Need-returns-3
 returns-3 c =
     let a = c .before .before .before .before .before .before .before .before .before .before .before .before .before .before .args in
-    count-not-read (a .s .now) (a .h) (a .few-rows) (c .no-station3 .result) (c .before .before .before .before .before .before .before .before .before .before .before .h2 .given .0 .0) (c .before .before .before .before .before .before .before .before .before .before .before .h2 .given .1) (subst Limited (c .before .before .before .before .before .before .before .before .before .before .before .h2 .given .1) (c .before .before .before .before .before .before .before .before .before .before .before .before .before .before .pre)) (c .before .before .before .before .before .before .before .before .rows2 .given .0 .0) (c .before .before .before .before .before .before .before .before .rows2 .given .1)
+    count-not-read (a .s .now) (a .h) (a .rows) (c .no-station3 .result) (c .before .before .before .before .before .before .before .before .before .before .before .h2 .given .0 .0) (c .before .before .before .before .before .before .before .before .before .before .before .h2 .given .1) (subst Limited (c .before .before .before .before .before .before .before .before .before .before .before .h2 .given .1) (c .before .before .before .before .before .before .before .before .before .before .before .before .before .before .pre)) (c .before .before .before .before .before .before .before .before .rows2 .given .0 .0) (c .before .before .before .before .before .before .before .before .rows2 .given .1)
     (c .before .before .before .number-line .ensures .0 ∙ ap (unsignedTold (a .s .now)) (c .before .enum-told .given .1)) (c .no-station3 .ensures)
 
 returns-4 : tie.Need-returns-4
@@ -67,7 +67,7 @@ returns-4 c =
     let a = c .before .before .before .before .before .before .before .before .before .before .before .before .before .before .args in
     let n = c .before .before .before .number-line .ensures in
     let is = c .before .count .given in
-    count-read (a .s .now) (a .h) (a .few-rows) _ (c .before .before .before .before .before .before .before .before .before .before .before .h2 .given .0 .0) (c .before .before .before .before .before .before .before .before .before .before .before .h2 .given .1) (subst Limited (c .before .before .before .before .before .before .before .before .before .before .before .h2 .given .1) (c .before .before .before .before .before .before .before .before .before .before .before .before .before .before .pre)) (c .before .before .before .before .before .before .before .before .rows2 .given .0 .0) (c .before .before .before .before .before .before .before .before .rows2 .given .1)
+    count-read (a .s .now) (a .h) (a .rows) _ (c .before .before .before .before .before .before .before .before .before .before .before .h2 .given .0 .0) (c .before .before .before .before .before .before .before .before .before .before .before .h2 .given .1) (subst Limited (c .before .before .before .before .before .before .before .before .before .before .before .h2 .given .1) (c .before .before .before .before .before .before .before .before .before .before .before .before .before .before .pre)) (c .before .before .before .before .before .before .before .before .rows2 .given .0 .0) (c .before .before .before .before .before .before .before .before .rows2 .given .1)
     (is .0 .0) (is .0 .1 .0) (n .0 ∙ ap (unsignedTold (a .s .now)) (is .1)) (subst (Within 0 mostStations) (is .1) (n .1) .1) refl
 
 pub count-line-spec : {M : Type 1} → statement M

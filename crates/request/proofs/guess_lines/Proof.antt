@@ -32,7 +32,7 @@ row-lines-requires : tie.Need-row-lines-requires
 row-lines-requires c κs =
     let s = c .before .before .before .before .before .before .before .before .before .before .before in
     let l = subst Limited (c .before .before .before .before .before .before .before .before .h2 .given .1) (s .pre .0) in
-    (omega (arith, l .line, l .scans, l .few-rows), omega (arith, mul-le-mul (l .few-rows) (l .columns), s .pre .1))
+    (omega (arith, l .line, l .scans, l .few-rows), omega (arith, mul-le-mul (l .few-rows) (l .few-columns), s .pre .1))
 
 returns : tie.Need-returns
 returns c = rw (c .before .h .given .1) tt
