@@ -1,166 +1,181 @@
--- The cut as a request of its own, and the window on it.
+-- The cut as a call of its own, and the window on it.
 use Prim.Native.Nat.{ℕ, _+_, _-_, _*_, _≤_, _<_}
 use native.Mathlib.Omega.{arith}
 use native.Mathlib.Nat.{mul-le-mul}
-use mathlib.Core.Path.{_≡_, refl, sym, ap, _∙_}
-use mathlib.Core.List.{List, map}
-use lib.ListN.{length, getD, take}
+use mathlib.Core.Path.{_≡_, refl, sym, ap, subst, _∙_}
+use mathlib.Core.List.{List}
+use lib.ListN.{length, take}
 use lib.Seq.{getD-take}
 use lib.IntN.{ℤ, pos}
-use Rattle.lists.specs.Tab.{tab, is-tab, map-tab}
-use Rattle.scheme.specs.Units.{Request, Columns, Station, Field, guess, stationAt, stations, stored}
-use Rattle.scheme.specs.Refusals.{Window}
-use Rattle.scheme.specs.Scan.{after}
-use Rattle.scheme.specs.Reach.{Span, pointsAlong, widened, columnsCut, rowsCut, onCut, stationsCut, cut, windowOf, wholeAt}
-use Rattle.scheme.specs.Accepted.{Sound, OnGrid}
-use Rattle.scheme.specs.Promises.{requestOf, windowAt}
+use Rattle.lists.specs.Tab.{tab, tab-same}
+use Rattle.scheme.specs.Units.{mostSide, Field, stored, mostStations, Columns, stationAt, stationsOf, guess, Request, Call, asked}
+use Rattle.scheme.specs.Refusals.{Span, Window, pointsAlong}
+use Rattle.scheme.specs.Scan.{atEnd}
+use Rattle.scheme.specs.Reach.{reach, widened, cutOf, windowOf, cut, wholeAt}
+use Rattle.scheme.specs.Promises.{sixColumns}
+use Rattle.scheme.specs.Most.{mostPoints}
+use Rattle.scheme.specs.Accepted.{Equal, Sound, noStation, rows-of, row-of, OnGrid, QueryAccepted}
 use Rattle.scheme.specs.Stored.{stored-same}
 use Rattle.scheme.specs.Cut.{cut-sound}
-use Rattle.scheme.specs.Windows.{window-value, window-support}
+use Rattle.scheme.specs.Windows.{OfWindow, window-value, window-support}
 use Rattle.cut.specs.Kept.{Long, KeepReady, Kept}
 use Rattle.cut.specs.Part.{partOf, PartReady, part-ready}
-use Rattle.tile.specs.Query.{QueryReady, prefix-long}
+use Rattle.tile.specs.Query.{prefix-long}
 
--- the window from the cut's lower corner
-abbrev pub moved : Span → Span → Window → Window
-moved columns rows w = windowAt (w .left - columns .first) (w .right - columns .first) (w .top - rows .first) (w .bottom - rows .first)
+-- ---- along one axis of n points: the window lies on the cut, and the cut on the grid
 
--- the window lies on the cut, and the cut on the grid
-pub record Sides (q : Request) (w : Window) (columns rows : Span) : Type 0 where
-  pub left : columns .first ≤ w .left
-  pub right : w .right ≤ columns .last
-  pub inside : columns .last < q .nx
-  pub top : rows .first ≤ w .top
-  pub bottom : w .bottom ≤ rows .last
-  pub below : rows .last < q .ny
+pub record Along (n : ℕ) (window cut : Span) : Type 0 where
+  pub first : cut .first ≤ window .first
+  pub ordered : window .first ≤ window .last
+  pub last : window .last ≤ cut .last
+  pub inside : cut .last < n
 
-pub sides : (q : Request) (w : Window) → OnGrid q w → {columns rows : Span} → columns ≡ columnsCut q w → rows ≡ rowsCut q w → Sides q w columns rows
-unfolding columnsCut rowsCut widened
-sides q w on cs rs =
-    rw (cs, rs)
-    (record {
-      left = omega arith;
-      right = omega (arith, on .right);
-      inside = omega (arith, on .right);
-      top = omega arith;
-      bottom = omega (arith, on .bottom);
-      below = omega (arith, on .bottom);
-    })
+along : (wider n : ℕ) (window : Span) → window .first ≤ window .last → window .last < n → Along n window (widened wider n window)
+unfolding widened
+along wider n window o h = record { first = omega arith; ordered = o; last = omega arith; inside = omega arith }
 
--- ---- what the work needs on the way
+-- the window, from the cut's first point on
+abbrev pub moved : Span → Span → Span
+moved cut window = record { first = window .first - cut .first; last = window .last - cut .first }
 
-module _ (q : Request) (w : Window) (sound : Sound q) (on : OnGrid q w) (columns rows : Span) (s : Sides q w columns rows) where
-  pub few-points : pointsAlong columns * pointsAlong rows ≤ 4096
+abbrev pub movedOn : Window → Window → Window
+movedOn cut w = record { columns = moved (cut .columns) (w .columns); rows = moved (cut .rows) (w .rows) }
+
+-- it is as long
+same-points : {n : ℕ} {window cut : Span} → Along n window cut → pointsAlong (moved cut window) ≡ pointsAlong window
+same-points a = omega (arith, a .first, a .ordered)
+
+-- ---- the first m rows of columns, which alone are lent
+
+abbrev pub firstRows : ℕ → Columns → Columns
+firstRows m k = sixColumns (take m (k .x)) (take m (k .y)) (take m (k .value)) (take m (k .observed)) (take m (k .from)) (take m (k .until))
+
+first-rows : (m : ℕ) (k : Columns) → m ≤ length (k .x) → stationsOf (firstRows m k) ≡ tab m (stationAt k)
+unfolding stationsOf stationAt
+first-rows m k h =
+    ap (λ (n : ℕ). tab n (stationAt (firstRows m k))) (prefix-long m (k .x) h)
+    ∙ tab-same m (stationAt (firstRows m k)) (stationAt k)
+    (λ i p. rw (
+      getD-take m (k .x) i (pos 0) p,
+      getD-take m (k .y) i (pos 0) p,
+      getD-take m (k .value) i (pos 0) p,
+      getD-take m (k .observed) i 0 p,
+      getD-take m (k .from) i 0 p,
+      getD-take m (k .until) i 0 p,
+    ))
+
+first-equal : (m : ℕ) (k : Columns) → Long k → m ≤ mostStations → Equal (firstRows m k)
+first-equal m k l h =
+    record {
+      y = one (k .y) (l .y);
+      value = one (k .value) (l .value);
+      observed = one (k .observed) (l .observed);
+      from = one (k .from) (l .from);
+      until = one (k .until) (l .until);
+      few = omega (arith, prefix-long m (k .x) (omega (arith, l .x)));
+    }
+  where
+    one : {A : Type 0} (col : List A) → length col ≡ mostStations → length (take m col) ≡ length (take m (k .x))
+    one col long = prefix-long m col (omega arith) ∙ sym (prefix-long m (k .x) (omega (arith, l .x)))
+
+-- ---- an accepted query, and the cut as the code has it: a window, a first guess and columns
+
+abbrev pub cutCall : Call → Window → List ℤ → Columns → Call
+cutCall c here part columns =
+    record { nx = pointsAlong (here .columns); ny = pointsAlong (here .rows); firstGuess = part; stations = columns; plan = c .plan; T = c .T; A = c .A }
+
+module _ {c : Call} {w : Window} {grid support : ℕ} (p : QueryAccepted c w grid support) {here : Window} (e : here ≡ cutOf (asked c) w) where
+  pub across : Along (c .nx) (w .columns) (here .columns)
+  across = rw e (along (reach (c .plan)) (c .nx) (w .columns) (p .on-grid .across) (p .on-grid .right))
+
+  pub down : Along (c .ny) (w .rows) (here .rows)
+  down = rw e (along (reach (c .plan)) (c .ny) (w .rows) (p .on-grid .down) (p .on-grid .bottom))
+
+  -- what the work needs on the way
+  pub few-points : pointsAlong (here .columns) * pointsAlong (here .rows) ≤ mostPoints
   few-points = mul-le-mul wide high
     where
-      wide : pointsAlong columns ≤ 64
-      wide = omega (arith, s .inside, sound .shape .few-columns)
+      wide : pointsAlong (here .columns) ≤ mostSide
+      wide = omega (arith, across .inside, p .sound .request .shape .few-columns)
 
-      high : pointsAlong rows ≤ 64
-      high = omega (arith, s .below, sound .shape .few-rows)
+      high : pointsAlong (here .rows) ≤ mostSide
+      high = omega (arith, down .inside, p .sound .request .shape .few-rows)
 
-  pub guess-part : (m : ℕ) → m ≡ pointsAlong columns * pointsAlong rows
-      → PartReady m (length (q .firstGuess)) (q .nx) (columns .first) (rows .first) (pointsAlong columns) (pointsAlong rows)
-  guess-part m e =
-      part-ready (sound .shape) (omega (arith, on .across, s .left, s .right, s .inside)) (omega (arith, on .down, s .top, s .bottom, s .below)) m e
+  pub guess-part : (m : ℕ) → m ≡ pointsAlong (here .columns) * pointsAlong (here .rows)
+      → PartReady m (length (c .firstGuess)) (c .nx) (here .columns .first) (here .rows .first) (pointsAlong (here .columns)) (pointsAlong (here .rows))
+  guess-part m long =
+      part-ready (p .sound .request .shape) (omega (arith, across .first, across .ordered, across .last, across .inside))
+      (omega (arith, down .first, down .ordered, down .last, down .inside)) m long
 
-  pub keep-ready : KeepReady columns rows (q .columns)
+  pub keep-ready : KeepReady here (c .stations)
   keep-ready =
       record {
-        equal = sound .columns;
-        x = λ k h. unfold stationAt in sound .stations k h .x;
-        y = λ k h. unfold stationAt in sound .stations k h .y;
-        columns-first = omega (arith, on .across, s .left, s .right, s .inside, sound .shape .few-columns);
-        columns-last = omega (arith, s .inside, sound .shape .few-columns);
-        rows-first = omega (arith, on .down, s .top, s .bottom, s .below, sound .shape .few-rows);
-        rows-last = omega (arith, s .below, sound .shape .few-rows);
+        equal = p .sound .columns;
+        x = λ k h. unfold stationAt in p .sound .stations k h .x;
+        y = λ k h. unfold stationAt in p .sound .stations k h .y;
+        columns-first = omega (arith, across .first, across .ordered, across .last, across .inside, p .sound .request .shape .few-columns);
+        columns-last = omega (arith, across .inside, p .sound .request .shape .few-columns);
+        rows-first = omega (arith, down .first, down .ordered, down .last, down .inside, p .sound .request .shape .few-rows);
+        rows-last = omega (arith, down .inside, p .sound .request .shape .few-rows);
       }
 
--- ---- the request that the code makes is the cut
+  -- the call that the code makes of it
+  module _ {part : List ℤ} {k : Columns} {m : ℕ}
+      (first-guess : part ≡ stored (pointsAlong (here .columns)) (pointsAlong (here .rows)) (partOf (pos 0) (c .nx) (here .columns .first) (here .rows .first) (c .firstGuess)))
+      (l : Long k) (few : m ≤ mostStations) (kept : Kept here (c .stations) k (length (c .stations .x)) m) where
+    -- it asks the cut, and is accepted
+    pub asks-cut : asked (cutCall c here part (firstRows m k)) ≡ cut (asked c) w
+    unfolding cut windowOf guess
+    asks-cut = rw (first-rows m k (omega (arith, l .x)), kept .stations, first-guess, e) (unfold stationsOf in refl)
 
-module _ (q : Request) (w : Window) {columns rows : Span} (cs : columns ≡ columnsCut q w) (rs : rows ≡ rowsCut q w) where
-  -- its stations
-  kept-are : {c : Columns} {m : ℕ} → Kept columns rows (q .columns) c (length (q .columns .x)) m → tab m (stationAt c) ≡ stationsCut q w
-  unfolding stationsCut onCut stations
-  kept-are k = (rw (cs, rs) at k) .stations
+    made-sound : Sound (asked (cutCall c here part (firstRows m k)))
+    made-sound = subst Sound (sym asks-cut) (cut-sound (asked c) w (p .sound .request) (p .on-grid))
 
-  -- its first guess
-  guess-is : {part : List ℤ} → part ≡ stored (pointsAlong columns) (pointsAlong rows) (partOf (pos 0) (q .nx) (columns .first) (rows .first) (q .firstGuess))
-      → part ≡ cut q w .firstGuess
-  unfolding cut guess
-  guess-is e = rw (cs, rs) at e
-
-  pub cut-made : {part : List ℤ} {c : Columns} {m : ℕ}
-      → part ≡ stored (pointsAlong columns) (pointsAlong rows) (partOf (pos 0) (q .nx) (columns .first) (rows .first) (q .firstGuess))
-      → Long c → m ≤ 512 → Kept columns rows (q .columns) c (length (q .columns .x)) m
-      → requestOf (pointsAlong columns) (pointsAlong rows) part (take m (c .x)) (take m (c .y)) (take m (c .value)) (take m (c .observed)) (take m (c .from)) (take m (c .until)) (q .scans) (q .radius) (q .limit) (q .smooth) (q .T) (q .A)
-      ≡ cut q w
-  unfolding cut stationAt
-  cut-made {part = part} {c = c} {m = m} e l h k =
-      rw (
-        cs,
-        rs,
-        guess-is e,
-        column (pos 0) (λ s. s .x) (c .x) (l .x) (λ k. refl),
-        column (pos 0) (λ s. s .y) (c .y) (l .y) (λ k. refl),
-        column (pos 0) (λ s. s .value) (c .value) (l .value) (λ k. refl),
-        column 0 (λ s. s .observed) (c .observed) (l .observed) (λ k. refl),
-        column 0 (λ s. s .from) (c .from) (l .from) (λ k. refl),
-        column 0 (λ s. s .until) (c .until) (l .until) (λ k. refl),
-      )
-    where
-      column : {A : Type 0} (o : A) (f : Station → A) (col : List A) → length col ≡ 512 → ((k : ℕ) → getD col k o ≡ f (stationAt c k))
-          → take m col ≡ map f (stationsCut q w)
-      column o f col long at =
-          is-tab o m (λ k. f (stationAt c k)) (take m col) (prefix-long m col (omega arith)) (λ k p. getD-take m col k o p ∙ at k)
-          ∙ sym (map-tab f m (stationAt c))
-          ∙ ap (map f) (kept-are k)
+    pub cut-accepted : QueryAccepted (cutCall c here part (firstRows m k)) (movedOn here w) grid support
+    cut-accepted =
+        record {
+          sound = record {
+            request = made-sound;
+            columns = first-equal m k l few;
+            stations = λ i h. rw (← row-of (firstRows m k) i noStation h) (made-sound .stations i (omega (arith, rows-of (firstRows m k))));
+          };
+          on-grid = record {
+            across = omega (arith, across .ordered);
+            down = omega (arith, down .ordered);
+            right = omega (arith, across .first, across .ordered, across .last);
+            bottom = omega (arith, down .first, down .ordered, down .last);
+          };
+          grid-long = rw (same-points across, same-points down) (p .grid-long);
+          support-long = rw (same-points across, same-points down) (p .support-long);
+        }
 
 -- ---- the window on it
 
-module _ (q : Request) (w : Window) (sound : Sound q) (on : OnGrid q w) {columns rows : Span} (cs : columns ≡ columnsCut q w) (rs : rows ≡ rowsCut q w) where
-  abbrev side : Sides q w columns rows
-  side = sides q w on cs rs
+module _ (q : Request) (w : Window) (sound : Sound q) (on : OnGrid (q .nx) (q .ny) w) where
+  abbrev x : Along (q .nx) (w .columns) (cutOf q w .columns)
+  x = along (reach (q .plan)) (q .nx) (w .columns) (on .across) (on .right)
 
-  -- as wide and as high
-  same-width : w .right - columns .first - (w .left - columns .first) + 1 ≡ w .right - w .left + 1
-  same-width = omega (arith, on .across, side .left)
+  abbrev y : Along (q .ny) (w .rows) (cutOf q w .rows)
+  y = along (reach (q .plan)) (q .ny) (w .rows) (on .down) (on .bottom)
 
-  same-height : w .bottom - rows .first - (w .top - rows .first) + 1 ≡ w .bottom - w .top + 1
-  same-height = omega (arith, on .down, side .top)
-
-  pub cut-ready : {grid support : ℕ} → QueryReady q w grid support → QueryReady (cut q w) (moved columns rows w) grid support
-  cut-ready p =
-      record {
-        sound = cut-sound q w sound on;
-        on-grid = unfold cut in rw (sym cs, sym rs)
-            (record {
-              across = omega (arith, on .across);
-              down = omega (arith, on .down);
-              right = omega (arith, on .across, side .left, side .right);
-              bottom = omega (arith, on .down, side .top, side .bottom);
-            });
-        grid-is = rw (same-width, same-height) (p .grid-is);
-        support-is = rw (same-width, same-height) (p .support-is);
-      }
-
-  window-same : {A : Type 0} (f g : Field A)
-      → ((i j : ℕ) → w .left ≤ i → i ≤ w .right → w .top ≤ j → j ≤ w .bottom → f (i - columnsCut q w .first) (j - rowsCut q w .first) ≡ g i j)
-      → windowOf (moved columns rows w) f ≡ windowOf w g
+  window-same : {A : Type 0} (f g : Field A) → ((i j : ℕ) → OfWindow w i j → f (i - cutOf q w .columns .first) (j - cutOf q w .rows .first) ≡ g i j)
+      → windowOf (movedOn (cutOf q w) w) f ≡ windowOf w g
   unfolding windowOf
-  window-same f g h =
-      rw (same-width, same-height) (stored-same (w .right - w .left + 1) (w .bottom - w .top + 1) _ _ go)
+  window-same f g h = rw (same-points x, same-points y) (stored-same (pointsAlong (w .columns)) (pointsAlong (w .rows)) _ _ go)
     where
-      go : (i j : ℕ) → i < w .right - w .left + 1 → j < w .bottom - w .top + 1 → f (i + (w .left - columns .first)) (j + (w .top - rows .first)) ≡ g (i + w .left) (j + w .top)
+      go : (i j : ℕ) → i < pointsAlong (w .columns) → j < pointsAlong (w .rows)
+          → f (i + moved (cutOf q w .columns) (w .columns) .first) (j + moved (cutOf q w .rows) (w .rows) .first) ≡ g (i + w .columns .first) (j + w .rows .first)
       go i j hi hj =
-          let x : i + (w .left - columns .first) ≡ i + w .left - columnsCut q w .first = rw (sym cs) (omega (arith, side .left)) in
-          let y : j + (w .top - rows .first) ≡ j + w .top - rowsCut q w .first = rw (sym rs) (omega (arith, side .top)) in
-          rw (x, y) (h (i + w .left) (j + w .top) (omega arith) (omega (arith, on .across)) (omega arith) (omega (arith, on .down)))
+          let a : i + (w .columns .first - cutOf q w .columns .first) ≡ i + w .columns .first - cutOf q w .columns .first = omega (arith, x .first) in
+          let b : j + (w .rows .first - cutOf q w .rows .first) ≡ j + w .rows .first - cutOf q w .rows .first = omega (arith, y .first) in
+          rw (a, b)
+          (h (i + w .columns .first) (j + w .rows .first)
+          (record { left = omega arith; right = omega (arith, on .across); top = omega arith; bottom = omega (arith, on .down) }))
 
   -- DEMAND 3: the analysis of the cut gives the window the numbers of the whole grid
-  pub cut-whole : wholeAt (cut q w) (moved columns rows w) ≡ wholeAt q w
+  pub cut-whole : wholeAt (cut q w) (movedOn (cutOf q w) w) ≡ wholeAt q w
   unfolding wholeAt
   cut-whole =
-      let v = window-same (after (cut q w) (q .scans) .field) (after q (q .scans) .field) (window-value q w sound on) in
-      let b = window-same (after (cut q w) (q .scans) .support) (after q (q .scans) .support) (window-support q w sound on) in
-      unfold cut in cc
+      let v = window-same (atEnd (cut q w) .field) (atEnd q .field) (unfold cut in window-value q w sound on) in
+      let b = window-same (atEnd (cut q w) .support) (atEnd q .support) (unfold cut in window-support q w sound on) in
+      cc

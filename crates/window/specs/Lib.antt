@@ -1,3 +1,2 @@
 -- What the code of the window query computes, tied to document 01's definitions. Proved.
-pub mod Accepts
 pub mod Cut

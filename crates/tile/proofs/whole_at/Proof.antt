@@ -8,11 +8,12 @@ use mathlib.Core.Path.{_≡_, sym, ap, _∙_}
 use mathlib.Core.List.{List}
 use lib.ListN.{length, replicate, length-replicate}
 use lib.IntN.{ℤ, pos}
-use Rattle.scheme.specs.Units.{Request}
+use Rattle.scheme.specs.Units.{mostStations, Call, asked}
 use Rattle.scheme.specs.Refusals.{Window}
 use Rattle.scheme.specs.Scan.{analysis}
+use Rattle.scheme.specs.Promises.{sixColumns, callOf, windowAt, slices}
 use Rattle.scheme.specs.Accepted.{same-shape}
-use Rattle.scheme.specs.Promises.{requestOf, windowAt, slices}
+use Rattle.scheme.specs.Most.{mostPoints}
 use Rattle.tile.specs.Query.{prefix-long, prefix-back, prefix-in, values-long, bits-long, window-part, whole-part}
 use Rattle.tile.proofs.whole_at.Statement.{statement}
 use Rattle.tile.proofs.whole_at.Tie as tie
@@ -22,32 +23,32 @@ use Rattle.analysis.proofs.work.Reads as work-reads
 use Rattle.cut.proofs.part_of_bytes.Reads as part-of-bytes-reads
 use Rattle.cut.proofs.part_of_values.Reads as part-of-values-reads
 
--- the request and the window
+-- the call and the window
 module _ (s : lts.Start (work-reads.Asked, work-reads.Learnt, part-of-values-reads.Asked, part-of-values-reads.Learnt, part-of-bytes-reads.Asked, part-of-bytes-reads.Learnt) reads.Pre reads.Post) where
-  abbrev q : Request
-  q = let a = s .args in requestOf (a .nx) (a .ny) (a .guess .now) (a .x .now) (a .y .now) (a .value .now) (a .observed .now) (a .from .now) (a .until .now) (a .scans) (a .radius .now) (a .limit .now) (a .smooth) (a .time) (a .age)
+  abbrev call : Call
+  call = let a = s .args in callOf (a .nx) (a .ny) (a .guess .now) (sixColumns (a .x .now) (a .y .now) (a .value .now) (a .observed .now) (a .from .now) (a .until .now)) (a .scans) (a .radius .now) (a .limit .now) (a .smooth) (a .time) (a .age)
 
   abbrev w : Window
   w = let a = s .args in windowAt (a .left) (a .right) (a .top) (a .bottom)
 
   abbrev points : ℕ
-  points = q .nx * q .ny
+  points = call .nx * call .ny
 
   abbrev rows : ℕ
   rows = length (s .args .x .now)
 
-  few : points ≤ 4096
-  few = mul-le-mul (s .pre .sound .shape .few-columns) (s .pre .sound .shape .few-rows)
+  few : points ≤ mostPoints
+  few = mul-le-mul (s .pre .sound .request .shape .few-columns) (s .pre .sound .request .shape .few-rows)
 
 -- the local arrays at first
 abbrev values₀ : List ℤ
-values₀ = replicate 4096 (pos 0)
+values₀ = replicate mostPoints (pos 0)
 
 abbrev bits₀ : List ℕ
-bits₀ = replicate 4096 0
+bits₀ = replicate mostPoints 0
 
 abbrev verdict₀ : List ℕ
-verdict₀ = replicate 512 0
+verdict₀ = replicate mostStations 0
 
 mul-points : tie.Need-mul-points
 mul-points c = search needs
@@ -56,28 +57,28 @@ array-borrow-prefix-values : tie.Need-array-borrow-prefix-values
 array-borrow-prefix-values c = few (c .before .before .before .before)
 
 slice-aggregate-work : tie.Need-slice-aggregate-work
-slice-aggregate-work c = sym (prefix-long _ values₀ (omega (arith, few (c .before .before .before .before .before), length-replicate {A = ℤ} 4096 (pos 0))))
+slice-aggregate-work c = sym (prefix-long _ values₀ (omega (arith, few (c .before .before .before .before .before), length-replicate {A = ℤ} mostPoints (pos 0))))
 
 array-borrow-prefix-bits : tie.Need-array-borrow-prefix-bits
 array-borrow-prefix-bits c = few (c .before .before .before .before .before)
 
 slice-aggregate-work-2 : tie.Need-slice-aggregate-work-2
-slice-aggregate-work-2 c = sym (prefix-long _ bits₀ (omega (arith, few (c .before .before .before .before .before .before), length-replicate {A = ℕ} 4096 0)))
+slice-aggregate-work-2 c = sym (prefix-long _ bits₀ (omega (arith, few (c .before .before .before .before .before .before), length-replicate {A = ℕ} mostPoints 0)))
 
 array-borrow-prefix-verdict : tie.Need-array-borrow-prefix-verdict
 array-borrow-prefix-verdict c = search needs
 
 slice-aggregate-work-3 : tie.Need-slice-aggregate-work-3
-slice-aggregate-work-3 c = sym (prefix-long _ verdict₀ (omega (arith, c .before .before .before .before .before .before .before .pre .sound .columns .few, length-replicate {A = ℕ} 512 0)))
+slice-aggregate-work-3 c = sym (prefix-long _ verdict₀ (omega (arith, c .before .before .before .before .before .before .before .pre .sound .columns .few, length-replicate {A = ℕ} mostStations 0)))
 
 work-requires : tie.Need-work-requires
 work-requires c κs =
     let s = c .before .before .before .before .before .before .before in
     record {
       sound = s .pre .sound;
-      grid = prefix-long (points s) values₀ (omega (arith, few s, length-replicate {A = ℤ} 4096 (pos 0)));
-      support = prefix-long (points s) bits₀ (omega (arith, few s, length-replicate {A = ℕ} 4096 0));
-      verdict = prefix-long (rows s) verdict₀ (omega (arith, s .pre .sound .columns .few, length-replicate {A = ℕ} 512 0));
+      grid-long = prefix-long (points s) values₀ (omega (arith, few s, length-replicate {A = ℤ} mostPoints (pos 0)));
+      support-long = prefix-long (points s) bits₀ (omega (arith, few s, length-replicate {A = ℕ} mostPoints 0));
+      verdict-long = prefix-long (rows s) verdict₀ (omega (arith, s .pre .sound .columns .few, length-replicate {A = ℕ} mostStations 0));
     }
 
 -- what the analysis leaves
@@ -94,14 +95,14 @@ module _ (c : lts.After-work (work-reads.Asked, work-reads.Learnt, part-of-value
   abbrev verdict : List ℕ
   verdict = c .work .last .1 .1 .1 .1 .1 .1 .1 .1 .1 .1 .1 .1 .1 .1 .1 .1 .1 .0
 
-  done : slices values bits verdict ≡ analysis (q start)
+  done : slices values bits verdict ≡ analysis (asked (call start))
   done = c .work .ensures
 
-  long : length values ≡ q start .nx * q start .ny
-  long = values-long (q start) done
+  long : length values ≡ points start
+  long = values-long (asked (call start)) done
 
-  long' : length bits ≡ q start .nx * q start .ny
-  long' = bits-long (q start) done
+  long' : length bits ≡ points start
+  long' = bits-long (asked (call start)) done
 
 sub-wide : tie.Need-sub-wide
 sub-wide c = search needs
@@ -125,7 +126,7 @@ part-of-values-requires : tie.Need-part-of-values-requires
 part-of-values-requires c κs =
     let k = c .before .before .before .before .before in
     let p = start k .pre in
-    rw (prefix-back (points (start k)) (values k) values₀ (long k)) (window-part (q (start k)) (w (start k)) (p .on-grid) (same-shape (p .sound .shape) _ (long k)) _ (p .grid-is))
+    rw (prefix-back (points (start k)) (values k) values₀ (long k)) (window-part (asked (call (start k))) (w (start k)) (p .on-grid) (same-shape (p .sound .request .shape) _ (long k)) _ (p .grid-long))
 
 array-share-prefix-bits : tie.Need-array-share-prefix-bits
 array-share-prefix-bits c = let k = c .before .before .before .before .before .before .before .before in prefix-in (points (start k)) (bits k) bits₀ (long' k)
@@ -137,7 +138,7 @@ part-of-bytes-requires : tie.Need-part-of-bytes-requires
 part-of-bytes-requires c κs =
     let k = c .before .before .before .before .before .before .before .before .before in
     let p = start k .pre in
-    rw (prefix-back (points (start k)) (bits k) bits₀ (long' k)) (window-part (q (start k)) (w (start k)) (p .on-grid) (same-shape (p .sound .shape) _ (long' k)) _ (p .support-is))
+    rw (prefix-back (points (start k)) (bits k) bits₀ (long' k)) (window-part (asked (call (start k))) (w (start k)) (p .on-grid) (same-shape (p .sound .request .shape) _ (long' k)) _ (p .support-long))
 
 same-length : tie.Need-same-length
 same-length c = search needs
@@ -150,7 +151,7 @@ returns c =
     let k = c .before .before .before .before .before .before .before .before .before .before .before .before in
     let g = rw (prefix-back (points (start k)) (values k) values₀ (long k)) at (c .before .before .before .before .before .before .part-of-values .ensures) in
     let b = rw (prefix-back (points (start k)) (bits k) bits₀ (long' k)) at (c .before .before .part-of-bytes .ensures) in
-    whole-part (q (start k)) (w (start k)) (start k .pre .on-grid) (done k) g b
+    whole-part (asked (call (start k))) (w (start k)) (start k .pre .on-grid) (done k) g b
 
 pub whole-at-spec : {M : Type 1} → statement M
 whole-at-spec =

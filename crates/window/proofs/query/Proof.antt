@@ -1,7 +1,7 @@
 -- `window::query` meets its contract: a refusal found before anything is written, or the work. Assumes nothing.
 use borrow.Author.Needs.{needs}
 use Rattle.refusal.specs.Coded.{refuses, works}
-use Rattle.window.specs.Accepts.{query-ready}
+use Rattle.scheme.specs.Accepted.{window-accepted}
 use Rattle.window.proofs.query.Statement.{statement}
 use Rattle.window.proofs.query.Tie as tie
 
@@ -12,7 +12,7 @@ returns : tie.Need-returns
 returns c = refuses _ _ (c .before .of-window .ensures _ _ _) (c .if1 .taken)
 
 work-requires : tie.Need-work-requires
-work-requires c κs = let e = c .before .before in query-ready _ _ _ _ (e .before .of-window .ensures _ _ _ .only (e .if1 .left))
+work-requires c κs = let e = c .before .before in window-accepted _ _ _ _ (e .before .of-window .ensures _ _ _ .only (e .if1 .left))
 
 same-length : tie.Need-same-length
 same-length c = search needs

@@ -3,20 +3,21 @@
 use Prim.Native.Nat.{ℕ, _*_, _≤_}
 use native.Mathlib.Omega.{arith}
 use borrow.Author.Needs.{needs}
-use mathlib.Core.Path.{_≡_, refl, sym, ap, subst, _∙_}
+use mathlib.Core.Path.{_≡_, sym, ap, ap₂, _∙_}
 use mathlib.Core.List.{List, _++_}
 use lib.ListN.{length, take, drop, replicate, length-replicate}
 use lib.IntN.{ℤ, pos}
-use Rattle.scheme.specs.Units.{Request, Columns, stored}
-use Rattle.scheme.specs.Refusals.{Window}
-use Rattle.scheme.specs.Reach.{reach, Span, pointsAlong, columnsCut, rowsCut, cut, wholeAt}
-use Rattle.scheme.specs.Promises.{sixColumns, requestOf, windowAt}
+use Rattle.scheme.specs.Units.{stored, mostStations, Columns, Request, Call, asked}
+use Rattle.scheme.specs.Refusals.{Span, Window, pointsAlong}
+use Rattle.scheme.specs.Reach.{reach, cutOf, cut, wholeAt}
+use Rattle.scheme.specs.Promises.{sixColumns, callOf, windowAt}
+use Rattle.scheme.specs.Most.{mostPoints}
 use Rattle.scheme.specs.Stored.{length-stored}
-use Rattle.spans.specs.Spans.{fromTo, planned}
+use Rattle.spans.specs.Spans.{radii}
 use Rattle.cut.specs.Kept.{Long, Kept}
 use Rattle.cut.specs.Part.{partOf}
-use Rattle.tile.specs.Query.{QueryReady, prefix-long, prefix-back, prefix-in}
-use Rattle.window.specs.Cut.{moved, Sides, sides, few-points, guess-part, keep-ready, cut-made, cut-ready, cut-whole}
+use Rattle.tile.specs.Query.{prefix-long, prefix-back, prefix-in}
+use Rattle.window.specs.Cut.{Along, movedOn, firstRows, cutCall, across, down, few-points, guess-part, keep-ready, asks-cut, cut-accepted, cut-whole}
 use Rattle.window.proofs.work.Statement.{statement}
 use Rattle.window.proofs.work.Tie as tie
 use Rattle.window.proofs.work.Reads as reads
@@ -27,10 +28,10 @@ use Rattle.spans.proofs.reach.Reads as reach-reads
 use Rattle.tile.proofs.whole_at.Reads as whole-at-reads
 use Rattle.spans.proofs.widened.Reads as widened-reads
 
--- the request and the window
+-- the call and the window
 module _ (s : lts.Start (reach-reads.Asked, reach-reads.Learnt, widened-reads.Asked, widened-reads.Learnt, part-of-values-reads.Asked, part-of-values-reads.Learnt, keep-stations-reads.Asked, keep-stations-reads.Learnt, whole-at-reads.Asked, whole-at-reads.Learnt) reads.Pre reads.Post) where
-  abbrev q : Request
-  q = let a = s .args in requestOf (a .nx) (a .ny) (a .guess .now) (a .x .now) (a .y .now) (a .value .now) (a .observed .now) (a .from .now) (a .until .now) (a .count) (a .radius .now) (a .limit .now) (a .smooth) (a .time) (a .age)
+  abbrev call : Call
+  call = let a = s .args in callOf (a .nx) (a .ny) (a .guess .now) (sixColumns (a .x .now) (a .y .now) (a .value .now) (a .observed .now) (a .from .now) (a .until .now)) (a .count) (a .radius .now) (a .limit .now) (a .smooth) (a .time) (a .age)
 
   abbrev w : Window
   w = let a = s .args in windowAt (a .left) (a .right) (a .top) (a .bottom)
@@ -40,38 +41,35 @@ module _ (c : lts.After-widened2 (reach-reads.Asked, reach-reads.Learnt, widened
   abbrev start : lts.Start (reach-reads.Asked, reach-reads.Learnt, widened-reads.Asked, widened-reads.Learnt, part-of-values-reads.Asked, part-of-values-reads.Learnt, keep-stations-reads.Asked, keep-stations-reads.Learnt, whole-at-reads.Asked, whole-at-reads.Learnt) reads.Pre reads.Post
   start = c .before .before .before .before .before .before .before
 
-  abbrev columns : Span
-  columns = fromTo (c .before .widened .result .first) (c .before .widened .result .last)
-
-  abbrev rows : Span
-  rows = fromTo (c .widened2 .result .first) (c .widened2 .result .last)
+  abbrev here : Window
+  here = let a = c .before .widened .result in let b = c .widened2 .result in windowAt (a .first) (a .last) (b .first) (b .last)
 
   abbrev points : ℕ
-  points = pointsAlong columns * pointsAlong rows
+  points = pointsAlong (here .columns) * pointsAlong (here .rows)
 
-  reach-is : c .before .before .reach .result ≡ reach (q start)
-  reach-is = c .before .before .reach .ensures .1 (q start) (record { radius-is = refl; scans-are = refl; smooth-is = refl })
+  reach-is : c .before .before .reach .result ≡ reach (call start .plan)
+  reach-is = c .before .before .reach .ensures .1 (call start .plan .limit)
 
-  columns-is : columns ≡ columnsCut (q start) (w start)
-  unfolding columnsCut
-  columns-is = rw reach-is at (c .before .widened .ensures)
+  here-is : here ≡ cutOf (asked (call start)) (w start)
+  here-is =
+      ap₂ (λ (columns rows : Span). record { columns = columns; rows = rows })
+      (rw reach-is at (c .before .widened .ensures)) (rw reach-is at (c .widened2 .ensures))
 
-  rows-is : rows ≡ rowsCut (q start) (w start)
-  unfolding rowsCut
-  rows-is = rw reach-is at (c .widened2 .ensures)
+  x : Along (call start .nx) (w start .columns) (here .columns)
+  x = across (start .pre) here-is
 
-  side : Sides (q start) (w start) columns rows
-  side = sides (q start) (w start) (start .pre .on-grid) columns-is rows-is
+  y : Along (call start .ny) (w start .rows) (here .rows)
+  y = down (start .pre) here-is
 
-  few : points ≤ 4096
-  few = few-points (q start) (w start) (start .pre .sound) (start .pre .on-grid) columns rows side
+  few : points ≤ mostPoints
+  few = few-points (start .pre) here-is
 
 -- its first guess, in a local array
 abbrev part₀ : List ℤ
-part₀ = replicate 4096 (pos 0)
+part₀ = replicate mostPoints (pos 0)
 
 long₀ : (c : lts.After-widened2 (reach-reads.Asked, reach-reads.Learnt, widened-reads.Asked, widened-reads.Learnt, part-of-values-reads.Asked, part-of-values-reads.Learnt, keep-stations-reads.Asked, keep-stations-reads.Learnt, whole-at-reads.Asked, whole-at-reads.Learnt) reads.Pre reads.Post) → length (take (points c) part₀) ≡ points c
-long₀ c = prefix-long (points c) part₀ (omega (arith, few c, length-replicate {A = ℤ} 4096 (pos 0)))
+long₀ c = prefix-long (points c) part₀ (omega (arith, few c, length-replicate {A = ℤ} mostPoints (pos 0)))
 
 module _ (c : lts.After-part-of-values (reach-reads.Asked, reach-reads.Learnt, widened-reads.Asked, widened-reads.Learnt, part-of-values-reads.Asked, part-of-values-reads.Learnt, keep-stations-reads.Asked, keep-stations-reads.Learnt, whole-at-reads.Asked, whole-at-reads.Learnt) reads.Pre reads.Post) where
   abbrev spans : lts.After-widened2 (reach-reads.Asked, reach-reads.Learnt, widened-reads.Asked, widened-reads.Learnt, part-of-values-reads.Asked, part-of-values-reads.Learnt, keep-stations-reads.Asked, keep-stations-reads.Learnt, whole-at-reads.Asked, whole-at-reads.Learnt) reads.Pre reads.Post
@@ -80,11 +78,11 @@ module _ (c : lts.After-part-of-values (reach-reads.Asked, reach-reads.Learnt, w
   abbrev part : List ℤ
   part = c .part-of-values .last .0
 
-  part-is : part ≡ stored (pointsAlong (columns spans)) (pointsAlong (rows spans)) (partOf (pos 0) (q (start spans) .nx) (columns spans .first) (rows spans .first) (q (start spans) .firstGuess))
+  part-is : part ≡ stored (pointsAlong (here spans .columns)) (pointsAlong (here spans .rows)) (partOf (pos 0) (call (start spans) .nx) (here spans .columns .first) (here spans .rows .first) (call (start spans) .firstGuess))
   part-is = c .part-of-values .ensures
 
   part-long : length part ≡ points spans
-  part-long = ap length part-is ∙ length-stored (pointsAlong (columns spans)) (pointsAlong (rows spans)) _
+  part-long = ap length part-is ∙ length-stored (pointsAlong (here spans .columns)) (pointsAlong (here spans .rows)) _
 
 -- its stations, in local columns
 module _ (c : lts.After-keep-stations (reach-reads.Asked, reach-reads.Learnt, widened-reads.Asked, widened-reads.Learnt, part-of-values-reads.Asked, part-of-values-reads.Learnt, keep-stations-reads.Asked, keep-stations-reads.Learnt, whole-at-reads.Asked, whole-at-reads.Learnt) reads.Pre reads.Post) where
@@ -103,19 +101,24 @@ module _ (c : lts.After-keep-stations (reach-reads.Asked, reach-reads.Learnt, wi
   long : Long kept
   long = c .keep-stations .ensures .0
 
-  stations : Kept (columns at) (rows at) (q (start at) .columns) kept (length (q (start at) .columns .x)) m
+  stations : Kept (here at) (call (start at) .stations) kept (length (call (start at) .stations .x)) m
   stations = c .keep-stations .ensures .1
 
-  few-stations : m ≤ 512
+  few-stations : m ≤ mostStations
   few-stations = omega (arith, stations .no-more, start at .pre .sound .columns .few)
 
-  made : requestOf (pointsAlong (columns at)) (pointsAlong (rows at)) (take (points at) (part guessed ++ drop (points at) part₀)) (take m (kept .x)) (take m (kept .y)) (take m (kept .value)) (take m (kept .observed)) (take m (kept .from)) (take m (kept .until))
-      (q (start at) .scans) (q (start at) .radius) (q (start at) .limit) (q (start at) .smooth) (q (start at) .T) (q (start at) .A)
-      ≡ cut (q (start at)) (w (start at))
-  made = cut-made (q (start at)) (w (start at)) (columns-is at) (rows-is at) (prefix-back (points at) (part guessed) part₀ (part-long guessed) ∙ part-is guessed) long few-stations stations
+  -- the first guess as it is lent
+  abbrev lent : List ℤ
+  lent = take (points at) (part guessed ++ drop (points at) part₀)
+
+  lent-is : lent ≡ stored (pointsAlong (here at .columns)) (pointsAlong (here at .rows)) (partOf (pos 0) (call (start at) .nx) (here at .columns .first) (here at .rows .first) (call (start at) .firstGuess))
+  lent-is = prefix-back (points at) (part guessed) part₀ (part-long guessed) ∙ part-is guessed
+
+  asks : asked (cutCall (call (start at)) (here at) lent (firstRows m kept)) ≡ cut (asked (call (start at))) (w (start at))
+  asks = asks-cut (start at .pre) (here-is at) lent-is long few-stations stations
 
 reach-requires : tie.Need-reach-requires
-reach-requires c κs = let s = c .before .before .before .before in planned (q s) (s .pre .sound)
+reach-requires c κs = let s = c .before .before .before .before in radii (call s .plan) (s .pre .sound .request .plan)
 
 widened-requires : tie.Need-widened-requires
 widened-requires c κs = search needs
@@ -124,16 +127,16 @@ widened-requires-2 : tie.Need-widened-requires-2
 widened-requires-2 c κs = search needs
 
 sub-wide : tie.Need-sub-wide
-sub-wide c = let k = c .before in omega (arith, side k .left, start k .pre .on-grid .across, side k .right)
+sub-wide c = let k = c .before in omega (arith, x k .first, x k .ordered, x k .last)
 
 add-wide : tie.Need-add-wide
-add-wide c = let k = c .before in omega (arith, side k .inside, start k .pre .sound .shape .few-columns)
+add-wide c = let k = c .before in omega (arith, x k .inside, start k .pre .sound .request .shape .few-columns)
 
 sub-high : tie.Need-sub-high
-sub-high c = let k = c .before .before in omega (arith, side k .top, start k .pre .on-grid .down, side k .bottom)
+sub-high c = let k = c .before .before in omega (arith, y k .first, y k .ordered, y k .last)
 
 add-high : tie.Need-add-high
-add-high c = let k = c .before .before in omega (arith, side k .below, start k .pre .sound .shape .few-rows)
+add-high c = let k = c .before .before in omega (arith, y k .inside, start k .pre .sound .request .shape .few-rows)
 
 mul-points : tie.Need-mul-points
 mul-points c = record { fits = omega (arith, few (c .before .before)) }
@@ -147,19 +150,19 @@ slice-aggregate-part-of-values c = sym (long₀ (c .before .before .before))
 part-of-values-requires : tie.Need-part-of-values-requires
 part-of-values-requires c κs =
     let k = c .before .before .before in
-    guess-part (q (start k)) (w (start k)) (start k .pre .sound) (start k .pre .on-grid) (columns k) (rows k) (side k) _ (long₀ k)
+    guess-part (start k .pre) (here-is k) _ (long₀ k)
 
 keep-stations-requires : tie.Need-keep-stations-requires
 keep-stations-requires c κs =
     let k = spans (c .before .before .before .before .before .before .before) in (
-      keep-ready (q (start k)) (w (start k)) (start k .pre .sound) (start k .pre .on-grid) (columns k) (rows k) (side k),
+      keep-ready (start k .pre) (here-is k),
       record {
-        x = length-replicate {A = ℤ} 512 (pos 0);
-        y = length-replicate {A = ℤ} 512 (pos 0);
-        value = length-replicate {A = ℤ} 512 (pos 0);
-        observed = length-replicate {A = ℕ} 512 0;
-        from = length-replicate {A = ℕ} 512 0;
-        until = length-replicate {A = ℕ} 512 0;
+        x = length-replicate {A = ℤ} mostStations (pos 0);
+        y = length-replicate {A = ℤ} mostStations (pos 0);
+        value = length-replicate {A = ℤ} mostStations (pos 0);
+        observed = length-replicate {A = ℕ} mostStations 0;
+        from = length-replicate {A = ℕ} mostStations 0;
+        until = length-replicate {A = ℕ} mostStations 0;
       },
     )
 
@@ -172,16 +175,16 @@ slice-aggregate-whole-at c =
     sym (ap length (prefix-back (points (at k)) (part (guessed k)) part₀ (part-long (guessed k))) ∙ part-long (guessed k))
 
 sub-whole-at : tie.Need-sub-whole-at
-sub-whole-at c = side (at (c .before .before)) .left
+sub-whole-at c = x (at (c .before .before)) .first
 
 sub-whole-at-2 : tie.Need-sub-whole-at-2
-sub-whole-at-2 c = let k = at (c .before .before .before) in omega (arith, side k .left, start k .pre .on-grid .across)
+sub-whole-at-2 c = let k = at (c .before .before .before) in omega (arith, x k .first, x k .ordered)
 
 sub-whole-at-3 : tie.Need-sub-whole-at-3
-sub-whole-at-3 c = side (at (c .before .before .before .before)) .top
+sub-whole-at-3 c = y (at (c .before .before .before .before)) .first
 
 sub-whole-at-4 : tie.Need-sub-whole-at-4
-sub-whole-at-4 c = let k = at (c .before .before .before .before .before) in omega (arith, side k .top, start k .pre .on-grid .down)
+sub-whole-at-4 c = let k = at (c .before .before .before .before .before) in omega (arith, y k .first, y k .ordered)
 
 array-share-prefix-kx : tie.Need-array-share-prefix-kx
 array-share-prefix-kx c = let k = c .before .before .before .before .before in omega (arith, few-stations k, long k .x)
@@ -222,9 +225,7 @@ slice-aggregate-whole-at-7 c = let k = c .before .before .before .before .before
 whole-at-requires : tie.Need-whole-at-requires
 whole-at-requires c κs =
     let k = c .before .before .before .before .before .before .before .before .before .before .before .before .before in
-    let s = start (at k) in
-    subst (λ (r : Request). QueryReady r (moved (columns (at k)) (rows (at k)) (w s)) (length (s .args .grid .now)) (length (s .args .support .now))) (sym (made k))
-    (cut-ready (q s) (w s) (s .pre .sound) (s .pre .on-grid) (columns-is (at k)) (rows-is (at k)) (s .pre))
+    cut-accepted (start (at k) .pre) (here-is (at k)) (lent-is k) (long k) (few-stations k) (stations k)
 
 same-length : tie.Need-same-length
 same-length c = search needs
@@ -237,8 +238,8 @@ returns c =
     let k = c .before .before .before .before .before .before .before .before .before .before .before .before .before .before .before .before .before in
     let s = start (at k) in
     c .before .before .before .whole-at .ensures
-    ∙ ap (λ (r : Request). wholeAt r (moved (columns (at k)) (rows (at k)) (w s))) (made k)
-    ∙ cut-whole (q s) (w s) (s .pre .sound) (s .pre .on-grid) (columns-is (at k)) (rows-is (at k))
+    ∙ ap₂ (λ (r : Request) (v : Window). wholeAt r (movedOn v (w s))) (asks k) (here-is (at k))
+    ∙ cut-whole (asked (call s)) (w s) (s .pre .sound .request) (s .pre .on-grid)
 
 pub work-spec : {M : Type 1} → statement M
 work-spec =
