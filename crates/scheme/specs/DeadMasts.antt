@@ -28,7 +28,7 @@ rejected-stays scan limit D r e = rw e
 -- ---- row n of a run
 
 -- where there is no row n, there is no accepted one
-abbrev noRow : Row
+abbrev pub noRow : Row
 noRow = record { station = noStation; verdict = 1 }
 
 abbrev pub rowAfter : Request → ℕ → ℕ → Row

@@ -50,3 +50,5 @@ pub mod Example
 pub mod Table
 pub mod Cases
 pub mod Cheats
+-- STATED: those of them that docs/PROMISES.md names, with their statements in full.
+pub mod Stated

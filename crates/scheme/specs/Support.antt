@@ -84,9 +84,9 @@ module _ (q : Request) (i j : ℕ) where
 -- ---- a sum of weights is above 0 exactly where some accepted row has a nonzero weight
 
 -- the row is accepted, and has a nonzero weight at point (i, j)
-pub record Weighs (radius i j : ℕ) (r : Row) : Type 0 where
-  pub is-accepted : isAccepted (r .verdict) ≡ true
-  pub nonzero : 0 < weight (radius * radius) (square (r .station .x -ℤ pos (step * i)) + square (r .station .y -ℤ pos (step * j)))
+abbrev pub Weighs : (radius i j : ℕ) → Row → Type 0
+Weighs radius i j r =
+    (isAccepted (r .verdict) ≡ true) × (0 < weight (radius * radius) (square (r .station .x -ℤ pos (step * i)) + square (r .station .y -ℤ pos (step * j))))
 
 module _ (radius : ℕ) (D : Station → ℤ) (i j : ℕ) where
   -- the weight of a row at the point
@@ -97,11 +97,11 @@ module _ (radius : ℕ) (D : Station → ℤ) (i j : ℕ) where
   weighs r h = go (true-or-false (isAccepted (r .verdict)))
     where
       go : (isAccepted (r .verdict) ≡ true) ⊎ (isAccepted (r .verdict) ≡ false) → Weighs radius i j r
-      go (inl e) = record { is-accepted = e; nonzero = rw (← accepted-weight radius D i j r e) h }
+      go (inl e) = (e, rw (← accepted-weight radius D i j r e) h)
       go (inr e) = absurd (let l : weightOf r ≡ 0 = rw (rejected-gives-nothing radius D i j r e, weightOf) in omega arith)
 
   weighed : (r : Row) → Weighs radius i j r → 0 < weightOf r
-  weighed r w = rw (accepted-weight radius D i j r (w .is-accepted)) (w .nonzero)
+  weighed r w = rw (accepted-weight radius D i j r (w .0)) (w .1)
 
   weights-total : (rows : List Row) → sums radius D rows i j .weights ≡ total 0 _+_ weightOf rows
   unfolding total

@@ -1,0 +1,387 @@
+-- The theorems that docs/PROMISES.md names, each with its statement over the definitions, and its proof cited: a theorem that says less than it
+-- says here is refused. Notions of the proved files that a statement uses are written out where they are short.
+use Prim.Native.Nat.{ℕ, suc, _+_, _-_, _*_, _/_, _%_, _^_, _≤_, _<_}
+use mathlib.Core.Path.{_≡_}
+use mathlib.Core.Logic.{_⊎_, _↔_}
+use mathlib.Core.Bool.{true, false, cond, _&&_}
+use mathlib.Core.List.{List, [], _∷_, map}
+use lib.Dec.{eqb}
+use lib.ListN.{length, getD}
+use lib.IntN.{ℤ, pos, natAbs, _-ℤ_}
+use lib.Signed.{leZ}
+use lib.Ieee.{Float}
+use lib.Ieee.Exact.{HasValue}
+use mir.Syntax.{w32}
+use mir.Val.{SFits}
+use Rattle.lists.specs.Tab.{tab}
+use Rattle.lists.specs.Members.{All, Some}
+use Rattle.lists.specs.Keep.{keep}
+use Rattle.lists.specs.Parted.{rank}
+use Rattle.lists.specs.Sums.{upTo}
+use Rattle.scheme.specs.declared.Reading.{Reading}
+use Rattle.scheme.specs.declared.Summary.{Summary}
+use Rattle.scheme.specs.Units.{isMissing, Field, stored, fieldOf, step, Station, Plan, R, E, Request, guess, Call, asked}
+use Rattle.scheme.specs.Refusals.{Refusal, accepted, numberOf, placeOf, asOne, badShape, Window, badWindow, fromFive, analysisRefusal, windowRefusal}
+use Rattle.scheme.specs.Verdicts.{serves, isAccepted, beforeScans}
+use Rattle.scheme.specs.Rounding.{rounded}
+use Rattle.scheme.specs.Value.{place, sumAt}
+use Rattle.scheme.specs.Difference.{Row}
+use Rattle.scheme.specs.Weight.{scale, weight, square}
+use Rattle.scheme.specs.Correction.{nothing, gift, share, correction}
+use Rattle.scheme.specs.Scan.{State, differences, rowsJudged, sumsAt, after, atEnd, Analysis, analysis}
+use Rattle.scheme.specs.Reach.{reach, cutOf, onWindow, counted, cut, Tile, windowOf}
+use Rattle.scheme.specs.Readings.{double, positiveZero, reading, valueOf, lowest, highest, zeros, summary}
+use Rattle.scheme.specs.Text.{requestLines, analysisText}
+use Rattle.scheme.specs.Text.Reader.{reads}
+use Rattle.scheme.specs.Text.Pieces.{ascii}
+use Rattle.scheme.specs.Promises.{Analyses, Queries, Reads, ReadsKind, ReadsValue, Summarises, Replies}
+use Rattle.scheme.specs.Calls.{callFor, asks}
+use Rattle.scheme.specs.OneOutcome as outcomes
+use Rattle.scheme.specs.Places as places
+use Rattle.scheme.specs.Nearest as nearest
+use Rattle.scheme.specs.Nearest.{off, Nearest}
+use Rattle.scheme.specs.Weights as weights
+use Rattle.scheme.specs.Gifts as gifts
+use Rattle.scheme.specs.Bounds as bounds
+use Rattle.scheme.specs.Support as support
+use Rattle.scheme.specs.Support.{bit}
+use Rattle.scheme.specs.DeadMasts as dead
+use Rattle.scheme.specs.DeadMasts.{noRow}
+use Rattle.scheme.specs.Entries as entries
+use Rattle.scheme.specs.Laws.{Scheme}
+use Rattle.scheme.specs.Near.{Side}
+use Rattle.scheme.specs.Gathered.{isKept, Twin}
+use Rattle.scheme.specs.Locality as locality
+use Rattle.scheme.specs.Locality.{Runs, Alike}
+use Rattle.scheme.specs.Windows as windows
+use Rattle.scheme.specs.Exact as exactness
+use Rattle.scheme.specs.Exact.{negative, Exactly, ReadsExactly, ExactUnits, IsZero, ZerosPositive}
+use Rattle.scheme.specs.AnswerSize as size
+use Rattle.scheme.specs.RoundTrip as round
+use Rattle.scheme.specs.RoundTrip.{requestText, InRange}
+use Rattle.scheme.specs.Example as examples
+use Rattle.scheme.specs.Example.{level, example, lone, corner, onceText, twiceText, smoothText, once, twice, smooth, onlySmoothed, cornerOnce, cornerTwice, cornerSmooth}
+use Rattle.scheme.specs.Cheats as cheats
+use Rattle.scheme.specs.Cheats.{firstTwoLines, rowLines, supLines, verLine, shown}
+use Rattle.scheme.specs.Table as tables
+use Rattle.scheme.specs.Table.{Table}
+use Rattle.scheme.specs.Cases as computed
+use Rattle.scheme.specs.Cases.{Cases}
+
+-- ---- DEMAND 1: one outcome of each call, and the one number tells refusal and place
+
+pub analysis-has-one-outcome : (c : Call) (found : Analysis) (answer answer' : ℕ) (left left' : Analysis)
+    → Analyses c found answer left → Analyses c found answer' left' → _≡_ {A = ℕ × Analysis} (answer, left) (answer', left')
+analysis-has-one-outcome = outcomes.analysis-has-one-outcome
+
+pub window-has-one-outcome : (c : Call) (w : Window) (found : Tile) (answer answer' : ℕ) (left left' : Tile)
+    → Queries c w found answer left → Queries c w found answer' left' → _≡_ {A = ℕ × Tile} (answer, left) (answer', left')
+window-has-one-outcome = outcomes.window-has-one-outcome
+
+module _ (nx ny : ℕ) (field : List ℤ) (support : List ℕ) (x y : ℤ) where
+  pub reading-has-one-outcome : (answer answer' : Reading) → Reads nx ny field support x y answer → Reads nx ny field support x y answer' → answer ≡ answer'
+  reading-has-one-outcome = outcomes.reading-has-one-outcome nx ny field support x y
+
+  pub kind-has-one-outcome : (answer answer' : ℕ) → ReadsKind nx ny field support x y answer → ReadsKind nx ny field support x y answer' → answer ≡ answer'
+  kind-has-one-outcome = outcomes.kind-has-one-outcome nx ny field support x y
+
+  pub value-has-one-outcome : (answer answer' : Float) → ReadsValue nx ny field support x y answer → ReadsValue nx ny field support x y answer' → answer ≡ answer'
+  value-has-one-outcome = outcomes.value-has-one-outcome nx ny field support x y
+
+pub summary-has-one-outcome : (nx ny : ℕ) (field : List ℤ) (answer answer' : Summary)
+    → Summarises nx ny field answer → Summarises nx ny field answer' → answer ≡ answer'
+summary-has-one-outcome = outcomes.summary-has-one-outcome
+
+pub text-has-one-outcome : (input found : List ℕ) (bytes bytes' : ℕ) (left left' : List ℕ)
+    → Replies input found bytes left → Replies input found bytes' left' → _≡_ {A = ℕ × List ℕ} (bytes, left) (bytes', left')
+text-has-one-outcome = outcomes.text-has-one-outcome
+
+pub analysis-tells-refusal-and-place : (c : Call) (grid support verdict : ℕ)
+    → (let r = analysisRefusal c grid support verdict in (asOne r / 65536 ≡ numberOf r) × (asOne r % 65536 ≡ placeOf r))
+analysis-tells-refusal-and-place = places.analysis-tells-refusal-and-place
+
+pub window-tells-refusal-and-place : (c : Call) (w : Window) (grid support : ℕ)
+    → (let r = windowRefusal c w grid support in (asOne r / 65536 ≡ numberOf r) × (asOne r % 65536 ≡ placeOf r))
+window-tells-refusal-and-place = places.window-tells-refusal-and-place
+
+-- ---- DEMAND 2: what is not accepted has no weight from then on
+
+-- row n after m scans, and its weight at point (i, j) in scan number m + 1
+abbrev rowAfter : Request → (m n : ℕ) → Row
+rowAfter q m n = getD (after q m .rows) n noRow
+
+abbrev weightIn : Request → (m n i j : ℕ) → ℕ
+weightIn q m n i j = share (R (q .plan) m) (differences q (after q m)) i j (getD (rowsJudged q m (after q m)) n noRow) .weights
+
+pub rejected-for-good : (q : Request) (m n t : ℕ) → isAccepted (rowAfter q m n .verdict) ≡ false → rowAfter q (m + t) n ≡ rowAfter q m n
+rejected-for-good = dead.rejected-for-good
+
+pub rejected-has-no-weight : (q : Request) (k n t i j : ℕ) → isAccepted (rowAfter q (suc k) n .verdict) ≡ false → weightIn q (k + t) n i j ≡ 0
+rejected-has-no-weight = dead.rejected-has-no-weight
+
+pub dead-mast-keeps-its-verdict : (q : Request) (n t : ℕ) → isAccepted (rowAfter q 0 n .verdict) ≡ false → rowAfter q t n .verdict ≡ rowAfter q 0 n .verdict
+dead-mast-keeps-its-verdict = dead.dead-mast-keeps-its-verdict
+
+pub dead-mast-has-no-weight : (q : Request) (n t i j : ℕ) → isAccepted (rowAfter q 0 n .verdict) ≡ false → weightIn q t n i j ≡ 0
+dead-mast-has-no-weight = dead.dead-mast-has-no-weight
+
+pub taken-down-is-out-of-service : (nx ny T A : ℕ) (s : Station) → isMissing (s .value) ≡ false → (serves s (s .observed) && serves s T) ≡ false
+    → beforeScans nx ny T A s ≡ 2
+taken-down-is-out-of-service = dead.taken-down-is-out-of-service
+
+-- the request without the masts that a verdict from 1 to 5 fits
+abbrev withoutDeadMasts : Request → Request
+withoutDeadMasts q =
+    let alive : List Station = keep (λ s. isAccepted (beforeScans (q .nx) (q .ny) (q .T) (q .A) s)) (q .stations) in
+    record { nx = q .nx; ny = q .ny; firstGuess = q .firstGuess; stations = alive; plan = q .plan; T = q .T; A = q .A }
+
+pub removing-dead-masts-changes-no-value : (q : Request) → analysis (withoutDeadMasts q) .grid ≡ analysis q .grid
+removing-dead-masts-changes-no-value = dead.removing-dead-masts-changes-no-value
+
+pub removing-dead-masts-changes-no-support : (q : Request) → analysis (withoutDeadMasts q) .support ≡ analysis q .support
+removing-dead-masts-changes-no-support = dead.removing-dead-masts-changes-no-support
+
+-- ---- DEMAND 3: windows agree with the whole
+
+module _ (c : Call) (w : Window) (grid support verdict : ℕ) (e : analysisRefusal c grid support verdict ≡ accepted) (on : badWindow (c .nx) (c .ny) w ≡ false) where
+  abbrev q : Request
+  q = asked c
+
+  abbrev part : Request
+  part = cut q w
+
+  -- where point (i, j) stands in the lists of the cut's analysis, and row k in its station list
+  abbrev at : (i j : ℕ) → ℕ
+  at i j = (j - cutOf q w .rows .first) * part .nx + (i - cutOf q w .columns .first)
+
+  abbrev row : ℕ → ℕ
+  row k = rank (onWindow (cutOf q w)) (q .stations) k
+
+  -- the cut is itself an accepted request; each point of the window has there the whole grid's value and support; each station of the window is
+  -- kept, and has there its verdict
+  pub windows-agree-with-the-whole :
+      ((asked (callFor part) ≡ part) × (analysisRefusal (callFor part) (part .nx * part .ny) (part .nx * part .ny) (length (part .stations)) ≡ accepted))
+      × ((i j : ℕ) → w .columns .first ≤ i → i ≤ w .columns .last → w .rows .first ≤ j → j ≤ w .rows .last
+      → (at i j < length (analysis part .grid)) × (getD (analysis part .grid) (at i j) (pos 0) ≡ getD (analysis q .grid) (j * q .nx + i) (pos 0))
+      × (at i j < length (analysis part .support)) × (getD (analysis part .support) (at i j) 0 ≡ getD (analysis q .support) (j * q .nx + i) 0))
+      × ((k : ℕ) (o : Station) → k < length (q .stations) → onWindow w (getD (q .stations) k o) ≡ true
+      → (row k < length (analysis part .verdict)) × (getD (analysis part .verdict) (row k) 0 ≡ getD (analysis q .verdict) k 0)
+      × (getD (part .stations) (row k) (counted (cutOf q w) o) ≡ counted (cutOf q w) (getD (q .stations) k o)))
+  windows-agree-with-the-whole =
+      let a = windows.windows-agree-with-the-whole c w grid support verdict e on in (
+        (asks part, a .accepts),
+        λ i j l r t b.
+            let h : windows.OfWindow w i j = record { left = l; right = r; top = t; bottom = b } in
+            (a .inside i j h .0, a .values i j h, a .inside i j h .1, a .supports i j h),
+        λ k o l h. (a .verdicts k o l h .0, a .verdicts k o l h .1, a .rows k o l (a .keeps (getD (q .stations) k o) h) .1),
+      )
+
+-- of every scheme that keeps the laws: on the cut a run goes as on the grid
+module _ (S : Scheme) (across down : Side) (both : Runs S across down) where
+  pub run-alike : (taken : ℕ → ℕ)
+      → ((m : ℕ) → S .pull .range m + S .buddies .range m + step * cond (S .smooth) 1 0 ≤ step * taken m)
+      → (m ρ : ℕ) → upTo 0 _+_ m taken + ρ ≤ across .wider → upTo 0 _+_ m taken + ρ ≤ down .wider → Alike S across down both ρ m
+  run-alike = locality.run-alike S across down both
+
+  pub twin-row : (m ρ : ℕ) → Alike S across down both ρ m → (o o' : S .Row) (k : ℕ) → k < length (both .whole .rows m)
+      → isKept S across down (S .station (getD (both .whole .rows m) k o)) ≡ true
+      → Twin S across down (step * ρ) (getD (both .whole .rows m) k o) (getD (both .part .rows m) (rank (isKept S across down) (both .stations) k) o')
+  twin-row = locality.twin-row S across down both
+
+-- ---- one scan
+
+pub rounded-is-nearest : (n : ℤ) (d : ℕ) → 0 < d
+    → ((k : ℤ) → off n d (rounded n d) ≤ off n d k) × ((k : ℤ) → off n d k ≡ off n d (rounded n d) → natAbs k ≤ natAbs (rounded n d))
+rounded-is-nearest n d some = let h = nearest.rounded-is-nearest n d some in (h .near, h .away)
+
+pub nearest-is-one : (n : ℤ) (d : ℕ) (r s : ℤ) → 0 < d → Nearest n d r → Nearest n d s → r ≡ s
+nearest-is-one = nearest.nearest-is-one
+
+pub weight-most : (r2 d2 : ℕ) → weight r2 d2 ≤ scale
+weight-most = weights.weight-most
+
+pub weight-at-station : (r2 : ℕ) → 0 < r2 → weight r2 0 ≡ scale
+weight-at-station = weights.weight-at-station
+
+pub weight-beyond : (r2 d2 : ℕ) → r2 ≤ d2 → weight r2 d2 ≡ 0
+weight-beyond = weights.weight-beyond
+
+pub weight-never-rises : (r2 d2 farther : ℕ) → d2 ≤ farther → weight r2 farther ≤ weight r2 d2
+weight-never-rises = weights.weight-never-rises
+
+pub gift-far : (radius : ℕ) (D dx dy : ℤ) → (radius ≤ natAbs dx) ⊎ (radius ≤ natAbs dy) → gift (radius * radius) D dx dy ≡ nothing
+gift-far = gifts.gift-far
+
+pub correction-at-most-E : (q : Request) (m : ℕ) (found : State) (i j : ℕ) → natAbs (correction (sumsAt q m found i j)) ≤ E (q .plan) m
+correction-at-most-E = bounds.correction-at-most-E
+
+pub run-stays-within : (q : Request) (most limit : ℕ) → ((i j : ℕ) → natAbs (guess q i j) ≤ most) → (n : ℕ) → ((m : ℕ) → m < n → E (q .plan) m ≤ limit)
+    → (i j : ℕ) → natAbs (after q n .field i j) ≤ most + n * limit
+run-stays-within = bounds.run-stays-within
+
+pub accepted-run-stays-within : (c : Call) (grid support verdict : ℕ) → analysisRefusal c grid support verdict ≡ accepted
+    → (m : ℕ) → m ≤ c .plan .scans → (i j : ℕ) → natAbs (after (asked c) m .field i j) ≤ 13000000
+accepted-run-stays-within = bounds.accepted-run-stays-within
+
+pub supported-exactly-where-a-mast-weighs : (q : Request) (m k i j : ℕ) → k < m
+    → (eqb (after q m .support i j / 2 ^ k % 2) 1 ≡ true)
+    ↔ Some (λ r. (isAccepted (r .verdict) ≡ true) × (0 < weight (R (q .plan) k * R (q .plan) k) (square (r .station .x -ℤ pos (step * i)) + square (r .station .y -ℤ pos (step * j)))))
+    (rowsJudged q k (after q k))
+unfolding bit
+supported-exactly-where-a-mast-weighs = support.supported-exactly-where-a-mast-weighs
+
+pub unsupported-point-keeps-first-guess : (q : Request) → q .plan .smooth ≡ false → (i j m : ℕ) → after q m .support i j ≡ 0 → after q m .field i j ≡ guess q i j
+unsupported-point-keeps-first-guess = support.unsupported-point-keeps-first-guess
+
+pub smoothing-may-move-an-unsupported-point : (atEnd lone .support 1 1 ≡ 0) × (guess lone 1 1 ≡ pos 640) × (atEnd lone .field 1 1 ≡ pos 636)
+smoothing-may-move-an-unsupported-point = examples.smoothing-may-move-an-unsupported-point
+
+-- entries past the scan count: two plans that count as many scans and are equal up to there
+module _ (q : Request) (p' : Plan) (scans : p' .scans ≡ q .plan .scans) (smooth : p' .smooth ≡ q .plan .smooth)
+    (radii : (m : ℕ) → m < q .plan .scans → getD (p' .radius) m (pos 0) ≡ getD (q .plan .radius) m (pos 0))
+    (limits : (m : ℕ) → m < q .plan .scans → getD (p' .limit) m (pos 0) ≡ getD (q .plan .limit) m (pos 0)) where
+  abbrev other : Request
+  other = record { nx = q .nx; ny = q .ny; firstGuess = q .firstGuess; stations = q .stations; plan = p'; T = q .T; A = q .A }
+
+  abbrev same : entries.UpToCount (q .plan) p'
+  same = record { scans = scans; smooth = smooth; radii = radii; limits = limits }
+
+  pub entries-past-the-count-change-no-analysis : analysis other ≡ analysis q
+  entries-past-the-count-change-no-analysis = entries.entries-past-the-count-change-no-analysis q p' same
+
+  pub entries-past-the-count-change-no-reach : reach p' ≡ reach (q .plan)
+  entries-past-the-count-change-no-reach = entries.entries-past-the-count-change-no-reach q p' same
+
+  pub entries-past-the-count-change-no-refusal : q .plan .scans ≤ length (q .plan .radius) → q .plan .scans ≤ length (q .plan .limit)
+      → q .plan .scans ≤ length (p' .radius) → q .plan .scans ≤ length (p' .limit) → fromFive other ≡ fromFive q
+  entries-past-the-count-change-no-refusal = entries.entries-past-the-count-change-no-refusal q p' same
+
+-- ---- readings and summaries: of any field of i32
+
+module _ (nx ny : ℕ) (field : List ℤ) (x y : ℤ) (i32 : All (SFits w32) field) where
+  abbrev sum : ℤ
+  sum = sumAt nx ny (fieldOf (pos 0) nx field) (place nx x) (place ny y)
+
+  pub reading-sum-size : 2 ≤ nx → 2 ≤ ny → natAbs sum ≤ 2 ^ 43
+  reading-sum-size = exactness.reading-sum-size nx ny field x y i32
+
+  pub reading-value-exact : 2 ≤ nx → 2 ≤ ny → HasValue (double sum 262144) (negative sum) (natAbs sum) 262144
+  reading-value-exact h k = exactness.reading-value-exact nx ny field x y i32 h k .value
+
+  pub reading-exact : (support : List ℕ) → ReadsExactly (reading nx ny field support x y) sum
+  reading-exact = exactness.reading-exact nx ny field x y i32
+
+  pub zero-reading-is-positive : (support : List ℕ) → IsZero (valueOf (reading nx ny field support x y)) → valueOf (reading nx ny field support x y) ≡ positiveZero
+  zero-reading-is-positive support = exactness.zero-reading-is-positive nx ny field support x y i32
+
+module _ (nx ny : ℕ) (v : ℤ) (rest : List ℤ) (f : SFits w32 v) (r : All (SFits w32) rest) where
+  pub summary-exact : badShape nx ny (length (v ∷ rest)) ≡ false
+      → (summary nx ny (v ∷ rest) .refusal ≡ 0) × (summary nx ny (v ∷ rest) .place ≡ 0) × ExactUnits (summary nx ny (v ∷ rest) .units) (lowest v rest) (highest v rest)
+  summary-exact = exactness.summary-exact nx ny v f r
+
+  pub span-size : (let span = highest v rest -ℤ lowest v rest in (span ≡ pos (natAbs span)) × (natAbs span ≤ 4294967295))
+  span-size = exactness.span-size v f r
+
+pub refused-summary-is-zeros : (nx ny : ℕ) (field : List ℤ) → badShape nx ny (length field) ≡ true
+    → summary nx ny field ≡ record { refusal = 1; place = 0; units = record { lowest = positiveZero; highest = positiveZero; span = positiveZero } }
+refused-summary-is-zeros = exactness.refused-summary-is-zeros
+
+pub zero-summary-is-positive : (nx ny : ℕ) (field : List ℤ) → All (SFits w32) field → ZerosPositive (summary nx ny field .units)
+zero-summary-is-positive = exactness.zero-summary-is-positive
+
+pub lowest-is-least : (v : ℤ) (rest : List ℤ) → All (λ w. leZ (lowest v rest) w ≡ true) (v ∷ rest)
+lowest-is-least = exactness.lowest-is-least
+
+pub highest-is-greatest : (v : ℤ) (rest : List ℤ) → All (λ w. leZ w (highest v rest) ≡ true) (v ∷ rest)
+highest-is-greatest = exactness.highest-is-greatest
+
+-- ---- texts
+
+pub accepted-answer-is-short : (c : Call) (grid support verdict : ℕ) → analysisRefusal c grid support verdict ≡ accepted
+    → length (analysisText (c .nx) (c .ny) (analysis (asked c))) < 56000
+accepted-answer-is-short = size.accepted-answer-is-short
+
+pub printed-reads-back : (q : Request) → InRange q → requestLines (1, requestText q) ≡ reads q (suc (6 + q .plan .scans + q .ny) + length (q .stations), [])
+printed-reads-back = round.printed-reads-back
+
+pub no-two-print-alike : (p q : Request) → InRange p → InRange q → requestText p ≡ requestText q → p ≡ q
+no-two-print-alike = round.no-two-print-alike
+
+-- ---- the paper's own cases, and the table of refusals, verdicts, readings and edges; what is taken out of these is noticed by the edits that they refuse
+
+pub table : Table
+table = tables.table
+
+pub cases : Cases
+cases = computed.cases
+
+-- ---- the four cheats, on the paper's example with its scan once, twice, and twice with smoothing on
+
+module _ (found : Analysis) (long : (length (found .grid) ≡ 9) × (length (found .support) ≡ 9) × (length (found .verdict) ≡ 3))
+    (answer answer' answer'' : ℕ) (left left' left'' : Analysis) (asked-once : Analyses (callFor (example 1 false)) found answer left)
+    (asked-twice : Analyses (callFor (example 2 false)) found answer' left') (asked-smooth : Analyses (callFor (example 2 true)) found answer'' left'') where
+  pub no-refusal : (answer ≡ 0) × (answer' ≡ 0) × (answer'' ≡ 0)
+  no-refusal = cheats.no-refusal found long answer answer' answer'' left left' left'' asked-once asked-twice asked-smooth
+
+  pub not-the-first-guess : left .grid ≡ level → ⊥
+  not-the-first-guess = cheats.not-the-first-guess found long answer answer' answer'' left left' left'' asked-once asked-twice asked-smooth
+
+  pub not-one-fixed-grid : left' .grid ≡ left .grid → ⊥
+  not-one-fixed-grid = cheats.not-one-fixed-grid found long answer answer' answer'' left left' left'' asked-once asked-twice asked-smooth
+
+  pub not-one-scan-only : left' .grid ≡ stored 3 3 (after (example 2 false) 1 .field) → ⊥
+  not-one-scan-only = cheats.not-one-scan-only found long answer answer' answer'' left left' left'' asked-once asked-twice asked-smooth
+
+  pub not-only-smoothed : left'' .grid ≡ stored 3 3 onlySmoothed → ⊥
+  not-only-smoothed = cheats.not-only-smoothed found long answer answer' answer'' left left' left'' asked-once asked-twice asked-smooth
+
+  pub no-other-support : (left .support ≡ once .support) × (left' .support ≡ twice .support) × (left'' .support ≡ smooth .support)
+  no-other-support = cheats.no-other-support found long answer answer' answer'' left left' left'' asked-once asked-twice asked-smooth
+
+  pub no-other-verdicts : (left .verdict ≡ once .verdict) × (left' .verdict ≡ twice .verdict) × (left'' .verdict ≡ smooth .verdict)
+  no-other-verdicts = cheats.no-other-verdicts found long answer answer' answer'' left left' left'' asked-once asked-twice asked-smooth
+
+module _ (found : Tile) (long : (length (found .grid) ≡ 4) × (length (found .support) ≡ 4)) (answer answer' answer'' : ℕ) (left left' left'' : Tile)
+    (asked-once : Queries (callFor (example 1 false)) corner found answer left) (asked-twice : Queries (callFor (example 2 false)) corner found answer' left')
+    (asked-smooth : Queries (callFor (example 2 true)) corner found answer'' left'') where
+  pub window-no-refusal : (answer ≡ 0) × (answer' ≡ 0) × (answer'' ≡ 0)
+  window-no-refusal = cheats.window-no-refusal found long answer answer' answer'' left left' left'' asked-once asked-twice asked-smooth
+
+  pub window-not-the-first-guess : left .grid ≡ tab 4 (λ p. pos 640) → ⊥
+  window-not-the-first-guess = cheats.window-not-the-first-guess found long answer answer' answer'' left left' left'' asked-once asked-twice asked-smooth
+
+  pub window-not-one-fixed-grid : left' .grid ≡ left .grid → ⊥
+  window-not-one-fixed-grid = cheats.window-not-one-fixed-grid found long answer answer' answer'' left left' left'' asked-once asked-twice asked-smooth
+
+  pub window-not-one-scan-only : left' .grid ≡ windowOf corner (after (example 2 false) 1 .field) → ⊥
+  window-not-one-scan-only = cheats.window-not-one-scan-only found long answer answer' answer'' left left' left'' asked-once asked-twice asked-smooth
+
+  pub window-not-only-smoothed : left'' .grid ≡ windowOf corner onlySmoothed → ⊥
+  window-not-only-smoothed = cheats.window-not-only-smoothed found long answer answer' answer'' left left' left'' asked-once asked-twice asked-smooth
+
+  pub window-no-other-support : (left .support ≡ cornerOnce .support) × (left' .support ≡ cornerTwice .support) × (left'' .support ≡ cornerSmooth .support)
+  window-no-other-support = cheats.window-no-other-support found long answer answer' answer'' left left' left'' asked-once asked-twice asked-smooth
+
+module _ (found left left' left'' : List ℕ) (bytes bytes' bytes'' : ℕ) (asked-once : Replies onceText found bytes left)
+    (asked-twice : Replies twiceText found bytes' left') (asked-smooth : Replies smoothText found bytes'' left'') where
+  pub text-no-refusal : (firstTwoLines left ≡ ascii "refusal=0\nplace=0\n") × (firstTwoLines left' ≡ ascii "refusal=0\nplace=0\n") × (firstTwoLines left'' ≡ ascii "refusal=0\nplace=0\n")
+  text-no-refusal = cheats.text-no-refusal found left left' left'' bytes bytes' bytes'' asked-once asked-twice asked-smooth
+
+  pub text-not-the-first-guess : rowLines left ≡ shown level → ⊥
+  text-not-the-first-guess = cheats.text-not-the-first-guess found left left' left'' bytes bytes' bytes'' asked-once asked-twice asked-smooth
+
+  pub text-not-one-fixed-grid : rowLines left' ≡ rowLines left → ⊥
+  text-not-one-fixed-grid = cheats.text-not-one-fixed-grid found left left' left'' bytes bytes' bytes'' asked-once asked-twice asked-smooth
+
+  pub text-not-one-scan-only : rowLines left' ≡ shown (stored 3 3 (after (example 2 false) 1 .field)) → ⊥
+  text-not-one-scan-only = cheats.text-not-one-scan-only found left left' left'' bytes bytes' bytes'' asked-once asked-twice asked-smooth
+
+  pub text-not-only-smoothed : rowLines left'' ≡ shown (stored 3 3 onlySmoothed) → ⊥
+  text-not-only-smoothed = cheats.text-not-only-smoothed found left left' left'' bytes bytes' bytes'' asked-once asked-twice asked-smooth
+
+  pub text-no-other-support : (supLines left ≡ ascii "sup=1,1,1\nsup=1,1,1\nsup=1,1,1\n") × (supLines left' ≡ ascii "sup=3,3,3\nsup=3,3,3\nsup=3,3,3\n")
+      × (supLines left'' ≡ ascii "sup=3,3,3\nsup=3,3,3\nsup=3,3,3\n")
+  text-no-other-support = cheats.text-no-other-support found left left' left'' bytes bytes' bytes'' asked-once asked-twice asked-smooth
+
+  pub text-no-other-verdicts : (verLine left ≡ ascii "ver=0,0,2\n") × (verLine left' ≡ ascii "ver=0,0,2\n") × (verLine left'' ≡ ascii "ver=0,0,2\n")
+  text-no-other-verdicts = cheats.text-no-other-verdicts found left left' left'' bytes bytes' bytes'' asked-once asked-twice asked-smooth
