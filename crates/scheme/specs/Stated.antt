@@ -7,7 +7,7 @@ use mathlib.Core.Bool.{true, false, cond, _&&_}
 use mathlib.Core.List.{List, [], _∷_, map}
 use lib.Dec.{eqb}
 use lib.ListN.{length, getD}
-use lib.IntN.{ℤ, pos, natAbs, _-ℤ_}
+use lib.IntN.{ℤ, pos, natAbs, _-ℤ_, _*ℤ_}
 use lib.Signed.{leZ}
 use lib.Ieee.{Float}
 use lib.Ieee.Exact.{HasValue}
@@ -39,7 +39,7 @@ use Rattle.scheme.specs.Calls.{callFor, asks}
 use Rattle.scheme.specs.OneOutcome as outcomes
 use Rattle.scheme.specs.Places as places
 use Rattle.scheme.specs.Nearest as nearest
-use Rattle.scheme.specs.Nearest.{off, Nearest}
+use Rattle.scheme.specs.Nearest.{Nearest}
 use Rattle.scheme.specs.Weights as weights
 use Rattle.scheme.specs.Gifts as gifts
 use Rattle.scheme.specs.Bounds as bounds
@@ -191,7 +191,8 @@ module _ (S : Scheme) (across down : Side) (both : Runs S across down) where
 -- ---- one scan
 
 pub rounded-is-nearest : (n : ℤ) (d : ℕ) → 0 < d
-    → ((k : ℤ) → off n d (rounded n d) ≤ off n d k) × ((k : ℤ) → off n d k ≡ off n d (rounded n d) → natAbs k ≤ natAbs (rounded n d))
+    → ((k : ℤ) → natAbs (n -ℤ rounded n d *ℤ pos d) ≤ natAbs (n -ℤ k *ℤ pos d))
+    × ((k : ℤ) → natAbs (n -ℤ k *ℤ pos d) ≡ natAbs (n -ℤ rounded n d *ℤ pos d) → natAbs k ≤ natAbs (rounded n d))
 rounded-is-nearest n d some = let h = nearest.rounded-is-nearest n d some in (h .near, h .away)
 
 pub nearest-is-one : (n : ℤ) (d : ℕ) (r s : ℤ) → 0 < d → Nearest n d r → Nearest n d s → r ≡ s
