@@ -3,10 +3,10 @@ ghost use mathlib.Core.Path.{_≡_};
 ghost use Prim.Native.Nat.{_≤_};
 ghost use lib.ListN.{length};
 ghost use Rattle.lists.specs.Tab.{tab};
-ghost use Rattle.scheme.specs.Units.{stationAt, asked};
+ghost use Rattle.scheme.specs.Units.{stationAt, asked, asking};
 ghost use Rattle.scheme.specs.Verdicts.{beforeScans};
 ghost use Rattle.scheme.specs.Scan.{analysis};
-ghost use Rattle.scheme.specs.Promises.{sixColumns, callOf, slices, Analyses};
+ghost use Rattle.scheme.specs.Promises.{sixColumns, slices, Analyses};
 ghost use Rattle.scheme.specs.Most.{mostPoints};
 ghost use Rattle.scheme.specs.Accepted.{CallAccepted};
 ghost use Rattle.analysis.specs.Start.{VerdictsReady};
@@ -93,8 +93,8 @@ pub fn work(
     support: &mut [u8],
     verdict: &mut [u8],
 )
-    requires { ⌜ CallAccepted (callOf nx ny (now guess) (sixColumns (now x) (now y) (now value) (now observed) (now from) (now until)) count (now radius) (now limit) smooth time age) (length (now grid)) (length (now support)) (length (now verdict)) ⌝ }
-    ensures { λ u. ⌜ slices (now (grid .exit)) (now (support .exit)) (now (verdict .exit)) ≡ analysis (asked (callOf nx ny (now (guess .entry)) (sixColumns (now (x .entry)) (now (y .entry)) (now (value .entry)) (now (observed .entry)) (now (from .entry)) (now (until .entry))) count (now (radius .entry)) (now (limit .entry)) smooth time age)) ⌝ }
+    requires { ⌜ CallAccepted (asking nx ny (now guess) (sixColumns (now x) (now y) (now value) (now observed) (now from) (now until)) count (now radius) (now limit) smooth time age) (length (now grid)) (length (now support)) (length (now verdict)) ⌝ }
+    ensures { λ u. ⌜ slices (now (grid .exit)) (now (support .exit)) (now (verdict .exit)) ≡ analysis (asked (asking nx ny (now (guess .entry)) (sixColumns (now (x .entry)) (now (y .entry)) (now (value .entry)) (now (observed .entry)) (now (from .entry)) (now (until .entry))) count (now (radius .entry)) (now (limit .entry)) smooth time age)) ⌝ }
 {
     copy(grid, guess);
     clear(support);
@@ -148,7 +148,7 @@ pub fn analyse(
     support: &mut [u8],
     verdict: &mut [u8],
 ) -> u32
-    ensures { λ r. ⌜ Analyses (callOf nx ny (now (guess .entry)) (sixColumns (now (x .entry)) (now (y .entry)) (now (value .entry)) (now (observed .entry)) (now (from .entry)) (now (until .entry))) count (now (radius .entry)) (now (limit .entry)) smooth time age) (slices (now (grid .entry)) (now (support .entry)) (now (verdict .entry))) r (slices (now (grid .exit)) (now (support .exit)) (now (verdict .exit))) ⌝ }
+    ensures { λ r. ⌜ Analyses (asking nx ny (now (guess .entry)) (sixColumns (now (x .entry)) (now (y .entry)) (now (value .entry)) (now (observed .entry)) (now (from .entry)) (now (until .entry))) count (now (radius .entry)) (now (limit .entry)) smooth time age) (slices (now (grid .entry)) (now (support .entry)) (now (verdict .entry))) r (slices (now (grid .exit)) (now (support .exit)) (now (verdict .exit))) ⌝ }
 {
     let refused = refusal::of_analysis(
         nx as usize,

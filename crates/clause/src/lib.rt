@@ -1,5 +1,6 @@
 // The exports of the archive: each hands its arguments on, and promises what the call behind it promises. See include/sosnyavik.h.
-ghost use Rattle.scheme.specs.Promises.{sixColumns, callOf, slices, Analyses, windowAt, tile, Queries, ReadsKind, ReadsValue, Summarises};
+ghost use Rattle.scheme.specs.Units.{asking};
+ghost use Rattle.scheme.specs.Promises.{sixColumns, slices, Analyses, windowAt, tile, Queries, ReadsKind, ReadsValue, Summarises};
 use scheme::Summary;
 
 #[no_mangle]
@@ -23,7 +24,7 @@ pub extern "C" fn sosnyavik_analyse(
     support: &mut [u8],
     verdict: &mut [u8],
 ) -> u32
-    ensures { λ r. ⌜ Analyses (callOf nx ny (now (guess .entry)) (sixColumns (now (x .entry)) (now (y .entry)) (now (value .entry)) (now (observed .entry)) (now (from .entry)) (now (until .entry))) count (now (radius .entry)) (now (limit .entry)) smooth time age) (slices (now (grid .entry)) (now (support .entry)) (now (verdict .entry))) r (slices (now (grid .exit)) (now (support .exit)) (now (verdict .exit))) ⌝ }
+    ensures { λ r. ⌜ Analyses (asking nx ny (now (guess .entry)) (sixColumns (now (x .entry)) (now (y .entry)) (now (value .entry)) (now (observed .entry)) (now (from .entry)) (now (until .entry))) count (now (radius .entry)) (now (limit .entry)) smooth time age) (slices (now (grid .entry)) (now (support .entry)) (now (verdict .entry))) r (slices (now (grid .exit)) (now (support .exit)) (now (verdict .exit))) ⌝ }
 {
     analysis::analyse(
         nx,
@@ -71,7 +72,7 @@ pub extern "C" fn sosnyavik_window(
     grid: &mut [i32],
     support: &mut [u8],
 ) -> u32
-    ensures { λ r. ⌜ Queries (callOf nx ny (now (guess .entry)) (sixColumns (now (x .entry)) (now (y .entry)) (now (value .entry)) (now (observed .entry)) (now (from .entry)) (now (until .entry))) count (now (radius .entry)) (now (limit .entry)) smooth time age) (windowAt left right top bottom) (tile (now (grid .entry)) (now (support .entry))) r (tile (now (grid .exit)) (now (support .exit))) ⌝ }
+    ensures { λ r. ⌜ Queries (asking nx ny (now (guess .entry)) (sixColumns (now (x .entry)) (now (y .entry)) (now (value .entry)) (now (observed .entry)) (now (from .entry)) (now (until .entry))) count (now (radius .entry)) (now (limit .entry)) smooth time age) (windowAt left right top bottom) (tile (now (grid .entry)) (now (support .entry))) r (tile (now (grid .exit)) (now (support .exit))) ⌝ }
 {
     window::query(
         nx,

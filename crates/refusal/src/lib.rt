@@ -4,10 +4,10 @@ ghost use mathlib.Core.Bool.{Bool};
 ghost use Prim.Native.Nat.{ℕ, _+_, _*_, _≤_, _<_};
 ghost use lib.ListN.{length};
 ghost use mathlib.Core.List.{List};
-ghost use Rattle.scheme.specs.Units.{asked};
+ghost use Rattle.scheme.specs.Units.{asked, asking};
 ghost use Rattle.scheme.specs.Refusals.{inOrder, analysisRefusal, windowRefusal};
 ghost use Rattle.scheme.specs.Accepted.{Shaped};
-ghost use Rattle.scheme.specs.Promises.{sixColumns, callOf, windowAt};
+ghost use Rattle.scheme.specs.Promises.{sixColumns, windowAt};
 ghost use Rattle.refusal.specs.Coded.{Coded, SixReady, fromFour, fromTwo, fromSix};
 
 // An answer as one number.
@@ -34,7 +34,7 @@ fn from_six(
 ) -> u32
     requires { ⌜ SixReady nx ny (now guess) (now x) (now y) (now value) (now from) (now until) scans (now radius) (now limit) ⌝ }
     ensures { λ r. ⌜ ((observed : List ℕ) (smooth : Bool) (time age : ℕ)
-        → Coded r (inOrder (fromSix (asked (callOf nx ny (now (guess .entry)) (sixColumns (now (x .entry)) (now (y .entry)) (now (value .entry)) observed (now (from .entry)) (now (until .entry))) scans (now (radius .entry)) (now (limit .entry)) smooth time age))))) ⌝ }
+        → Coded r (inOrder (fromSix (asked (asking nx ny (now (guess .entry)) (sixColumns (now (x .entry)) (now (y .entry)) (now (value .entry)) observed (now (from .entry)) (now (until .entry))) scans (now (radius .entry)) (now (limit .entry)) smooth time age))))) ⌝ }
 {
     let m = checks::first_bad_scan(radius, limit, scans);
     if m < scans {
@@ -68,7 +68,7 @@ pub fn from_four(
 ) -> u32
     requires { ⌜ Shaped nx ny (length (now guess)) ⌝ }
     ensures { λ r. ⌜ ((smooth : Bool) (time age : ℕ)
-        → Coded r (inOrder (fromFour (callOf nx ny (now (guess .entry)) (sixColumns (now (x .entry)) (now (y .entry)) (now (value .entry)) (now (observed .entry)) (now (from .entry)) (now (until .entry))) scans (now (radius .entry)) (now (limit .entry)) smooth time age)))) ⌝ }
+        → Coded r (inOrder (fromFour (asking nx ny (now (guess .entry)) (sixColumns (now (x .entry)) (now (y .entry)) (now (value .entry)) (now (observed .entry)) (now (from .entry)) (now (until .entry))) scans (now (radius .entry)) (now (limit .entry)) smooth time age)))) ⌝ }
 {
     if shapes::columns_bad(
         x.len(),
@@ -117,7 +117,7 @@ pub fn of_analysis(
     verdict: usize,
 ) -> u32
     ensures { λ r. ⌜ ((smooth : Bool) (time age : ℕ)
-        → Coded r (analysisRefusal (callOf nx ny (now (guess .entry)) (sixColumns (now (x .entry)) (now (y .entry)) (now (value .entry)) (now (observed .entry)) (now (from .entry)) (now (until .entry))) scans (now (radius .entry)) (now (limit .entry)) smooth time age) grid support verdict)) ⌝ }
+        → Coded r (analysisRefusal (asking nx ny (now (guess .entry)) (sixColumns (now (x .entry)) (now (y .entry)) (now (value .entry)) (now (observed .entry)) (now (from .entry)) (now (until .entry))) scans (now (radius .entry)) (now (limit .entry)) smooth time age) grid support verdict)) ⌝ }
 {
     if shapes::shape_bad(nx, ny, guess.len()) {
         return coded(1, 0);
@@ -164,7 +164,7 @@ fn from_two(
 ) -> u32
     requires { ⌜ Shaped nx ny (length (now guess)) ⌝ }
     ensures { λ r. ⌜ ((smooth : Bool) (time age : ℕ)
-        → Coded r (inOrder (fromTwo (callOf nx ny (now (guess .entry)) (sixColumns (now (x .entry)) (now (y .entry)) (now (value .entry)) (now (observed .entry)) (now (from .entry)) (now (until .entry))) scans (now (radius .entry)) (now (limit .entry)) smooth time age) (windowAt left right top bottom) grid support))) ⌝ }
+        → Coded r (inOrder (fromTwo (asking nx ny (now (guess .entry)) (sixColumns (now (x .entry)) (now (y .entry)) (now (value .entry)) (now (observed .entry)) (now (from .entry)) (now (until .entry))) scans (now (radius .entry)) (now (limit .entry)) smooth time age) (windowAt left right top bottom) grid support))) ⌝ }
 {
     if shapes::window_bad(nx, ny, left, right, top, bottom) {
         return coded(2, 0);
@@ -211,7 +211,7 @@ pub fn of_window(
     support: usize,
 ) -> u32
     ensures { λ r. ⌜ ((smooth : Bool) (time age : ℕ)
-        → Coded r (windowRefusal (callOf nx ny (now (guess .entry)) (sixColumns (now (x .entry)) (now (y .entry)) (now (value .entry)) (now (observed .entry)) (now (from .entry)) (now (until .entry))) scans (now (radius .entry)) (now (limit .entry)) smooth time age) (windowAt left right top bottom) grid support)) ⌝ }
+        → Coded r (windowRefusal (asking nx ny (now (guess .entry)) (sixColumns (now (x .entry)) (now (y .entry)) (now (value .entry)) (now (observed .entry)) (now (from .entry)) (now (until .entry))) scans (now (radius .entry)) (now (limit .entry)) smooth time age) (windowAt left right top bottom) grid support)) ⌝ }
 {
     if shapes::shape_bad(nx, ny, guess.len()) {
         return coded(1, 0);

@@ -1,8 +1,8 @@
 // The answer to a request (document 01): its refusal, or its analysis, as text.
 ghost use mathlib.Core.Path.{_≡_};
 ghost use lib.ListN.{length};
-ghost use Rattle.scheme.specs.Units.{asked};
-ghost use Rattle.scheme.specs.Promises.{sixColumns, callOf, slices, Stands};
+ghost use Rattle.scheme.specs.Units.{asked, asking};
+ghost use Rattle.scheme.specs.Promises.{sixColumns, slices, Stands};
 ghost use Rattle.scheme.specs.Text.{replyText};
 ghost use Rattle.report.specs.Report.{Measured, toldText, Tellable};
 
@@ -47,8 +47,8 @@ pub fn analysed(
     verdict: &mut [u8],
     out: &mut [u8],
 ) -> usize
-    requires { ⌜ Measured (callOf nx ny (now guess) (sixColumns (now x) (now y) (now value) (now observed) (now from) (now until)) count (now radius) (now limit) smooth time age) (length (now grid)) (length (now support)) (length (now verdict)) × (length (now out) ≡ 65536) ⌝ }
-    ensures { λ r. ⌜ Stands (replyText (asked (callOf nx ny (now (guess .entry)) (sixColumns (now (x .entry)) (now (y .entry)) (now (value .entry)) (now (observed .entry)) (now (from .entry)) (now (until .entry))) count (now (radius .entry)) (now (limit .entry)) smooth time age))) (now (out .entry)) r (now (out .exit)) ⌝ }
+    requires { ⌜ Measured (asking nx ny (now guess) (sixColumns (now x) (now y) (now value) (now observed) (now from) (now until)) count (now radius) (now limit) smooth time age) (length (now grid)) (length (now support)) (length (now verdict)) × (length (now out) ≡ 65536) ⌝ }
+    ensures { λ r. ⌜ Stands (replyText (asked (asking nx ny (now (guess .entry)) (sixColumns (now (x .entry)) (now (y .entry)) (now (value .entry)) (now (observed .entry)) (now (from .entry)) (now (until .entry))) count (now (radius .entry)) (now (limit .entry)) smooth time age))) (now (out .entry)) r (now (out .exit)) ⌝ }
 {
     let refused = analysis::analyse(
         nx,

@@ -9,12 +9,12 @@ use lib.ListN.{length, take, drop, getD, drop-of-length-le}
 use lib.Seq.{drop-cons, length-take-le, getD-take}
 use lib.IntN.{ℤ, pos}
 use Rattle.lists.specs.Tab.{tab, is-tab, map-tab, tab-same}
-use Rattle.scheme.specs.Units.{leastSide, mostSide, mostStations, Station, Columns, stationAt, stationsOf, mostScans, Plan, Request, Call, asked}
+use Rattle.scheme.specs.Units.{leastSide, mostSide, mostStations, Station, Columns, stationAt, stationsOf, mostScans, Request, Call, asked, asking}
 use Rattle.scheme.specs.Text.Reader.{fails, reads, onward, _>>=_, _>>_, gives}
 use Rattle.scheme.specs.Text.{requestLines}
 use Rattle.scheme.specs.Text.Lines.{Entry, scanLine, rowLine, stationLine}
 use Rattle.scheme.specs.Text.Order.{Text, line, lines, rows, nothingAfter}
-use Rattle.scheme.specs.Promises.{sixColumns, callOf}
+use Rattle.scheme.specs.Promises.{sixColumns}
 use Rattle.scheme.specs.Most.{mostPoints}
 use Rattle.scheme.specs.RoundTrip.{stationsLine}
 use Rattle.head.specs.declared.Head.{Head}
@@ -35,8 +35,7 @@ use Rattle.request.specs.Columns.{Kept}
 -- what all lines say
 abbrev gathered : (nx ny time age : ℕ) → Bool → (scans : ℕ) → List Entry → List ℤ → List Station → Request
 gathered nx ny time age smooth scans plan guess stations =
-    let planned : Plan = record { scans = scans; radius = map (λ t. t .radius) plan; limit = map (λ t. t .limit) plan; smooth = smooth } in
-    record { nx = nx; ny = ny; firstGuess = guess; stations = stations; plan = planned; T = time; A = age }
+    asking nx ny guess stations scans (map (λ t. t .radius) plan) (map (λ t. t .limit) plan) smooth time age
 
 -- the stations that were counted, and nothing after
 abbrev stationsThen : (List Station → Request) → ℕ → Text Request
@@ -120,7 +119,7 @@ firstStations n c =
 
 abbrev pub callRead : List ℤ → List ℤ → List ℤ → Columns → Asked → Call
 callRead guess radius limit c a =
-    callOf (a .nx) (a .ny) (take (a .ny * a .nx) guess) (firstStations (a .stations) c) (a .scans) (take (a .scans) radius) (take (a .scans) limit) (a .smooth) (a .time) (a .age)
+    asking (a .nx) (a .ny) (take (a .ny * a .nx) guess) (firstStations (a .stations) c) (a .scans) (take (a .scans) radius) (take (a .scans) limit) (a .smooth) (a .time) (a .age)
 
 abbrev pub requestTold : List ℤ → List ℤ → List ℤ → Columns → RequestRead → Read Request
 requestTold guess radius limit c (RequestValue a) = reads (asked (callRead guess radius limit c a)) (a .line, [])

@@ -8,9 +8,9 @@ use mathlib.Core.Bool.{Bool}
 use mathlib.Core.List.{List}
 use lib.ListN.{length, getD}
 use lib.IntN.{ℤ, pos, natAbs}
-use Rattle.scheme.specs.Units.{mostStations, mostScans, R, E, Call, asked}
+use Rattle.scheme.specs.Units.{mostStations, mostScans, R, E, Call, asked, asking}
 use Rattle.scheme.specs.Scan.{after}
-use Rattle.scheme.specs.Promises.{sixColumns, callOf}
+use Rattle.scheme.specs.Promises.{sixColumns}
 use Rattle.scheme.specs.Accepted.{SoundCall, same-shape}
 use Rattle.scheme.specs.Bounds.{after-within}
 use Rattle.scheme.specs.Support.{support-small}
@@ -30,7 +30,7 @@ pub record Rest : Type 0 where
 
 abbrev pub callWith : Rest → (nx ny : ℕ) (xs ys vs : List ℤ) (radius limit : List ℤ) (count : ℕ) → Bool → Call
 callWith r nx ny xs ys vs radius limit count smooth =
-    callOf nx ny (r .firstGuess) (sixColumns xs ys vs (r .observed) (r .from) (r .until)) count radius limit smooth (r .T) (r .A)
+    asking nx ny (r .firstGuess) (sixColumns xs ys vs (r .observed) (r .from) (r .until)) count radius limit smooth (r .T) (r .A)
 
 -- the slices hold the state after m scans, in which an accepted row is on the grid
 pub record Reached (c : Call) (m : ℕ) (z : List ℤ) (sup st : List ℕ) : Type 0 where

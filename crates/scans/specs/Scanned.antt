@@ -1,5 +1,5 @@
 -- One scan in code, on stored grids and columns, is one scan of document 01.
-use Prim.Native.Nat.{ℕ, _+_, _-_, _*_, _<_, _^_}
+use Prim.Native.Nat.{ℕ, _+_, _*_, _<_, _^_}
 use mathlib.Core.Path.{_≡_, sym, ap, _∙_}
 use mathlib.Core.Logic.{_⊎_, inl, inr, ⊎-elim}
 use mathlib.Core.Bool.{Bool, true, false, cond}

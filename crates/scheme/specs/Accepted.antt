@@ -10,7 +10,7 @@ use lib.ListN.{length, getD}
 use lib.IntN.{ℤ, pos, negsuc, natAbs}
 use lib.Signed.{leZ, ltZ}
 use Rattle.lists.specs.Tests.{and-true, or-false, not-both}
-use Rattle.lists.specs.First.{Found, nowhere, at, first-good, good-first, firstIn, none-bad, all-fine}
+use Rattle.lists.specs.First.{Found, nowhere, at, first-good, good-first, none-bad, all-fine}
 use Rattle.lists.specs.Members.{All, none, more}
 use Rattle.lists.specs.Tab.{length-tab, getD-tab}
 use Rattle.scheme.specs.Units.{among, within, mostValue, isMissing, leastSide, mostSide, mostStations, Station, mostPosition, Columns, stationAt, stationsOf, mostScans, mostRadius, mostLimit, Plan, R, E, Request, Call, asked}

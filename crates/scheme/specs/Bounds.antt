@@ -9,17 +9,17 @@ use mathlib.Core.List.{List}
 use borrow.Author.Tests.{ltb-false, eqb-true}
 use lib.Dec.{ltb, eqb}
 use lib.ListN.{length, getD, List·getD-eq-default}
-use lib.IntN.{ℤ, pos, natAbs, _-ℤ_, _*ℤ_}
+use lib.IntN.{ℤ, pos, natAbs, _*ℤ_}
 use Rattle.integers.specs.Sizes.{size-add, size-mul}
 use Rattle.lists.specs.Tests.{lt-or-le, true-or-false, not-both, cond-both}
 use Rattle.lists.specs.Sums.{total, upTo, upTo-size}
 use Rattle.lists.specs.Members.{All, none, more, all-map, all-of}
-use Rattle.scheme.specs.Units.{Field, fieldOf, step, Station, mostValue, mostLimit, R, E, Request, guess, Call, asked}
+use Rattle.scheme.specs.Units.{Field, fieldOf, Station, mostValue, mostLimit, R, E, Request, guess, Call, asked}
 use Rattle.scheme.specs.Refusals.{accepted, analysisRefusal}
 use Rattle.scheme.specs.Verdicts.{isAccepted}
 use Rattle.scheme.specs.Rounding.{rounded}
 use Rattle.scheme.specs.Difference.{Row, afterTest, judged}
-use Rattle.scheme.specs.Correction.{Sums, nothing, gift, share, correction}
+use Rattle.scheme.specs.Correction.{Sums, nothing, share, correction}
 use Rattle.scheme.specs.Smoothing.{patternAt, patternRow, patternSum, inner, smoothed}
 use Rattle.scheme.specs.Scan.{State, differences, start, rowsJudged, sumsAt, corrected, scan, after}
 use Rattle.scheme.specs.Most.{mostField}

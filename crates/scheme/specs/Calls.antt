@@ -6,7 +6,7 @@ use mathlib.Core.List.{List, [], _∷_, map}
 use borrow.Author.Tests.{eq-eqb}
 use lib.ListN.{length, length-map}
 use Rattle.lists.specs.Tab.{tab}
-use Rattle.scheme.specs.Units.{mostStations, Station, Columns, stationAt, stationsOf, Request, Call, asked}
+use Rattle.scheme.specs.Units.{mostStations, Station, Columns, stationAt, stationsOf, Request, Call, asked, withStations}
 use Rattle.scheme.specs.Refusals.{accepted, inOrder, refusedIf, fromFive, analysisRefusal}
 use Rattle.scheme.specs.Accepted.{Shaped, Equal, Sound, shape-good, columns-good, lengths-good, request-good}
 
@@ -22,8 +22,7 @@ columnsOf ss =
     }
 
 abbrev pub callFor : Request → Call
-callFor q =
-    record { nx = q .nx; ny = q .ny; firstGuess = q .firstGuess; stations = columnsOf (q .stations); plan = q .plan; T = q .T; A = q .A }
+callFor q = withStations q (columnsOf (q .stations))
 
 -- the rows of a list's columns are the list
 pub columns-back : (ss : List Station) → stationsOf (columnsOf ss) ≡ ss

@@ -9,10 +9,10 @@ use native.Mathlib.Omega.{arith}
 use lib.ListN.{length, length-map}
 use lib.IntN.{ℤ, pos, negsuc}
 use Rattle.lists.specs.Tab.{tab}
-use Rattle.lists.specs.Sums.{total, upTo}
+use Rattle.lists.specs.Sums.{total}
 use Rattle.lists.specs.First.{first, firstFrom, orNext}
 use Rattle.scheme.specs.declared.Reading.the-variants.{Backed, FirstGuess, OffGrid, Refused}
-use Rattle.scheme.specs.Units.{isMissing, missingMark, stored, fieldOf, mostStations, Station, noEnd, Columns, stationAt, stationsOf, R, E, Call, guess}
+use Rattle.scheme.specs.Units.{isMissing, missingMark, stored, fieldOf, mostStations, Station, noEnd, Columns, stationAt, stationsOf, R, E, Call, guess, asking}
 use Rattle.scheme.specs.Refusals.{Refusal, accepted, refused, asOne, inOrder, refusedIf, refusedAt, badShape, Window, badWindow, badLengths, badColumns, badScans, rising, badScan, badGuess, badStation, fromFive, analysisRefusal, windowRefusal, summaryRefusal, readingRefusal}
 use Rattle.scheme.specs.Verdicts.{serves, outOfService, onAxis, offGrid, firstThatFits, beforeScans}
 use Rattle.scheme.specs.Rounding.{rounded}
@@ -20,15 +20,14 @@ use Rattle.scheme.specs.Value.{place, cell, corners, sumAt, valueAt}
 use Rattle.scheme.specs.Difference.{difference, afterTest, judged}
 use Rattle.scheme.specs.Weight.{weight}
 use Rattle.scheme.specs.Correction.{gift, share, correction, backedBy}
-use Rattle.scheme.specs.Smoothing.{patternRow, patternSum, inner, smoothed}
 use Rattle.scheme.specs.Scan.{start, rowsJudged, sumsAt, corrected, scan, after, analysis}
-use Rattle.scheme.specs.Readings.{double, positiveZero, isBacked, readingIn, reading, numbersOf, lowest, highest, zeros, unitsOf, summary}
+use Rattle.scheme.specs.Readings.{double, positiveZero, isBacked, readingIn, reading, numbersOf, lowest, highest, unitsOf, summary}
 use Rattle.scheme.specs.Text.{requestLines, firstTwo, analysisText, replyText, inForm, answerText}
 use Rattle.scheme.specs.Text.Pieces.{ascii, word, digits, positive, natural, between, count, unsigned, negative, signed, values}
 use Rattle.scheme.specs.Text.Lines.{number, gridLine, scanLine, rowLine, observation, end, stationLine}
 use Rattle.scheme.specs.Text.Order.{lines, rows, nothingAfter}
 use Rattle.scheme.specs.Text.Printed.{spelled, decimal, integer, cells, keyed, gridLines}
-use Rattle.scheme.specs.Promises.{callOf, windowAt}
+use Rattle.scheme.specs.Promises.{windowAt}
 use Rattle.scheme.specs.Accepted.{columns-good}
 use Rattle.scheme.specs.Calls.{columnsOf, equal-columns}
 use Rattle.scheme.specs.Most.{mostField, mostDifference, mostWeights, mostPulls, mostReach}
@@ -55,13 +54,13 @@ at0 = pos 0 ∷ pos 0 ∷ []
 
 -- of that shape and first guess, with these stations, and with this plan
 abbrev shapedSo : (nx ny : ℕ) → List ℤ → Call
-shapedSo nx ny z = callOf nx ny z (two good) 2 at64 at0 false 1000 60
+shapedSo nx ny z = asking nx ny z (two good) 2 at64 at0 false 1000 60
 
 abbrev stationed : Columns → Call
-stationed c = callOf 2 2 level c 2 at64 at0 false 1000 60
+stationed c = asking 2 2 level c 2 at64 at0 false 1000 60
 
 abbrev planned : ℕ → (radius limit : List ℤ) → Call
-planned scans radius limit = callOf 2 2 level (two good) scans radius limit false 1000 60
+planned scans radius limit = asking 2 2 level (two good) scans radius limit false 1000 60
 
 -- the whole window
 abbrev all : Window

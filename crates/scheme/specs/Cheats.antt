@@ -8,7 +8,7 @@ use mathlib.Core.List.{List, _++_}
 use lib.ListN.{length, take, drop, getD}
 use lib.IntN.{ℤ, pos, natAbs}
 use Rattle.lists.specs.Tab.{tab}
-use Rattle.scheme.specs.Units.{Field, stored, Request}
+use Rattle.scheme.specs.Units.{stored, Request}
 use Rattle.scheme.specs.Refusals.{Refusal, accepted, analysisRefusal, windowRefusal}
 use Rattle.scheme.specs.Scan.{after, Analysis, analysis}
 use Rattle.scheme.specs.Reach.{Tile, windowOf, wholeAt}
@@ -17,7 +17,7 @@ use Rattle.scheme.specs.Text.Pieces.{ascii}
 use Rattle.scheme.specs.Text.Printed.{spelled, decimal, integer, cells, keyed, gridLines}
 use Rattle.scheme.specs.Promises.{Settles, putFirst, Analyses, Queries, Replies}
 use Rattle.scheme.specs.Calls.{callFor, asks}
-use Rattle.scheme.specs.Example.{level, example, corner, onceText, twiceText, smoothText, once, twice, smooth, onlySmoothed, onlySmoothedGrid, cornerOnce, cornerTwice, cornerSmooth, onceAnswer, twiceAnswer, smoothAnswer, example-accepted, example-analysis, example-window, example-first-scan, example-first-scan-corner, example-only-smoothed, example-only-smoothed-corner, example-text}
+use Rattle.scheme.specs.Example.{level, example, corner, onceText, twiceText, smoothText, once, twice, smooth, onlySmoothed, cornerOnce, cornerTwice, cornerSmooth, onceAnswer, twiceAnswer, smoothAnswer, example-accepted, example-analysis, example-window, example-first-scan, example-first-scan-corner, example-only-smoothed, example-only-smoothed-corner, example-text}
 
 -- an accepted call answers 0 and leaves its result
 done : {A : Type 0} (found : A) {refusal : Refusal} {result left right : A} {answer : ℕ} → refusal ≡ accepted → result ≡ right

@@ -1,9 +1,9 @@
 -- The cut of an accepted request: which of its rows is which, and that it is itself an accepted request, with two columns and rows at least.
-use Prim.Native.Nat.{ℕ, zero, suc, _+_, _-_, _*_, _≤_, _<_}
+use Prim.Native.Nat.{ℕ, zero, suc, _+_, _*_, _≤_, _<_}
 use native.Mathlib.Omega.{arith}
 use mathlib.Core.Path.{_≡_, sym, ap, _∙_}
-use mathlib.Core.Bool.{true, _&&_}
-use mathlib.Core.List.{List, map}
+use mathlib.Core.Bool.{true}
+use mathlib.Core.List.{List}
 use borrow.Author.Tests.{leb-true}
 use lib.ListN.{length, getD, length-map, List·getD-map}
 use lib.IntN.{ℤ, pos, negsuc, natAbs, _-ℤ_}
@@ -13,9 +13,9 @@ use Rattle.lists.specs.Tab.{getD-any}
 use Rattle.lists.specs.Sums.{upTo}
 use Rattle.lists.specs.Keep.{keep, length-keep, kept-from}
 use Rattle.lists.specs.Parted.{rank, keep-at}
-use Rattle.scheme.specs.Units.{mostValue, step, Station, mostPosition, Plan, R, Request, guess}
+use Rattle.scheme.specs.Units.{mostValue, step, Station, mostPosition, Plan, Request, guess}
 use Rattle.scheme.specs.Refusals.{Span, Window, pointsAlong}
-use Rattle.scheme.specs.Reach.{steps, reach, widened, cutOf, onSpan, onWindow, counted, windowOf, cut}
+use Rattle.scheme.specs.Reach.{steps, reach, cutOf, onSpan, onWindow, counted, windowOf, cut}
 use Rattle.scheme.specs.Accepted.{Shaped, Stationed, Planned, Sound, noStation, OnGrid}
 use Rattle.scheme.specs.Calls.{Accepts, sound-accepted}
 use Rattle.scheme.specs.Stored.{length-stored, stored-all}

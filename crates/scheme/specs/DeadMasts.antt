@@ -4,12 +4,12 @@ use native.Mathlib.Omega.{arith}
 use native.Mathlib.Nat.{zero-add, add-zero}
 use mathlib.Core.Path.{_≡_, refl, sym, ap, fun-ext, _∙_}
 use mathlib.Core.Bool.{Bool, false, cond, _&&_}
-use mathlib.Core.List.{List, [], _∷_, map}
+use mathlib.Core.List.{List, map}
 use lib.ListN.{getD, List·getD-map}
 use lib.IntN.{ℤ, _+ℤ_}
 use Rattle.lists.specs.Members.{All, all-map, all-also, all-of}
 use Rattle.lists.specs.Keep.{keep, total-keep, keep-map}
-use Rattle.scheme.specs.Units.{isMissing, Field, stored, Station, R, E, Request, guess}
+use Rattle.scheme.specs.Units.{isMissing, Field, stored, Station, R, E, Request, guess, withStations}
 use Rattle.scheme.specs.Verdicts.{isAccepted, serves, outOfService, firstThatFits, beforeScans}
 use Rattle.scheme.specs.Difference.{Row, difference, afterTest, judged}
 use Rattle.scheme.specs.Correction.{Sums, nothing, plus, share, correction, backedBy}
@@ -94,11 +94,6 @@ unfolding beforeScans firstThatFits outOfService
 taken-down-is-out-of-service nx ny T A s there gone = rw (there, gone)
 
 -- ---- deleting every dead mast changes no value and no support
-
--- the same request with other stations
-abbrev pub withStations : Request → List Station → Request
-withStations q ss =
-    record { nx = q .nx; ny = q .ny; firstGuess = q .firstGuess; stations = ss; plan = q .plan; T = q .T; A = q .A }
 
 module _ (q : Request) where
   -- a mast that none of the verdicts 1 to 5 fits

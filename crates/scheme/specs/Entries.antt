@@ -1,7 +1,7 @@
 -- Entries past the scan count are not read: two plans that count as many scans and are equal up to there are refused, run and reach alike.
 use Prim.Native.Nat.{ℕ, zero, suc, _+_, _≤_, _<_}
 use native.Mathlib.Omega.{arith}
-use mathlib.Core.Path.{_≡_, refl, sym, ap, _∙_}
+use mathlib.Core.Path.{_≡_, refl, ap, _∙_}
 use mathlib.Core.Bool.{Bool, cond}
 use mathlib.Core.List.{List, map}
 use borrow.Author.Tests.{le-ltb}
@@ -9,8 +9,8 @@ use lib.ListN.{length, getD}
 use lib.IntN.{ℤ, pos, natAbs, _+ℤ_}
 use Rattle.lists.specs.Sums.{total, upTo, upTo-same}
 use Rattle.lists.specs.First.{first, first-same}
-use Rattle.scheme.specs.Units.{Field, stored, Station, Plan, R, E, Request, guess}
-use Rattle.scheme.specs.Refusals.{inOrder, refusedAt, badScans, rising, badScan, fromFive}
+use Rattle.scheme.specs.Units.{Field, stored, Plan, R, E, Request, guess, asking}
+use Rattle.scheme.specs.Refusals.{badScans, rising, badScan, fromFive}
 use Rattle.scheme.specs.Difference.{Row, judged}
 use Rattle.scheme.specs.Correction.{Sums, nothing, plus, share, correction, backedBy}
 use Rattle.scheme.specs.Smoothing.{smoothed}
@@ -19,7 +19,7 @@ use Rattle.scheme.specs.Reach.{steps, reach}
 
 -- the same request with another plan
 abbrev pub withPlan : Request → Plan → Request
-withPlan q p = record { nx = q .nx; ny = q .ny; firstGuess = q .firstGuess; stations = q .stations; plan = p; T = q .T; A = q .A }
+withPlan q p = asking (q .nx) (q .ny) (q .firstGuess) (q .stations) (p .scans) (p .radius) (p .limit) (p .smooth) (q .T) (q .A)
 
 -- equal up to the count
 pub record UpToCount (p p' : Plan) : Type 0 where

@@ -7,7 +7,7 @@ use lib.IntN.{ℤ, pos}
 use Rattle.lists.specs.Tab.{tab}
 use Rattle.lists.specs.Sums.{total, upTo}
 use Rattle.lists.specs.First.{first, firstFrom, orNext}
-use Rattle.scheme.specs.Units.{isMissing, Field, stored, fieldOf, Station, stationAt, stationsOf, R, E, Request, guess}
+use Rattle.scheme.specs.Units.{isMissing, Field, stored, fieldOf, Station, stationAt, stationsOf, R, E, Request, guess, asking}
 use Rattle.scheme.specs.Refusals.{accepted, inOrder, refusedIf, refusedAt, badShape, Window, badWindow, badLengths, badColumns, badScans, rising, badScan, badGuess, badStation, fromFive, analysisRefusal, windowRefusal}
 use Rattle.scheme.specs.Verdicts.{serves, outOfService, onAxis, offGrid, firstThatFits, beforeScans}
 use Rattle.scheme.specs.Rounding.{rounded}
@@ -41,20 +41,12 @@ masts =
 abbrev pub level : List ℤ
 level = tab 9 (λ p. pos 640)
 
-abbrev asking : List Station → (scans radius : ℕ) → Bool → Request
-asking stations scans radius smooth =
-    record {
-      nx = 3;
-      ny = 3;
-      firstGuess = level;
-      stations = stations;
-      plan = record { scans = scans; radius = tab scans (λ m. pos radius); limit = tab scans (λ m. pos 200); smooth = smooth };
-      T = 1000;
-      A = 60;
-    }
+abbrev asked-of : List Station → (scans radius : ℕ) → Bool → Request
+asked-of stations scans radius smooth =
+    asking 3 3 level stations scans (tab scans (λ m. pos radius)) (tab scans (λ m. pos 200)) smooth 1000 60
 
 abbrev pub example : (scans : ℕ) → Bool → Request
-example scans smooth = asking masts scans 96 smooth
+example scans smooth = asked-of masts scans 96 smooth
 
 -- the window over its first two columns and rows
 abbrev pub corner : Window
@@ -177,7 +169,7 @@ example-text = (refl, refl, refl)
 -- ---- So with smoothing a point without support may change: with one mast in the corner, whose radius reaches no other point, the middle does
 
 abbrev pub lone : Request
-lone = asking (corner-mast ∷ []) 1 64 true
+lone = asked-of (corner-mast ∷ []) 1 64 true
 
 pub smoothing-may-move-an-unsupported-point : (atEnd lone .support 1 1 ≡ 0) × (guess lone 1 1 ≡ pos 640) × (atEnd lone .field 1 1 ≡ pos 636)
 unfolding after scan start rowsJudged sumsAt corrected smoothed patternSum patternRow inner upTo guess fieldOf tab R E beforeScans firstThatFits isMissing outOfService serves offGrid onAxis judged afterTest difference valueAt place sumAt cell corners rounded total share gift weight correction backedBy

@@ -11,7 +11,7 @@ use lib.IntN.{ℤ, pos, natAbs, _-ℤ_, _*ℤ_, zero-*ℤ}
 use Rattle.integers.specs.Sizes.{size-mul}
 use Rattle.lists.specs.Tests.{lt-or-le}
 use Rattle.lists.specs.Sums.{total}
-use Rattle.scheme.specs.Weight.{weight, square, inside}
+use Rattle.scheme.specs.Weight.{weight, square}
 use Rattle.scheme.specs.Units.{step, Station}
 use Rattle.scheme.specs.Verdicts.{isAccepted}
 use Rattle.scheme.specs.Difference.{Row}

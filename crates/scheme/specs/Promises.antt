@@ -1,28 +1,22 @@
 -- What each public call promises: its answer and what it leaves in the memory it is lent, from what it is handed and what it finds there.
 use Prim.Native.Nat.{ℕ}
 use mathlib.Core.Path.{_≡_}
-use mathlib.Core.Bool.{Bool}
 use mathlib.Core.List.{List, _++_}
 use lib.ListN.{length, drop}
 use lib.IntN.{ℤ}
 use lib.Ieee.{Float}
 use Rattle.scheme.specs.declared.Reading.{Reading}
 use Rattle.scheme.specs.declared.Summary.{Summary}
-use Rattle.scheme.specs.Units.{Columns, Plan, Call, asked}
+use Rattle.scheme.specs.Units.{Columns, Call, asked}
 use Rattle.scheme.specs.Refusals.{Refusal, asOne, unlessRefused, Window, analysisRefusal, windowRefusal}
 use Rattle.scheme.specs.Scan.{Analysis, analysis}
 use Rattle.scheme.specs.Reach.{Tile, wholeAt}
 use Rattle.scheme.specs.Readings.{reading, numbersOf, kindOf, valueOf, summary}
 use Rattle.scheme.specs.Text.{answerText}
 
--- what a call is handed, from its arguments
+-- the six columns, from the arguments of a call
 abbrev pub sixColumns : (x y value : List ℤ) (observed from until : List ℕ) → Columns
 sixColumns x y value observed from until = record { x = x; y = y; value = value; observed = observed; from = from; until = until }
-
-abbrev pub callOf : (nx ny : ℕ) (firstGuess : List ℤ) → Columns → (scans : ℕ) (radius limit : List ℤ) → Bool → (T A : ℕ) → Call
-callOf nx ny firstGuess columns scans radius limit smooth T A =
-    let plan : Plan = record { scans = scans; radius = radius; limit = limit; smooth = smooth } in
-    record { nx = nx; ny = ny; firstGuess = firstGuess; stations = columns; plan = plan; T = T; A = A }
 
 -- ---- the shape of every promise: the outcome of the call is the one that document 01 gives
 

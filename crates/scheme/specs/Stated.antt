@@ -4,7 +4,7 @@ use Prim.Native.Nat.{ℕ, suc, _+_, _-_, _*_, _/_, _%_, _^_, _≤_, _<_}
 use mathlib.Core.Path.{_≡_}
 use mathlib.Core.Logic.{_⊎_, _↔_}
 use mathlib.Core.Bool.{true, false, cond, _&&_}
-use mathlib.Core.List.{List, [], _∷_, map}
+use mathlib.Core.List.{List, [], _∷_}
 use lib.Dec.{eqb}
 use lib.ListN.{length, getD}
 use lib.IntN.{ℤ, pos, natAbs, _-ℤ_, _*ℤ_}
@@ -20,8 +20,8 @@ use Rattle.lists.specs.Parted.{rank}
 use Rattle.lists.specs.Sums.{upTo}
 use Rattle.scheme.specs.declared.Reading.{Reading}
 use Rattle.scheme.specs.declared.Summary.{Summary}
-use Rattle.scheme.specs.Units.{isMissing, Field, stored, fieldOf, step, Station, Plan, R, E, Request, guess, Call, asked}
-use Rattle.scheme.specs.Refusals.{Refusal, accepted, numberOf, placeOf, asOne, badShape, Window, badWindow, fromFive, analysisRefusal, windowRefusal}
+use Rattle.scheme.specs.Units.{isMissing, stored, fieldOf, step, Station, Plan, R, E, Request, guess, Call, asked, withStations, asking}
+use Rattle.scheme.specs.Refusals.{accepted, numberOf, placeOf, asOne, badShape, Window, badWindow, fromFive, analysisRefusal, windowRefusal}
 use Rattle.scheme.specs.Verdicts.{serves, isAccepted, beforeScans}
 use Rattle.scheme.specs.Rounding.{rounded}
 use Rattle.scheme.specs.Value.{place, sumAt}
@@ -30,7 +30,7 @@ use Rattle.scheme.specs.Weight.{scale, weight, square}
 use Rattle.scheme.specs.Correction.{nothing, gift, share, correction}
 use Rattle.scheme.specs.Scan.{State, differences, rowsJudged, sumsAt, after, atEnd, Analysis, analysis}
 use Rattle.scheme.specs.Reach.{reach, cutOf, onWindow, counted, cut, Tile, windowOf}
-use Rattle.scheme.specs.Readings.{double, positiveZero, reading, valueOf, lowest, highest, zeros, summary}
+use Rattle.scheme.specs.Readings.{double, positiveZero, reading, valueOf, lowest, highest, summary}
 use Rattle.scheme.specs.Text.{requestLines, analysisText}
 use Rattle.scheme.specs.Text.Reader.{reads}
 use Rattle.scheme.specs.Text.Pieces.{ascii}
@@ -55,7 +55,7 @@ use Rattle.scheme.specs.Locality as locality
 use Rattle.scheme.specs.Locality.{Runs, Alike}
 use Rattle.scheme.specs.Windows as windows
 use Rattle.scheme.specs.Exact as exactness
-use Rattle.scheme.specs.Exact.{negative, Exactly, ReadsExactly, ExactUnits, IsZero, ZerosPositive}
+use Rattle.scheme.specs.Exact.{negative, ReadsExactly, ExactUnits, IsZero, ZerosPositive}
 use Rattle.scheme.specs.AnswerSize as size
 use Rattle.scheme.specs.RoundTrip as round
 use Rattle.scheme.specs.RoundTrip.{requestText, InRange}
@@ -132,8 +132,7 @@ taken-down-is-out-of-service = dead.taken-down-is-out-of-service
 -- the request without the masts that a verdict from 1 to 5 fits
 abbrev withoutDeadMasts : Request → Request
 withoutDeadMasts q =
-    let alive : List Station = keep (λ s. isAccepted (beforeScans (q .nx) (q .ny) (q .T) (q .A) s)) (q .stations) in
-    record { nx = q .nx; ny = q .ny; firstGuess = q .firstGuess; stations = alive; plan = q .plan; T = q .T; A = q .A }
+    withStations q (keep (λ s. isAccepted (beforeScans (q .nx) (q .ny) (q .T) (q .A) s)) (q .stations))
 
 pub removing-dead-masts-changes-no-value : (q : Request) → analysis (withoutDeadMasts q) .grid ≡ analysis q .grid
 removing-dead-masts-changes-no-value = dead.removing-dead-masts-changes-no-value
@@ -242,7 +241,7 @@ module _ (q : Request) (p' : Plan) (scans : p' .scans ≡ q .plan .scans) (smoot
     (radii : (m : ℕ) → m < q .plan .scans → getD (p' .radius) m (pos 0) ≡ getD (q .plan .radius) m (pos 0))
     (limits : (m : ℕ) → m < q .plan .scans → getD (p' .limit) m (pos 0) ≡ getD (q .plan .limit) m (pos 0)) where
   abbrev other : Request
-  other = record { nx = q .nx; ny = q .ny; firstGuess = q .firstGuess; stations = q .stations; plan = p'; T = q .T; A = q .A }
+  other = asking (q .nx) (q .ny) (q .firstGuess) (q .stations) (p' .scans) (p' .radius) (p' .limit) (p' .smooth) (q .T) (q .A)
 
   abbrev same : entries.UpToCount (q .plan) p'
   same = record { scans = scans; smooth = smooth; radii = radii; limits = limits }

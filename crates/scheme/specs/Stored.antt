@@ -5,7 +5,6 @@ use native.Mathlib.Nat.{mul-le-mul-right, mul-comm, mod-lt, div-lt-iff-lt-mul}
 use mathlib.Core.Path.{_≡_, ap, ap₂, _∙_}
 use mathlib.Core.Bool.{true, false, cond, _&&_}
 use mathlib.Core.Logic.{_⊎_, inl, inr}
-use mathlib.Core.List.{List}
 use borrow.Author.Tests.{ltb-true}
 use lib.Arith.{digits-div, digits-mod}
 use lib.ListN.{length, getD, List·getD-eq-default}

@@ -14,7 +14,7 @@ use Pieces.{ascii, count, unsigned}
 use Lines.{number, gridLine, scanLine, rowLine, stationLine}
 use Order.{Text, line, lines, rows, nothingAfter}
 use Printed.{decimal, integer, keyed, gridLines}
-use Rattle.scheme.specs.Units.{mostScans, mostStations, Request}
+use Rattle.scheme.specs.Units.{mostScans, mostStations, asking, Request}
 use Rattle.scheme.specs.Refusals.{numberOf, placeOf, unlessRefused, inOrder, fromFive}
 use Rattle.scheme.specs.Scan.{Analysis, analysis}
 
@@ -39,16 +39,7 @@ requestLines = do
   many ← line (number (ascii "stations=") (count 0 mostStations))
   stations ← lines many stationLine
   nothingAfter
-  gives
-      (record {
-        nx = size .nx;
-        ny = size .ny;
-        firstGuess = guess;
-        stations = stations;
-        plan = record { scans = scans; radius = map (λ t. t .radius) plan; limit = map (λ t. t .limit) plan; smooth = eqb smooth 1 };
-        T = time;
-        A = age;
-      })
+  gives (asking (size .nx) (size .ny) guess stations scans (map (λ t. t .radius) plan) (map (λ t. t .limit) plan) (eqb smooth 1) time age)
 
 -- ---- the answer
 

@@ -138,6 +138,17 @@ pub record Asking (Stations : Type 0) : Type 0 where
   pub T : ℕ
   pub A : ℕ
 
+-- from its parts, as a text says them or a call is handed them
+abbrev pub asking : {S : Type 0} (nx ny : ℕ) (firstGuess : List ℤ) → S → (scans : ℕ) (radius limit : List ℤ) → Bool → (T A : ℕ) → Asking S
+asking nx ny firstGuess stations scans radius limit smooth T A =
+    let plan : Plan = record { scans = scans; radius = radius; limit = limit; smooth = smooth } in
+    record { nx = nx; ny = ny; firstGuess = firstGuess; stations = stations; plan = plan; T = T; A = A }
+
+-- and with other stations
+abbrev pub withStations : {S S' : Type 0} → Asking S → S' → Asking S'
+withStations a stations =
+    record { nx = a .nx; ny = a .ny; firstGuess = a .firstGuess; stations = stations; plan = a .plan; T = a .T; A = a .A }
+
 -- by a request, whose stations are a list
 abbrev pub Request : Type 0
 Request = Asking (List Station)
@@ -150,6 +161,4 @@ abbrev pub Call : Type 0
 Call = Asking Columns
 
 abbrev pub asked : Call → Request
-asked c =
-    let stations = stationsOf (c .stations) in
-    record { nx = c .nx; ny = c .ny; firstGuess = c .firstGuess; stations = stations; plan = c .plan; T = c .T; A = c .A }
+asked c = withStations c (stationsOf (c .stations))

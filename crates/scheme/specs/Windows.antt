@@ -3,17 +3,17 @@
 use Prim.Native.Nat.{ℕ, _+_, _-_, _*_, _≤_, _<_, min}
 use native.Mathlib.Omega.{arith}
 use mathlib.Core.Path.{_≡_, sym, ap, _∙_}
-use mathlib.Core.Bool.{true, false, cond, _&&_}
+use mathlib.Core.Bool.{true, false, cond}
 use mathlib.Core.List.{List, map}
 use borrow.Author.Tests.{leb-true, le-leb}
 use lib.ListN.{length, getD, length-map, List·getD-map}
 use lib.IntN.{ℤ, pos, negsuc}
 use Rattle.lists.specs.Tests.{and-true, not-both}
 use Rattle.scheme.specs.Units.{Field, stored, fieldOf, step, Station, Plan, R, Request, guess, Call, asked}
-use Rattle.scheme.specs.Refusals.{accepted, Span, Window, badWindow, pointsAlong, analysisRefusal}
+use Rattle.scheme.specs.Refusals.{accepted, Window, badWindow, pointsAlong, analysisRefusal}
 use Rattle.scheme.specs.Value.{place}
 use Rattle.scheme.specs.Difference.{Row}
-use Rattle.scheme.specs.Scan.{sumsAt, after, atEnd, analysis}
+use Rattle.scheme.specs.Scan.{sumsAt, after, analysis}
 use Rattle.scheme.specs.Reach.{steps, reach, widened, cutOf, onSpan, onWindow, counted, windowOf, cut}
 use Rattle.scheme.specs.Accepted.{Sound, OnGrid, on-grid, analysis-sound}
 use Rattle.scheme.specs.Calls.{Accepts}
@@ -25,7 +25,7 @@ use Rattle.scheme.specs.Laws.{States, Run}
 use Rattle.scheme.specs.Near.{Side, cutAlong, Spot}
 use Rattle.scheme.specs.Gathered.{Near, Twin}
 use Rattle.scheme.specs.Locality.{agree-inside, Runs, Alike, run-alike, twin-row, stations-stay}
-use Rattle.scheme.specs.Cut.{across, down, rowInCut, rows-cut, window-row, cut-sound, cut-accepted}
+use Rattle.scheme.specs.Cut.{across, down, rowInCut, window-row, cut-sound, cut-accepted}
 use Rattle.scheme.specs.Cressman.{cressman, states, run, cressman-laws}
 
 -- ---- what it says

@@ -1,9 +1,9 @@
 // A window out of a whole analysis (document 01, "Reach of a window").
 ghost use mathlib.Core.Path.{_≡_};
 ghost use lib.ListN.{length};
-ghost use Rattle.scheme.specs.Units.{asked};
+ghost use Rattle.scheme.specs.Units.{asked, asking};
 ghost use Rattle.scheme.specs.Reach.{wholeAt};
-ghost use Rattle.scheme.specs.Promises.{sixColumns, callOf, windowAt, tile};
+ghost use Rattle.scheme.specs.Promises.{sixColumns, windowAt, tile};
 ghost use Rattle.scheme.specs.Accepted.{QueryAccepted};
 
 // The whole analysis in memory of its own, and of its grid and support the window's points.
@@ -30,8 +30,8 @@ pub fn whole_at(
     grid: &mut [i32],
     support: &mut [u8],
 )
-    requires { ⌜ QueryAccepted (callOf nx ny (now guess) (sixColumns (now x) (now y) (now value) (now observed) (now from) (now until)) scans (now radius) (now limit) smooth time age) (windowAt left right top bottom) (length (now grid)) (length (now support)) ⌝ }
-    ensures { λ u. ⌜ tile (now (grid .exit)) (now (support .exit)) ≡ wholeAt (asked (callOf nx ny (now (guess .entry)) (sixColumns (now (x .entry)) (now (y .entry)) (now (value .entry)) (now (observed .entry)) (now (from .entry)) (now (until .entry))) scans (now (radius .entry)) (now (limit .entry)) smooth time age)) (windowAt left right top bottom) ⌝ }
+    requires { ⌜ QueryAccepted (asking nx ny (now guess) (sixColumns (now x) (now y) (now value) (now observed) (now from) (now until)) scans (now radius) (now limit) smooth time age) (windowAt left right top bottom) (length (now grid)) (length (now support)) ⌝ }
+    ensures { λ u. ⌜ tile (now (grid .exit)) (now (support .exit)) ≡ wholeAt (asked (asking nx ny (now (guess .entry)) (sixColumns (now (x .entry)) (now (y .entry)) (now (value .entry)) (now (observed .entry)) (now (from .entry)) (now (until .entry))) scans (now (radius .entry)) (now (limit .entry)) smooth time age)) (windowAt left right top bottom) ⌝ }
 {
     let mut values = [0i32; 4096];
     let mut bits = [0u8; 4096];

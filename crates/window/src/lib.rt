@@ -1,9 +1,9 @@
 // The window query over lent slices (document 01, "Reach of a window"): the analysis of the cut alone, and of it the window's points.
 ghost use mathlib.Core.Path.{_≡_};
 ghost use lib.ListN.{length};
-ghost use Rattle.scheme.specs.Units.{asked};
+ghost use Rattle.scheme.specs.Units.{asked, asking};
 ghost use Rattle.scheme.specs.Reach.{wholeAt};
-ghost use Rattle.scheme.specs.Promises.{sixColumns, callOf, windowAt, tile, Queries};
+ghost use Rattle.scheme.specs.Promises.{sixColumns, windowAt, tile, Queries};
 ghost use Rattle.scheme.specs.Accepted.{QueryAccepted};
 
 // The work on an accepted query: the cut as a request of its own, on which the window stands as it stands on the grid.
@@ -30,8 +30,8 @@ fn work(
     grid: &mut [i32],
     support: &mut [u8],
 )
-    requires { ⌜ QueryAccepted (callOf nx ny (now guess) (sixColumns (now x) (now y) (now value) (now observed) (now from) (now until)) count (now radius) (now limit) smooth time age) (windowAt left right top bottom) (length (now grid)) (length (now support)) ⌝ }
-    ensures { λ u. ⌜ tile (now (grid .exit)) (now (support .exit)) ≡ wholeAt (asked (callOf nx ny (now (guess .entry)) (sixColumns (now (x .entry)) (now (y .entry)) (now (value .entry)) (now (observed .entry)) (now (from .entry)) (now (until .entry))) count (now (radius .entry)) (now (limit .entry)) smooth time age)) (windowAt left right top bottom) ⌝ }
+    requires { ⌜ QueryAccepted (asking nx ny (now guess) (sixColumns (now x) (now y) (now value) (now observed) (now from) (now until)) count (now radius) (now limit) smooth time age) (windowAt left right top bottom) (length (now grid)) (length (now support)) ⌝ }
+    ensures { λ u. ⌜ tile (now (grid .exit)) (now (support .exit)) ≡ wholeAt (asked (asking nx ny (now (guess .entry)) (sixColumns (now (x .entry)) (now (y .entry)) (now (value .entry)) (now (observed .entry)) (now (from .entry)) (now (until .entry))) count (now (radius .entry)) (now (limit .entry)) smooth time age)) (windowAt left right top bottom) ⌝ }
 {
     let reach = spans::reach(radius, count, smooth);
     let columns = spans::widened(reach, nx, left, right);
@@ -120,7 +120,7 @@ pub fn query(
     grid: &mut [i32],
     support: &mut [u8],
 ) -> u32
-    ensures { λ r. ⌜ Queries (callOf nx ny (now (guess .entry)) (sixColumns (now (x .entry)) (now (y .entry)) (now (value .entry)) (now (observed .entry)) (now (from .entry)) (now (until .entry))) count (now (radius .entry)) (now (limit .entry)) smooth time age) (windowAt left right top bottom) (tile (now (grid .entry)) (now (support .entry))) r (tile (now (grid .exit)) (now (support .exit))) ⌝ }
+    ensures { λ r. ⌜ Queries (asking nx ny (now (guess .entry)) (sixColumns (now (x .entry)) (now (y .entry)) (now (value .entry)) (now (observed .entry)) (now (from .entry)) (now (until .entry))) count (now (radius .entry)) (now (limit .entry)) smooth time age) (windowAt left right top bottom) (tile (now (grid .entry)) (now (support .entry))) r (tile (now (grid .exit)) (now (support .exit))) ⌝ }
 {
     let refused = refusal::of_window(
         nx as usize,

@@ -1,9 +1,9 @@
 -- `report::analysed` meets its contract: the analysis, and what it answered. Assumes nothing.
 use borrow.Author.Needs.{needs}
 use lib.ListN.{length}
-use Rattle.scheme.specs.Units.{Call}
+use Rattle.scheme.specs.Units.{Call, asking}
 use Rattle.scheme.specs.Scan.{Analysis}
-use Rattle.scheme.specs.Promises.{sixColumns, callOf, slices, Analyses}
+use Rattle.scheme.specs.Promises.{sixColumns, slices, Analyses}
 use Rattle.report.specs.Report.{reply-told, tellable, stands-as}
 use Rattle.report.proofs.analysed.Statement.{statement}
 use Rattle.report.proofs.analysed.Tie as tie
@@ -14,7 +14,7 @@ module _ (c : tie.After-analyse) where
 
   abbrev call : Call
   call =
-      callOf (start .args .nx) (start .args .ny) (start .args .guess .now) (sixColumns (start .args .x .now) (start .args .y .now) (start .args .value .now) (start .args .observed .now) (start .args .from .now) (start .args .until .now))
+      asking (start .args .nx) (start .args .ny) (start .args .guess .now) (sixColumns (start .args .x .now) (start .args .y .now) (start .args .value .now) (start .args .observed .now) (start .args .from .now) (start .args .until .now))
       (start .args .count) (start .args .radius .now) (start .args .limit .now) (start .args .smooth) (start .args .time) (start .args .age)
 
   abbrev found : Analysis

@@ -8,10 +8,10 @@ use mathlib.Core.Path.{_≡_, sym, ap, _∙_}
 use mathlib.Core.List.{List}
 use lib.ListN.{length, replicate, length-replicate}
 use lib.IntN.{ℤ, pos}
-use Rattle.scheme.specs.Units.{mostStations, Call, asked}
+use Rattle.scheme.specs.Units.{mostStations, Call, asked, asking}
 use Rattle.scheme.specs.Refusals.{Window}
 use Rattle.scheme.specs.Scan.{analysis}
-use Rattle.scheme.specs.Promises.{sixColumns, callOf, windowAt, slices}
+use Rattle.scheme.specs.Promises.{sixColumns, windowAt, slices}
 use Rattle.scheme.specs.Accepted.{same-shape}
 use Rattle.scheme.specs.Most.{mostPoints}
 use Rattle.tile.specs.Query.{prefix-long, prefix-back, prefix-in, values-long, bits-long, window-part, whole-part}
@@ -26,7 +26,7 @@ use Rattle.cut.proofs.part_of_values.Reads as part-of-values-reads
 -- the call and the window
 module _ (s : lts.Start (work-reads.Asked, work-reads.Learnt, part-of-values-reads.Asked, part-of-values-reads.Learnt, part-of-bytes-reads.Asked, part-of-bytes-reads.Learnt) reads.Pre reads.Post) where
   abbrev call : Call
-  call = let a = s .args in callOf (a .nx) (a .ny) (a .guess .now) (sixColumns (a .x .now) (a .y .now) (a .value .now) (a .observed .now) (a .from .now) (a .until .now)) (a .scans) (a .radius .now) (a .limit .now) (a .smooth) (a .time) (a .age)
+  call = let a = s .args in asking (a .nx) (a .ny) (a .guess .now) (sixColumns (a .x .now) (a .y .now) (a .value .now) (a .observed .now) (a .from .now) (a .until .now)) (a .scans) (a .radius .now) (a .limit .now) (a .smooth) (a .time) (a .age)
 
   abbrev w : Window
   w = let a = s .args in windowAt (a .left) (a .right) (a .top) (a .bottom)

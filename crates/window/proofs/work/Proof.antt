@@ -7,10 +7,10 @@ use mathlib.Core.Path.{_≡_, sym, ap, ap₂, _∙_}
 use mathlib.Core.List.{List, _++_}
 use lib.ListN.{length, take, drop, replicate, length-replicate}
 use lib.IntN.{ℤ, pos}
-use Rattle.scheme.specs.Units.{stored, mostStations, Columns, Request, Call, asked}
+use Rattle.scheme.specs.Units.{stored, mostStations, Columns, Request, Call, asked, asking}
 use Rattle.scheme.specs.Refusals.{Span, Window, pointsAlong}
 use Rattle.scheme.specs.Reach.{reach, cutOf, cut, wholeAt}
-use Rattle.scheme.specs.Promises.{sixColumns, callOf, windowAt}
+use Rattle.scheme.specs.Promises.{sixColumns, windowAt}
 use Rattle.scheme.specs.Most.{mostPoints}
 use Rattle.scheme.specs.Stored.{length-stored}
 use Rattle.spans.specs.Spans.{radii}
@@ -31,7 +31,7 @@ use Rattle.spans.proofs.widened.Reads as widened-reads
 -- the call and the window
 module _ (s : lts.Start (reach-reads.Asked, reach-reads.Learnt, widened-reads.Asked, widened-reads.Learnt, part-of-values-reads.Asked, part-of-values-reads.Learnt, keep-stations-reads.Asked, keep-stations-reads.Learnt, whole-at-reads.Asked, whole-at-reads.Learnt) reads.Pre reads.Post) where
   abbrev call : Call
-  call = let a = s .args in callOf (a .nx) (a .ny) (a .guess .now) (sixColumns (a .x .now) (a .y .now) (a .value .now) (a .observed .now) (a .from .now) (a .until .now)) (a .count) (a .radius .now) (a .limit .now) (a .smooth) (a .time) (a .age)
+  call = let a = s .args in asking (a .nx) (a .ny) (a .guess .now) (sixColumns (a .x .now) (a .y .now) (a .value .now) (a .observed .now) (a .from .now) (a .until .now)) (a .count) (a .radius .now) (a .limit .now) (a .smooth) (a .time) (a .age)
 
   abbrev w : Window
   w = let a = s .args in windowAt (a .left) (a .right) (a .top) (a .bottom)
