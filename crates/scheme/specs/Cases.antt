@@ -12,7 +12,7 @@ use Rattle.lists.specs.Tab.{tab}
 use Rattle.lists.specs.Sums.{total}
 use Rattle.lists.specs.First.{first, firstFrom, orNext}
 use Rattle.scheme.specs.declared.Reading.the-variants.{Backed, FirstGuess, OffGrid, Refused}
-use Rattle.scheme.specs.Units.{isMissing, missingMark, stored, fieldOf, mostStations, Station, noEnd, Columns, stationAt, stationsOf, R, E, Call, guess, asking}
+use Rattle.scheme.specs.Units.{isMissing, missingMark, Field, stored, fieldOf, mostStations, Station, noEnd, Columns, stationAt, stationsOf, R, E, Call, guess, asking}
 use Rattle.scheme.specs.Refusals.{Refusal, accepted, refused, asOne, inOrder, refusedIf, refusedAt, badShape, Window, badWindow, badLengths, badColumns, badScans, rising, badScan, badGuess, badStation, fromFive, analysisRefusal, windowRefusal, summaryRefusal, readingRefusal}
 use Rattle.scheme.specs.Verdicts.{serves, outOfService, onAxis, offGrid, firstThatFits, beforeScans}
 use Rattle.scheme.specs.Rounding.{rounded}
@@ -20,6 +20,7 @@ use Rattle.scheme.specs.Value.{place, cell, corners, sumAt, valueAt}
 use Rattle.scheme.specs.Difference.{difference, afterTest, judged}
 use Rattle.scheme.specs.Weight.{weight}
 use Rattle.scheme.specs.Correction.{gift, share, correction, backedBy}
+use Rattle.scheme.specs.Smoothing.{inner, smoothed}
 use Rattle.scheme.specs.Scan.{start, rowsJudged, sumsAt, corrected, scan, after, analysis}
 use Rattle.scheme.specs.Readings.{double, positiveZero, isBacked, readingIn, reading, numbersOf, lowest, highest, unitsOf, summary}
 use Rattle.scheme.specs.Text.{requestLines, firstTwo, analysisText, replyText, inForm, answerText}
@@ -107,6 +108,7 @@ pub record Refusals : Type 0 where
   pub no-radius : BothRefuse (planned 2 (pos 64 ∷ pos 0 ∷ []) at0) (refused 6 1)
   pub wide-radius : BothRefuse (planned 2 (pos 1025 ∷ pos 64 ∷ []) at0) (refused 6 0)
   pub widest-radius : BothRefuse (planned 2 (pos 1024 ∷ pos 1 ∷ []) at0) accepted
+  pub first-of-two-scans : BothRefuse (planned 2 (pos 0 ∷ pos 0 ∷ []) at0) (refused 6 0)
   pub rises : BothRefuse (planned 2 (pos 64 ∷ pos 65 ∷ []) at0) (refused 6 1)
   pub negative-limit : BothRefuse (planned 2 at64 (pos 0 ∷ negsuc 0 ∷ [])) (refused 6 1)
   pub large-limit : BothRefuse (planned 2 at64 (pos 2000001 ∷ pos 0 ∷ [])) (refused 6 0)
@@ -115,6 +117,7 @@ pub record Refusals : Type 0 where
   pub high-guess : BothRefuse (shapedSo 2 2 (pos 0 ∷ pos 0 ∷ pos 1000001 ∷ pos 0 ∷ [])) (refused 7 2)
   pub low-guess : BothRefuse (shapedSo 2 2 (pos 0 ∷ pos 0 ∷ pos 0 ∷ negsuc 1000000 ∷ [])) (refused 7 3)
   pub edge-guess : BothRefuse (shapedSo 2 2 (pos 1000000 ∷ negsuc 999999 ∷ pos 0 ∷ pos 0 ∷ [])) accepted
+  pub first-of-two-guesses : BothRefuse (shapedSo 2 2 (pos 0 ∷ pos 1000001 ∷ pos 1000001 ∷ pos 0 ∷ [])) (refused 7 1)
   pub missing-guess : BothRefuse (shapedSo 2 2 (missingMark ∷ pos 0 ∷ pos 0 ∷ pos 0 ∷ [])) (refused 7 0)
   -- 8: a station, at its row
   pub high-value : BothRefuse (stationed (two (mast (pos 0) (pos 0) (pos 1000001) 0 0 1))) (refused 8 1)
@@ -124,6 +127,7 @@ pub record Refusals : Type 0 where
   pub far-y : BothRefuse (stationed (two (mast (pos 0) (pos 1000001) (pos 0) 0 0 1))) (refused 8 1)
   pub edge-place : BothRefuse (stationed (two (mast (negsuc 999999) (pos 1000000) (pos 0) 0 0 1))) accepted
   pub no-service : BothRefuse (stationed (two (mast (pos 0) (pos 0) (pos 0) 0 noEnd noEnd))) (refused 8 1)
+  pub first-of-two-rows : BothRefuse (stationed (columnsOf (mast (pos 0) (pos 0) (pos 0) 0 1 1 ∷ mast (pos 0) (pos 0) (pos 0) 0 1 1 ∷ []))) (refused 8 0)
 
 -- more rows than 512, in equal columns
 too-many : (ss : List Station) → mostStations < length ss → badColumns (columnsOf ss) ≡ true
@@ -172,6 +176,7 @@ refusals =
       no-radius = (refl, refl);
       wide-radius = (refl, refl);
       widest-radius = (refl, refl);
+      first-of-two-scans = (refl, refl);
       rises = (refl, refl);
       negative-limit = (refl, refl);
       large-limit = (refl, refl);
@@ -179,6 +184,7 @@ refusals =
       high-guess = (refl, refl);
       low-guess = (refl, refl);
       edge-guess = (refl, refl);
+      first-of-two-guesses = (refl, refl);
       missing-guess = (refl, refl);
       high-value = (refl, refl);
       missing-value = (refl, refl);
@@ -187,6 +193,7 @@ refusals =
       far-y = (refl, refl);
       edge-place = (refl, refl);
       no-service = (refl, refl);
+      first-of-two-rows = (refl, refl);
     }
 
 -- ---- verdicts before the first scan, on a grid of two by two at minute 1000, with readings of up to 60 minutes
@@ -381,6 +388,15 @@ texts =
       age-left-out = refl;
     }
 
+-- ---- the border of a smoothed grid of three by three keeps its values
+
+pub record Borders : Type 0 where
+  pub border-keeps : (z : Field ℤ) → (smoothed 3 3 z 0 1 ≡ z 0 1) × (smoothed 3 3 z 2 1 ≡ z 2 1) × (smoothed 3 3 z 1 0 ≡ z 1 0) × (smoothed 3 3 z 1 2 ≡ z 1 2)
+
+borders : Borders
+unfolding smoothed inner
+borders = record { border-keeps = λ z. (refl, refl, refl, refl) }
+
 -- ---- the numbers that the names of Most stand for
 
 pub record Numbers : Type 0 where
@@ -397,6 +413,7 @@ pub record Cases : Type 0 where
   pub judged-so : Verdicts
   pub read-so : Readings
   pub answered-so : Texts
+  pub smoothed-so : Borders
   pub numbers : Numbers
 
 pub cases : Cases
@@ -406,5 +423,6 @@ cases =
       judged-so = verdicts;
       read-so = readings;
       answered-so = texts;
+      smoothed-so = borders;
       numbers = record { most-field = refl; most-difference = refl; most-weights = refl; most-pulls = refl; most-reach = refl };
     }
