@@ -1,20 +1,19 @@
 -- What is answered to a text.
 use Prim.Native.Nat.{ℕ, _^_, _≤_, _<_}
 use native.Mathlib.Omega.{arith}
-use mathlib.Core.Path.{_≡_, sym, _∙_}
+use mathlib.Core.Path.{_≡_, sym}
 use mathlib.Core.List.{List}
 use borrow.Author.Tests.{lt-ltb, le-ltb}
 use lib.ListN.{length, take}
 use lib.Seq.{length-take-le}
 use lib.IntN.{ℤ}
-use Rattle.scheme.specs.Units.{mostStations, Columns, Request, asked}
-use Rattle.scheme.specs.Accepted.{Equal}
+use Rattle.scheme.specs.Units.{Columns, Request, asked}
 use Rattle.scheme.specs.Text.{requestLines, firstTwo, replyText, inForm, answerText}
 use Rattle.request.specs.declared.Asked.{Asked}
 use Rattle.request.specs.declared.RequestRead.{RequestRead}
 use Rattle.request.specs.declared.RequestRead.the-variants.{Value, NotInForm}
-use Rattle.request.specs.Told.{Read, Room}
-use Rattle.request.specs.Whole.{firstStations, callRead, requestTold}
+use Rattle.request.specs.Told.{Read}
+use Rattle.request.specs.Whole.{callRead, requestTold}
 use Rattle.report.specs.Report.{two-short}
 
 module _ (text : List ℕ) where
@@ -37,21 +36,6 @@ module _ (guess radius limit : List ℤ) (c : Columns) (read : RequestRead) wher
 
 pub front-long : {A : Type 0} (n m : ℕ) (l : List A) → n ≤ m → m ≤ length l → n ≡ length (take n l)
 front-long n m l h k = sym (length-take-le n l (omega arith))
-
--- the fronts of columns that were long enough are equal
-pub front-equal : (n : ℕ) (c : Columns) → n ≤ mostStations → Room mostStations c → Equal (firstStations n c)
-front-equal n c few room =
-    record {
-      y = one (c .y) (room .y);
-      value = one (c .value) (room .value);
-      observed = one (c .observed) (room .observed);
-      from = one (c .from) (room .from);
-      until = one (c .until) (room .until);
-      few = omega (arith, front-long n mostStations (c .x) few (room .x));
-    }
-  where
-    one : {A : Type 0} (l : List A) → mostStations ≤ length l → length (take n l) ≡ length (take n (c .x))
-    one l h = sym (front-long n mostStations l few h) ∙ front-long n mostStations (c .x) few (room .x)
 
 pub two-fit : (number place room : ℕ) → number < 2 ^ 32 → place < 2 ^ 32 → room ≡ 65536 → length (firstTwo number place) ≤ room
 two-fit number place room h k e = omega (arith, two-short number place h k)

@@ -9,7 +9,8 @@ use lib.IntN.{ℤ, pos}
 use Rattle.lists.specs.Tab.{tab, tab-grows}
 use Rattle.scheme.specs.Units.{Columns, Station, stationAt}
 use Rattle.scheme.specs.Promises.{sixColumns}
-use Rattle.request.specs.Told.{entryAt, Room}
+use Rattle.scheme.specs.Calls.{Room}
+use Rattle.request.specs.Told.{entryAt}
 
 -- ---- a plan
 

@@ -1,9 +1,8 @@
 -- What reading lines answers, as the definitions of the text say it.
-use Prim.Native.Nat.{ℕ, _≤_}
+use Prim.Native.Nat.{ℕ}
 use mathlib.Core.List.{List}
-use lib.ListN.{length, drop, getD}
+use lib.ListN.{drop, getD}
 use lib.IntN.{ℤ, pos}
-use Rattle.scheme.specs.Units.{Columns}
 use Rattle.scheme.specs.Text.Reader.{Result, fails, reads}
 use Rattle.scheme.specs.Text.Lines.{Entry}
 use Rattle.request.specs.declared.LinesRead.{LinesRead}
@@ -23,12 +22,3 @@ linesTold s a after (NotLines line) = fails line
 -- entry m of a plan
 abbrev pub entryAt : List ℤ → List ℤ → ℕ → Entry
 entryAt radius limit m = record { radius = getD radius m (pos 0); limit = getD limit m (pos 0) }
-
--- the columns have room for n stations
-pub record Room (n : ℕ) (c : Columns) : Type 0 where
-  pub x : n ≤ length (c .x)
-  pub y : n ≤ length (c .y)
-  pub value : n ≤ length (c .value)
-  pub observed : n ≤ length (c .observed)
-  pub from : n ≤ length (c .from)
-  pub until : n ≤ length (c .until)

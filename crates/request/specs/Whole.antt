@@ -8,13 +8,13 @@ use mathlib.Core.List.{List, [], _∷_, map}
 use lib.ListN.{length, take, drop, getD, drop-of-length-le}
 use lib.Seq.{drop-cons, length-take-le, getD-take}
 use lib.IntN.{ℤ, pos}
-use Rattle.lists.specs.Tab.{tab, is-tab, map-tab, tab-same}
-use Rattle.scheme.specs.Units.{leastSide, mostSide, mostStations, Station, Columns, stationAt, stationsOf, mostScans, Request, Call, asked, asking}
+use Rattle.lists.specs.Tab.{tab, is-tab, map-tab}
+use Rattle.scheme.specs.Units.{leastSide, mostSide, mostStations, Station, Columns, stationAt, mostScans, Request, Call, asked, asking}
 use Rattle.scheme.specs.Text.Reader.{fails, reads, onward, _>>=_, _>>_, gives}
 use Rattle.scheme.specs.Text.{requestLines}
 use Rattle.scheme.specs.Text.Lines.{Entry, scanLine, rowLine, stationLine}
 use Rattle.scheme.specs.Text.Order.{Text, line, lines, rows, nothingAfter}
-use Rattle.scheme.specs.Promises.{sixColumns}
+use Rattle.scheme.specs.Calls.{Room, room-less, firstRows, first-rows}
 use Rattle.scheme.specs.Most.{mostPoints}
 use Rattle.scheme.specs.RoundTrip.{stationsLine}
 use Rattle.head.specs.declared.Head.{Head}
@@ -27,7 +27,7 @@ use Rattle.request.specs.declared.Counted.{Counted}
 use Rattle.request.specs.declared.Asked.{Asked}
 use Rattle.request.specs.declared.RequestRead.{RequestRead}
 use Rattle.request.specs.declared.RequestRead.the-variants.{Value as RequestValue, NotInForm as NotRequest}
-use Rattle.request.specs.Told.{Read, linesTold, entryAt, Room}
+use Rattle.request.specs.Told.{Read, linesTold, entryAt}
 use Rattle.request.specs.Columns.{Kept}
 
 -- ---- the definition, cut after the head and before the stations
@@ -113,13 +113,9 @@ pub record Lent (guess radius limit : List ℤ) (c : Columns) : Type 0 where
   pub columns : Room mostStations c
 
 -- the call, its columns the fronts of those that were lent
-abbrev pub firstStations : ℕ → Columns → Columns
-firstStations n c =
-    sixColumns (take n (c .x)) (take n (c .y)) (take n (c .value)) (take n (c .observed)) (take n (c .from)) (take n (c .until))
-
 abbrev pub callRead : List ℤ → List ℤ → List ℤ → Columns → Asked → Call
 callRead guess radius limit c a =
-    asking (a .nx) (a .ny) (take (a .ny * a .nx) guess) (firstStations (a .stations) c) (a .scans) (take (a .scans) radius) (take (a .scans) limit) (a .smooth) (a .time) (a .age)
+    asking (a .nx) (a .ny) (take (a .ny * a .nx) guess) (firstRows (a .stations) c) (a .scans) (take (a .scans) radius) (take (a .scans) limit) (a .smooth) (a .time) (a .age)
 
 abbrev pub requestTold : List ℤ → List ℤ → List ℤ → Columns → RequestRead → Read Request
 requestTold guess radius limit c (RequestValue a) = reads (asked (callRead guess radius limit c a)) (a .line, [])
@@ -149,34 +145,6 @@ plan-front : (n : ℕ) (rs es : List ℤ) → n ≤ length rs → n ≤ length e
 plan-front n rs es h k =
     (map-tab (λ (t : Entry). t .radius) n (entryAt rs es) ∙ front n (pos 0) rs h, map-tab (λ (t : Entry). t .limit) n (entryAt rs es) ∙ front n (pos 0) es k)
 
-stations-front : (n : ℕ) (c : Columns) → Room n c → tab n (stationAt c) ≡ stationsOf (firstStations n c)
-unfolding stationsOf stationAt
-stations-front n c room =
-    tab-same n (stationAt c) (stationAt (firstStations n c)) same ∙ ap (λ (m : ℕ). tab m (stationAt (firstStations n c))) (sym (length-take-le n (c .x) (room .x)))
-  where
-    same : (k : ℕ) → k < n → stationAt c k ≡ stationAt (firstStations n c) k
-    same k h =
-        unfold stationAt in
-        rw (
-          getD-take n (c .x) k (pos 0) h,
-          getD-take n (c .y) k (pos 0) h,
-          getD-take n (c .value) k (pos 0) h,
-          getD-take n (c .observed) k 0 h,
-          getD-take n (c .from) k 0 h,
-          getD-take n (c .until) k 0 h,
-        )
-
-pub room-less : (n m : ℕ) (c : Columns) → n ≤ m → Room m c → Room n c
-room-less n m c h r =
-    record {
-      x = omega (arith, r .x);
-      y = omega (arith, r .y);
-      value = omega (arith, r .value);
-      observed = omega (arith, r .observed);
-      from = omega (arith, r .from);
-      until = omega (arith, r .until);
-    }
-
 pub limited : (s : List ℕ) (h : HeadRead) → Heads s h → Limited h
 limited s (HeadValue v) is = is .limits
 limited s (NotHead k) is = tt
@@ -203,7 +171,7 @@ module _ (s : List ℕ) (v : Head) (rs es zs : List ℤ) (c : Columns) (limits :
     fronts : (k : ℕ) → held (tab n (stationAt c)) ≡ asked (callRead zs rs es c (askedOf v n k))
     fronts k =
         let (radii, limits) = plan-front (v .scans) rs es (omega (arith, limits .scans, lent .radii)) (omega (arith, limits .scans, lent .limits)) in
-        rw (radii, limits, stations-front n c (room-less n mostStations c few (lent .columns)))
+        rw (radii, limits, sym (first-rows n c (room-less n mostStations c few (lent .columns))))
 
     nothing-more : (k : ℕ) (bs : List ℕ) → onward (nothingAfter (k, bs)) (λ _. gives (held (tab n (stationAt c)))) ≡ requestTold zs rs es c (answered v n (nothingAfter (k, bs)))
     unfolding nothingAfter

@@ -3,7 +3,7 @@ use Prim.Native.Nat.{ℕ, _+_, _*_, _≤_}
 use native.Mathlib.Omega.{arith}
 use mathlib.Core.Path.{_≡_, ap, _∙_}
 use mathlib.Core.List.{List, _++_}
-use lib.ListN.{length, take, drop, length-append, length-take}
+use lib.ListN.{length, take, drop, length-append}
 use lib.Seq.{take-at}
 use lib.IntN.{ℤ, pos}
 use Rattle.scheme.specs.Units.{Request, Field, stored}
@@ -18,16 +18,12 @@ use Rattle.cut.specs.Part.{partOf, PartReady, part-ready}
 
 -- ---- a lent prefix of n elements, and the array with what comes back in its place
 
-module _ {A : Type 0} (n : ℕ) where
-  pub prefix-long : (xs : List A) → n ≤ length xs → length (take n xs) ≡ n
-  prefix-long xs h = simp length-take (omega arith)
+module _ {A : Type 0} (n : ℕ) (ys xs : List A) (e : length ys ≡ n) where
+  pub prefix-back : take n (ys ++ drop n xs) ≡ ys
+  prefix-back = take-at ys (drop n xs) n e
 
-  module _ (ys xs : List A) (e : length ys ≡ n) where
-    pub prefix-back : take n (ys ++ drop n xs) ≡ ys
-    prefix-back = take-at ys (drop n xs) n e
-
-    pub prefix-in : n ≤ length (ys ++ drop n xs)
-    prefix-in = simp length-append (omega arith)
+  pub prefix-in : n ≤ length (ys ++ drop n xs)
+  prefix-in = simp length-append (omega arith)
 
 -- ---- the window's part of the whole analysis
 

@@ -2,25 +2,22 @@
 use Prim.Native.Nat.{ℕ, _+_, _-_, _*_, _≤_, _<_}
 use native.Mathlib.Omega.{arith}
 use native.Mathlib.Nat.{mul-le-mul}
-use mathlib.Core.Path.{_≡_, refl, sym, ap, subst, _∙_}
+use mathlib.Core.Path.{_≡_, refl, sym, subst}
 use mathlib.Core.List.{List}
-use lib.ListN.{length, take}
-use lib.Seq.{getD-take}
+use lib.ListN.{length}
 use lib.IntN.{ℤ, pos}
-use Rattle.lists.specs.Tab.{tab, tab-same}
-use Rattle.scheme.specs.Units.{mostSide, Field, stored, mostStations, Columns, stationAt, stationsOf, guess, Request, Call, asked}
+use Rattle.scheme.specs.Units.{mostSide, Field, stored, mostStations, Columns, stationAt, stationsOf, guess, Request, Call, asked, asking}
 use Rattle.scheme.specs.Refusals.{Span, Window, pointsAlong}
 use Rattle.scheme.specs.Scan.{atEnd}
 use Rattle.scheme.specs.Reach.{reach, widened, cutOf, windowOf, cut, wholeAt}
-use Rattle.scheme.specs.Promises.{sixColumns}
 use Rattle.scheme.specs.Most.{mostPoints}
-use Rattle.scheme.specs.Accepted.{Equal, Sound, noStation, rows-of, row-of, OnGrid, QueryAccepted}
+use Rattle.scheme.specs.Calls.{Room, firstRows, first-rows, first-equal}
+use Rattle.scheme.specs.Accepted.{Sound, noStation, rows-of, row-of, OnGrid, QueryAccepted}
 use Rattle.scheme.specs.Stored.{stored-same}
 use Rattle.scheme.specs.Cut.{cut-sound}
 use Rattle.scheme.specs.Windows.{OfWindow, window-value, window-support}
 use Rattle.cut.specs.Kept.{Long, KeepReady, Kept}
 use Rattle.cut.specs.Part.{partOf, PartReady, part-ready}
-use Rattle.tile.specs.Query.{prefix-long}
 
 -- ---- along one axis of n points: the window lies on the cut, and the cut on the grid
 
@@ -45,44 +42,24 @@ movedOn cut w = record { columns = moved (cut .columns) (w .columns); rows = mov
 same-points : {n : ℕ} {window cut : Span} → Along n window cut → pointsAlong (moved cut window) ≡ pointsAlong window
 same-points a = omega (arith, a .first, a .ordered)
 
--- ---- the first m rows of columns, which alone are lent
+-- ---- the first m rows of the kept columns alone are lent
 
-abbrev pub firstRows : ℕ → Columns → Columns
-firstRows m k = sixColumns (take m (k .x)) (take m (k .y)) (take m (k .value)) (take m (k .observed)) (take m (k .from)) (take m (k .until))
-
-first-rows : (m : ℕ) (k : Columns) → m ≤ length (k .x) → stationsOf (firstRows m k) ≡ tab m (stationAt k)
-unfolding stationsOf stationAt
-first-rows m k h =
-    ap (λ (n : ℕ). tab n (stationAt (firstRows m k))) (prefix-long m (k .x) h)
-    ∙ tab-same m (stationAt (firstRows m k)) (stationAt k)
-    (λ i p. rw (
-      getD-take m (k .x) i (pos 0) p,
-      getD-take m (k .y) i (pos 0) p,
-      getD-take m (k .value) i (pos 0) p,
-      getD-take m (k .observed) i 0 p,
-      getD-take m (k .from) i 0 p,
-      getD-take m (k .until) i 0 p,
-    ))
-
-first-equal : (m : ℕ) (k : Columns) → Long k → m ≤ mostStations → Equal (firstRows m k)
-first-equal m k l h =
+kept-room : (m : ℕ) (k : Columns) → Long k → m ≤ mostStations → Room m k
+kept-room m k l h =
     record {
-      y = one (k .y) (l .y);
-      value = one (k .value) (l .value);
-      observed = one (k .observed) (l .observed);
-      from = one (k .from) (l .from);
-      until = one (k .until) (l .until);
-      few = omega (arith, prefix-long m (k .x) (omega (arith, l .x)));
+      x = omega (arith, l .x);
+      y = omega (arith, l .y);
+      value = omega (arith, l .value);
+      observed = omega (arith, l .observed);
+      from = omega (arith, l .from);
+      until = omega (arith, l .until);
     }
-  where
-    one : {A : Type 0} (col : List A) → length col ≡ mostStations → length (take m col) ≡ length (take m (k .x))
-    one col long = prefix-long m col (omega arith) ∙ sym (prefix-long m (k .x) (omega (arith, l .x)))
 
 -- ---- an accepted query, and the cut as the code has it: a window, a first guess and columns
 
 abbrev pub cutCall : Call → Window → List ℤ → Columns → Call
 cutCall c here part columns =
-    record { nx = pointsAlong (here .columns); ny = pointsAlong (here .rows); firstGuess = part; stations = columns; plan = c .plan; T = c .T; A = c .A }
+    asking (pointsAlong (here .columns)) (pointsAlong (here .rows)) part columns (c .plan .scans) (c .plan .radius) (c .plan .limit) (c .plan .smooth) (c .T) (c .A)
 
 module _ {c : Call} {w : Window} {grid support : ℕ} (p : QueryAccepted c w grid support) {here : Window} (e : here ≡ cutOf (asked c) w) where
   pub across : Along (c .nx) (w .columns) (here .columns)
@@ -126,7 +103,7 @@ module _ {c : Call} {w : Window} {grid support : ℕ} (p : QueryAccepted c w gri
     -- it asks the cut, and is accepted
     pub asks-cut : asked (cutCall c here part (firstRows m k)) ≡ cut (asked c) w
     unfolding cut windowOf guess
-    asks-cut = rw (first-rows m k (omega (arith, l .x)), kept .stations, first-guess, e) (unfold stationsOf in refl)
+    asks-cut = rw (first-rows m k (kept-room m k l few), kept .stations, first-guess, e) (unfold stationsOf in refl)
 
     made-sound : Sound (asked (cutCall c here part (firstRows m k)))
     made-sound = subst Sound (sym asks-cut) (cut-sound (asked c) w (p .sound .request) (p .on-grid))
@@ -136,7 +113,7 @@ module _ {c : Call} {w : Window} {grid support : ℕ} (p : QueryAccepted c w gri
         record {
           sound = record {
             request = made-sound;
-            columns = first-equal m k l few;
+            columns = first-equal m k (kept-room m k l few) few;
             stations = λ i h. rw (← row-of (firstRows m k) i noStation h) (made-sound .stations i (omega (arith, rows-of (firstRows m k))));
           };
           on-grid = record {

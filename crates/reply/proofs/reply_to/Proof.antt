@@ -8,12 +8,13 @@ use mathlib.Core.List.{List}
 use lib.ListN.{length, replicate, length-replicate}
 use lib.IntN.{ℤ, pos}
 use Rattle.scheme.specs.Units.{mostStations, mostScans, Columns}
+use Rattle.scheme.specs.Calls.{room-less, first-equal}
 use Rattle.scheme.specs.Most.{mostPoints}
 use Rattle.scheme.specs.Promises.{sixColumns}
 use Rattle.request.specs.declared.Asked.{Asked}
 use Rattle.request.specs.Whole.{Fits, AskedFits}
 use Rattle.report.specs.Report.{at-start, stands, stands-as}
-use Rattle.reply.specs.Reply.{front-long, front-equal, two-fit, not-in-form, in-form}
+use Rattle.reply.specs.Reply.{front-long, two-fit, not-in-form, in-form}
 use Rattle.reply.proofs.reply_to.Statement.{statement}
 use Rattle.reply.proofs.reply_to.Tie as tie
 
@@ -133,7 +134,7 @@ analysed-requires c κs =
           few-rows = fits k .few-rows;
           whole = sym (front-long (q k .ny * q k .nx) mostPoints (s .args .guess .now) (few-points k) (s .pre .1 .points)) ∙ mul-comm (q k .ny) (q k .nx);
         };
-        equal = front-equal (q k .stations) (columns s) (fits k .stations) (s .pre .1 .columns);
+        equal = first-equal (q k .stations) (columns s) (room-less (q k .stations) mostStations (columns s) (fits k .stations) (s .pre .1 .columns)) (fits k .stations);
         grid-long = sym (front-long (q k .ny * q k .nx) mostPoints grid₀ (few-points k) grid-long);
         support-long = sym (front-long (q k .ny * q k .nx) mostPoints support₀ (few-points k) support-long);
         verdict-long = sym (front-long (q k .stations) mostStations verdict₀ (fits k .stations) verdict-long) ∙ front-long (q k .stations) mostStations (s .args .x .now) (fits k .stations) (s .pre .1 .columns .x);

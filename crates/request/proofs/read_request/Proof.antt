@@ -2,7 +2,8 @@
 use borrow.Author.Needs.{needs}
 use Rattle.scheme.specs.Units.{mostStations}
 use Rattle.scheme.specs.Promises.{sixColumns}
-use Rattle.request.specs.Whole.{limited, whole, room-less, lent-kept}
+use Rattle.scheme.specs.Calls.{room-less}
+use Rattle.request.specs.Whole.{limited, whole, lent-kept}
 use Rattle.request.proofs.read_request.Statement.{statement}
 use Rattle.request.proofs.read_request.Tie as tie
 

@@ -8,13 +8,14 @@ use mathlib.Core.Path.{_≡_, sym, ap, _∙_}
 use mathlib.Core.List.{List}
 use lib.ListN.{length, replicate, length-replicate}
 use lib.IntN.{ℤ, pos}
+use lib.Seq.{length-take-le}
 use Rattle.scheme.specs.Units.{mostStations, Call, asked, asking}
 use Rattle.scheme.specs.Refusals.{Window}
 use Rattle.scheme.specs.Scan.{analysis}
 use Rattle.scheme.specs.Promises.{sixColumns, windowAt, slices}
 use Rattle.scheme.specs.Accepted.{same-shape}
 use Rattle.scheme.specs.Most.{mostPoints}
-use Rattle.tile.specs.Query.{prefix-long, prefix-back, prefix-in, values-long, bits-long, window-part, whole-part}
+use Rattle.tile.specs.Query.{prefix-back, prefix-in, values-long, bits-long, window-part, whole-part}
 use Rattle.tile.proofs.whole_at.Statement.{statement}
 use Rattle.tile.proofs.whole_at.Tie as tie
 use Rattle.tile.proofs.whole_at.Reads as reads
@@ -57,28 +58,28 @@ array-borrow-prefix-values : tie.Need-array-borrow-prefix-values
 array-borrow-prefix-values c = few (c .before .before .before .before)
 
 slice-aggregate-work : tie.Need-slice-aggregate-work
-slice-aggregate-work c = sym (prefix-long _ values₀ (omega (arith, few (c .before .before .before .before .before), length-replicate {A = ℤ} mostPoints (pos 0))))
+slice-aggregate-work c = sym (length-take-le _ values₀ (omega (arith, few (c .before .before .before .before .before), length-replicate {A = ℤ} mostPoints (pos 0))))
 
 array-borrow-prefix-bits : tie.Need-array-borrow-prefix-bits
 array-borrow-prefix-bits c = few (c .before .before .before .before .before)
 
 slice-aggregate-work-2 : tie.Need-slice-aggregate-work-2
-slice-aggregate-work-2 c = sym (prefix-long _ bits₀ (omega (arith, few (c .before .before .before .before .before .before), length-replicate {A = ℕ} mostPoints 0)))
+slice-aggregate-work-2 c = sym (length-take-le _ bits₀ (omega (arith, few (c .before .before .before .before .before .before), length-replicate {A = ℕ} mostPoints 0)))
 
 array-borrow-prefix-verdict : tie.Need-array-borrow-prefix-verdict
 array-borrow-prefix-verdict c = search needs
 
 slice-aggregate-work-3 : tie.Need-slice-aggregate-work-3
-slice-aggregate-work-3 c = sym (prefix-long _ verdict₀ (omega (arith, c .before .before .before .before .before .before .before .pre .sound .columns .few, length-replicate {A = ℕ} mostStations 0)))
+slice-aggregate-work-3 c = sym (length-take-le _ verdict₀ (omega (arith, c .before .before .before .before .before .before .before .pre .sound .columns .few, length-replicate {A = ℕ} mostStations 0)))
 
 work-requires : tie.Need-work-requires
 work-requires c κs =
     let s = c .before .before .before .before .before .before .before in
     record {
       sound = s .pre .sound;
-      grid-long = prefix-long (points s) values₀ (omega (arith, few s, length-replicate {A = ℤ} mostPoints (pos 0)));
-      support-long = prefix-long (points s) bits₀ (omega (arith, few s, length-replicate {A = ℕ} mostPoints 0));
-      verdict-long = prefix-long (rows s) verdict₀ (omega (arith, s .pre .sound .columns .few, length-replicate {A = ℕ} mostStations 0));
+      grid-long = length-take-le (points s) values₀ (omega (arith, few s, length-replicate {A = ℤ} mostPoints (pos 0)));
+      support-long = length-take-le (points s) bits₀ (omega (arith, few s, length-replicate {A = ℕ} mostPoints 0));
+      verdict-long = length-take-le (rows s) verdict₀ (omega (arith, s .pre .sound .columns .few, length-replicate {A = ℕ} mostStations 0));
     }
 
 -- what the analysis leaves

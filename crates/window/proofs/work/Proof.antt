@@ -7,6 +7,8 @@ use mathlib.Core.Path.{_≡_, sym, ap, ap₂, _∙_}
 use mathlib.Core.List.{List, _++_}
 use lib.ListN.{length, take, drop, replicate, length-replicate}
 use lib.IntN.{ℤ, pos}
+use lib.Seq.{length-take-le}
+use Rattle.scheme.specs.Calls.{firstRows}
 use Rattle.scheme.specs.Units.{stored, mostStations, Columns, Request, Call, asked, asking}
 use Rattle.scheme.specs.Refusals.{Span, Window, pointsAlong}
 use Rattle.scheme.specs.Reach.{reach, cutOf, cut, wholeAt}
@@ -16,8 +18,8 @@ use Rattle.scheme.specs.Stored.{length-stored}
 use Rattle.spans.specs.Spans.{radii}
 use Rattle.cut.specs.Kept.{Long, Kept}
 use Rattle.cut.specs.Part.{partOf}
-use Rattle.tile.specs.Query.{prefix-long, prefix-back, prefix-in}
-use Rattle.window.specs.Cut.{Along, movedOn, firstRows, cutCall, across, down, few-points, guess-part, keep-ready, asks-cut, cut-accepted, cut-whole}
+use Rattle.tile.specs.Query.{prefix-back, prefix-in}
+use Rattle.window.specs.Cut.{Along, movedOn, cutCall, across, down, few-points, guess-part, keep-ready, asks-cut, cut-accepted, cut-whole}
 use Rattle.window.proofs.work.Statement.{statement}
 use Rattle.window.proofs.work.Tie as tie
 use Rattle.window.proofs.work.Reads as reads
@@ -69,7 +71,7 @@ abbrev part₀ : List ℤ
 part₀ = replicate mostPoints (pos 0)
 
 long₀ : (c : lts.After-widened2 (reach-reads.Asked, reach-reads.Learnt, widened-reads.Asked, widened-reads.Learnt, part-of-values-reads.Asked, part-of-values-reads.Learnt, keep-stations-reads.Asked, keep-stations-reads.Learnt, whole-at-reads.Asked, whole-at-reads.Learnt) reads.Pre reads.Post) → length (take (points c) part₀) ≡ points c
-long₀ c = prefix-long (points c) part₀ (omega (arith, few c, length-replicate {A = ℤ} mostPoints (pos 0)))
+long₀ c = length-take-le (points c) part₀ (omega (arith, few c, length-replicate {A = ℤ} mostPoints (pos 0)))
 
 module _ (c : lts.After-part-of-values (reach-reads.Asked, reach-reads.Learnt, widened-reads.Asked, widened-reads.Learnt, part-of-values-reads.Asked, part-of-values-reads.Learnt, keep-stations-reads.Asked, keep-stations-reads.Learnt, whole-at-reads.Asked, whole-at-reads.Learnt) reads.Pre reads.Post) where
   abbrev spans : lts.After-widened2 (reach-reads.Asked, reach-reads.Learnt, widened-reads.Asked, widened-reads.Learnt, part-of-values-reads.Asked, part-of-values-reads.Learnt, keep-stations-reads.Asked, keep-stations-reads.Learnt, whole-at-reads.Asked, whole-at-reads.Learnt) reads.Pre reads.Post
@@ -190,37 +192,37 @@ array-share-prefix-kx : tie.Need-array-share-prefix-kx
 array-share-prefix-kx c = let k = c .before .before .before .before .before in omega (arith, few-stations k, long k .x)
 
 slice-aggregate-whole-at-2 : tie.Need-slice-aggregate-whole-at-2
-slice-aggregate-whole-at-2 c = let k = c .before .before .before .before .before .before in sym (prefix-long (m k) (kept k .x) (omega (arith, few-stations k, long k .x)))
+slice-aggregate-whole-at-2 c = let k = c .before .before .before .before .before .before in sym (length-take-le (m k) (kept k .x) (omega (arith, few-stations k, long k .x)))
 
 array-share-prefix-ky : tie.Need-array-share-prefix-ky
 array-share-prefix-ky c = let k = c .before .before .before .before .before .before in omega (arith, few-stations k, long k .y)
 
 slice-aggregate-whole-at-3 : tie.Need-slice-aggregate-whole-at-3
-slice-aggregate-whole-at-3 c = let k = c .before .before .before .before .before .before .before in sym (prefix-long (m k) (kept k .y) (omega (arith, few-stations k, long k .y)))
+slice-aggregate-whole-at-3 c = let k = c .before .before .before .before .before .before .before in sym (length-take-le (m k) (kept k .y) (omega (arith, few-stations k, long k .y)))
 
 array-share-prefix-kvalue : tie.Need-array-share-prefix-kvalue
 array-share-prefix-kvalue c = let k = c .before .before .before .before .before .before .before in omega (arith, few-stations k, long k .value)
 
 slice-aggregate-whole-at-4 : tie.Need-slice-aggregate-whole-at-4
-slice-aggregate-whole-at-4 c = let k = c .before .before .before .before .before .before .before .before in sym (prefix-long (m k) (kept k .value) (omega (arith, few-stations k, long k .value)))
+slice-aggregate-whole-at-4 c = let k = c .before .before .before .before .before .before .before .before in sym (length-take-le (m k) (kept k .value) (omega (arith, few-stations k, long k .value)))
 
 array-share-prefix-kobserved : tie.Need-array-share-prefix-kobserved
 array-share-prefix-kobserved c = let k = c .before .before .before .before .before .before .before .before in omega (arith, few-stations k, long k .observed)
 
 slice-aggregate-whole-at-5 : tie.Need-slice-aggregate-whole-at-5
-slice-aggregate-whole-at-5 c = let k = c .before .before .before .before .before .before .before .before .before in sym (prefix-long (m k) (kept k .observed) (omega (arith, few-stations k, long k .observed)))
+slice-aggregate-whole-at-5 c = let k = c .before .before .before .before .before .before .before .before .before in sym (length-take-le (m k) (kept k .observed) (omega (arith, few-stations k, long k .observed)))
 
 array-share-prefix-kfrom : tie.Need-array-share-prefix-kfrom
 array-share-prefix-kfrom c = let k = c .before .before .before .before .before .before .before .before .before in omega (arith, few-stations k, long k .from)
 
 slice-aggregate-whole-at-6 : tie.Need-slice-aggregate-whole-at-6
-slice-aggregate-whole-at-6 c = let k = c .before .before .before .before .before .before .before .before .before .before in sym (prefix-long (m k) (kept k .from) (omega (arith, few-stations k, long k .from)))
+slice-aggregate-whole-at-6 c = let k = c .before .before .before .before .before .before .before .before .before .before in sym (length-take-le (m k) (kept k .from) (omega (arith, few-stations k, long k .from)))
 
 array-share-prefix-kuntil : tie.Need-array-share-prefix-kuntil
 array-share-prefix-kuntil c = let k = c .before .before .before .before .before .before .before .before .before .before in omega (arith, few-stations k, long k .until)
 
 slice-aggregate-whole-at-7 : tie.Need-slice-aggregate-whole-at-7
-slice-aggregate-whole-at-7 c = let k = c .before .before .before .before .before .before .before .before .before .before .before in sym (prefix-long (m k) (kept k .until) (omega (arith, few-stations k, long k .until)))
+slice-aggregate-whole-at-7 c = let k = c .before .before .before .before .before .before .before .before .before .before .before in sym (length-take-le (m k) (kept k .until) (omega (arith, few-stations k, long k .until)))
 
 whole-at-requires : tie.Need-whole-at-requires
 whole-at-requires c κs =
