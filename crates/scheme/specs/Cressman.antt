@@ -1,14 +1,14 @@
 -- Document 01 as a scheme: its pieces keep the laws, and its run goes by them.
 use Prim.Native.Nat.{ℕ, _+_, _-_, _*_, _≤_, _<_}
 use native.Mathlib.Omega.{arith}
-use mathlib.Core.Path.{_≡_, refl, sym, ap, fun-ext}
+use mathlib.Core.Path.{_≡_, refl, sym, ap}
 use mathlib.Core.Bool.{Bool, true, false, not, cond, _&&_}
 use borrow.Author.Tests.{leb-true, le-leb}
 use lib.Dec.{leb, ltb}
 use lib.IntN.{ℤ, pos, negsuc, _+ℤ_, _-ℤ_, _*ℤ_}
 use Rattle.integers.specs.Ring.{pos-minus}
 use Rattle.lists.specs.Tests.{and-true, not-both}
-use Rattle.lists.specs.Sums.{total, upTo-same}
+use Rattle.lists.specs.Sums.{upTo-same}
 use Rattle.lists.specs.Parted.{each-map}
 use Rattle.scheme.specs.Units.{isMissing, Field, step, Station, R, E, Request, guess}
 use Rattle.scheme.specs.Refusals.{Window}
@@ -78,10 +78,6 @@ module _ (q : Request) where
 -- ---- the run
 
 module _ (q : Request) where
-  given-share : (m i j : ℕ) (D : Station → ℤ) (r : Row) → share (R (q .plan) m) D i j r ≡ given (cressman q) (pull q) m D (pos (step * i)) (pos (step * j)) r
-  unfolding share given
-  given-share m i j D r = refl
-
   choice : {A : Type 0} (b : Bool) (f g : Field A) (i j : ℕ) → cond b f g i j ≡ cond b (f i j) (g i j)
   choice true f g i j = refl
   choice false f g i j = refl
@@ -103,9 +99,7 @@ module _ (q : Request) where
         support-first = λ i j. refl;
         rows-first = refl;
         rows-next = λ m. unfold after scan rowsJudged in sym (each-map (judged (m + 1) (E (q .plan) m) (differences q (after q m))) (after q m .rows));
-        sums-are =
-            λ m i j. unfold sumsAt gathered after scan in
-            ap (λ (f : Row → Sums). total nothing plus f (rowsJudged q m (after q m))) (fun-ext (given-share m i j (differences q (after q m))));
+        sums-are = λ m i j. unfold sumsAt share gathered given after scan in refl;
         field-next =
             λ m i j. unfold after scan corrected smoothed smoothedIf in
             choice (q .plan .smooth) (smoothed (q .nx) (q .ny) (corrected q m (after q m))) (corrected q m (after q m)) i j;

@@ -138,27 +138,27 @@ pub record Asking (Stations : Type 0) : Type 0 where
   pub T : ℕ
   pub A : ℕ
 
--- from its parts, as a text says them or a call is handed them
+-- A request has its stations as a list, and a call is handed them as columns
+abbrev pub Request : Type 0
+Request = Asking (List Station)
+
+abbrev pub Call : Type 0
+Call = Asking Columns
+
+-- what is asked, from its parts: as a text says them, or a call is handed them
 abbrev pub asking : {S : Type 0} (nx ny : ℕ) (firstGuess : List ℤ) → S → (scans : ℕ) (radius limit : List ℤ) → Bool → (T A : ℕ) → Asking S
 asking nx ny firstGuess stations scans radius limit smooth T A =
     let plan : Plan = record { scans = scans; radius = radius; limit = limit; smooth = smooth } in
     record { nx = nx; ny = ny; firstGuess = firstGuess; stations = stations; plan = plan; T = T; A = A }
 
--- and with other stations
+-- the same, of other stations
 abbrev pub withStations : {S S' : Type 0} → Asking S → S' → Asking S'
 withStations a stations =
     record { nx = a .nx; ny = a .ny; firstGuess = a .firstGuess; stations = stations; plan = a .plan; T = a .T; A = a .A }
 
--- by a request, whose stations are a list
-abbrev pub Request : Type 0
-Request = Asking (List Station)
+-- the request that a call asks
+abbrev pub asked : Call → Request
+asked c = withStations c (stationsOf (c .stations))
 
 unfoldable pub guess : Request → Field ℤ
 guess q = fieldOf (pos 0) (q .nx) (q .firstGuess)
-
--- and by a call, which is handed them as columns: the request that it asks
-abbrev pub Call : Type 0
-Call = Asking Columns
-
-abbrev pub asked : Call → Request
-asked c = withStations c (stationsOf (c .stations))
