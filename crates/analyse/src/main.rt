@@ -48,7 +48,7 @@ fn main() {
         return;
     };
     let mut out = [0u8; 65536];
-    let length = reply::reply(&text[..n], &mut out);
+    let length = text_reply::reply(&text[..n], &mut out);
     if !io::write_all(STDOUT_FILENO, &out[..length]) {
         io::write_all(
             STDERR_FILENO,

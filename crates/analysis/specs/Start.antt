@@ -14,8 +14,8 @@ use Rattle.scheme.specs.Units.{isMissing, mostSide, stored, fieldOf, Station, C
 use Rattle.scheme.specs.Verdicts.{onAxis, offGrid, firstThatFits, beforeScans}
 use Rattle.scheme.specs.Scan.{begins, start, after}
 use Rattle.scheme.specs.Accepted.{Equal, SoundCall}
-use Rattle.verdict.specs.Verdict.{on-axis}
-use Rattle.station.specs.Judge.{OnGrid}
+use Rattle.scan_verdict.specs.Verdict.{on-axis}
+use Rattle.scan_station.specs.Judge.{OnGrid}
 use Rattle.scans.specs.Scanned.{rowOf}
 use Rattle.scans.specs.Run.{Reached}
 

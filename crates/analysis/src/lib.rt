@@ -54,7 +54,7 @@ fn first_verdicts(
 {
     let mut k: usize = 0;
     while k < x.len() {
-        verdict[k] = verdict::first_verdict(
+        verdict[k] = scan_verdict::first_verdict(
             x[k],
             y[k],
             value[k],

@@ -110,7 +110,7 @@ pub extern "C" fn sosnyavik_reading_kind(
 ) -> u32
     ensures { λ r. ⌜ ReadsKind nx ny (now (field .entry)) (now (support .entry)) x y r ⌝ }
 {
-    reading::reading_kind(nx, ny, field, support, x, y)
+    field_reading::reading_kind(nx, ny, field, support, x, y)
 }
 
 #[no_mangle]
@@ -124,12 +124,12 @@ pub extern "C" fn sosnyavik_reading_value(
 ) -> f64
     ensures { λ r. ⌜ ReadsValue nx ny (now (field .entry)) (now (support .entry)) x y r ⌝ }
 {
-    reading::reading_value(nx, ny, field, support, x, y)
+    field_reading::reading_value(nx, ny, field, support, x, y)
 }
 
 #[no_mangle]
 pub extern "C" fn sosnyavik_summarise(nx: u32, ny: u32, field: &[i32]) -> Summary
     ensures { λ r. ⌜ Summarises nx ny (now (field .entry)) r ⌝ }
 {
-    summary::summary(nx, ny, field)
+    field_summary::summary(nx, ny, field)
 }

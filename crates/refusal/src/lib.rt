@@ -36,15 +36,15 @@ fn from_six(
     ensures { λ r. ⌜ ((observed : List ℕ) (smooth : Bool) (time age : ℕ)
         → Coded r (inOrder (fromSix (asked (asking nx ny (now (guess .entry)) (sixColumns (now (x .entry)) (now (y .entry)) (now (value .entry)) observed (now (from .entry)) (now (until .entry))) scans (now (radius .entry)) (now (limit .entry)) smooth time age))))) ⌝ }
 {
-    let m = checks::first_bad_scan(radius, limit, scans);
+    let m = refusal_checks::first_bad_scan(radius, limit, scans);
     if m < scans {
         return coded(6, m);
     }
-    let k = checks::first_bad_guess(guess, nx, ny);
+    let k = refusal_checks::first_bad_guess(guess, nx, ny);
     if k < guess.len() {
         return coded(7, k);
     }
-    let row = checks::first_bad_station(x, y, value, from, until);
+    let row = refusal_checks::first_bad_station(x, y, value, from, until);
     if row < x.len() {
         return coded(8, row);
     }
@@ -70,7 +70,7 @@ pub fn from_four(
     ensures { λ r. ⌜ ((smooth : Bool) (time age : ℕ)
         → Coded r (inOrder (fromFour (asking nx ny (now (guess .entry)) (sixColumns (now (x .entry)) (now (y .entry)) (now (value .entry)) (now (observed .entry)) (now (from .entry)) (now (until .entry))) scans (now (radius .entry)) (now (limit .entry)) smooth time age)))) ⌝ }
 {
-    if shapes::columns_bad(
+    if refusal_shapes::columns_bad(
         x.len(),
         y.len(),
         value.len(),
@@ -80,7 +80,7 @@ pub fn from_four(
     ) {
         return coded(4, 0);
     }
-    if shapes::scans_bad(scans, radius.len(), limit.len()) {
+    if refusal_shapes::scans_bad(scans, radius.len(), limit.len()) {
         return coded(5, 0);
     }
     from_six(
@@ -119,10 +119,10 @@ pub fn of_analysis(
     ensures { λ r. ⌜ ((smooth : Bool) (time age : ℕ)
         → Coded r (analysisRefusal (asking nx ny (now (guess .entry)) (sixColumns (now (x .entry)) (now (y .entry)) (now (value .entry)) (now (observed .entry)) (now (from .entry)) (now (until .entry))) scans (now (radius .entry)) (now (limit .entry)) smooth time age) grid support verdict)) ⌝ }
 {
-    if shapes::shape_bad(nx, ny, guess.len()) {
+    if refusal_shapes::shape_bad(nx, ny, guess.len()) {
         return coded(1, 0);
     }
-    if shapes::lengths_bad(nx * ny, x.len(), grid, support, verdict) {
+    if refusal_shapes::lengths_bad(nx * ny, x.len(), grid, support, verdict) {
         return coded(3, 0);
     }
     from_four(
@@ -166,11 +166,11 @@ fn from_two(
     ensures { λ r. ⌜ ((smooth : Bool) (time age : ℕ)
         → Coded r (inOrder (fromTwo (asking nx ny (now (guess .entry)) (sixColumns (now (x .entry)) (now (y .entry)) (now (value .entry)) (now (observed .entry)) (now (from .entry)) (now (until .entry))) scans (now (radius .entry)) (now (limit .entry)) smooth time age) (windowAt left right top bottom) grid support))) ⌝ }
 {
-    if shapes::window_bad(nx, ny, left, right, top, bottom) {
+    if refusal_shapes::window_bad(nx, ny, left, right, top, bottom) {
         return coded(2, 0);
     }
     let points = (right - left + 1) * (bottom - top + 1);
-    if shapes::window_lengths_bad(points, grid, support) {
+    if refusal_shapes::window_lengths_bad(points, grid, support) {
         return coded(3, 0);
     }
     from_four(
@@ -213,7 +213,7 @@ pub fn of_window(
     ensures { λ r. ⌜ ((smooth : Bool) (time age : ℕ)
         → Coded r (windowRefusal (asking nx ny (now (guess .entry)) (sixColumns (now (x .entry)) (now (y .entry)) (now (value .entry)) (now (observed .entry)) (now (from .entry)) (now (until .entry))) scans (now (radius .entry)) (now (limit .entry)) smooth time age) (windowAt left right top bottom) grid support)) ⌝ }
 {
-    if shapes::shape_bad(nx, ny, guess.len()) {
+    if refusal_shapes::shape_bad(nx, ny, guess.len()) {
         return coded(1, 0);
     }
     from_two(

@@ -1,4 +1,3 @@
-pub mod Told
-pub mod Turns
-pub mod Columns
-pub mod Whole
+-- The request that terms and tables hold, and that loading makes of a call what it asks. Proved.
+pub mod Tables
+pub mod Loaded

@@ -1,267 +1,135 @@
-// The request text (document 01): its lines in their order, read into the caller's columns, or the first line not in form.
+// A request as it is handed on: its terms in one struct, its stations as rows of two tables, numbers and minutes. Each column that a call
+// is lent is read here, once.
 ghost use mathlib.Core.Path.{_≡_};
-ghost use Prim.Native.Nat.{_+_, _*_, _≤_, _<_, _^_};
-ghost use lib.ListN.{length, take, drop};
+ghost use mathlib.Core.List.{[]};
+ghost use Prim.Native.Nat.{_≤_};
+ghost use lib.ListN.{length};
 ghost use Rattle.lists.specs.Tab.{tab};
-ghost use Rattle.scheme.specs.Units.{stationAt, mostScans};
-ghost use Rattle.scheme.specs.Most.{mostPoints};
-ghost use Rattle.scheme.specs.Text.{requestLines};
-ghost use Rattle.scheme.specs.Text.Lines.{scanLine, rowLine, stationLine};
-ghost use Rattle.scheme.specs.Text.Order.{lines, rows};
+ghost use Rattle.lists.specs.Filled.{Filled};
+ghost use Rattle.scheme.specs.Units.{mostStations, stationsOf, mostScans};
 ghost use Rattle.scheme.specs.Promises.{sixColumns};
-ghost use Rattle.request.specs.Told.{linesTold, entryAt};
-ghost use Rattle.scheme.specs.Calls.{Room};
-ghost use Rattle.request.specs.Whole.{Limited, Lent, Plans, Guesses, notCounted, Counts, Asks, requestTold, Fits};
-use head::HeadRead;
-use lines::EntryRead;
-use lines::StationRead;
-use pieces::UnsignedRead;
-use pieces::WordRead;
+ghost use Rattle.scheme.specs.Accepted.{Equal};
+ghost use Rattle.request.specs.Tables.{stationIn};
+ghost use Rattle.request.specs.Loaded.{First, Termed, numbersAt, minutesAt};
 
-// Where lines end, or the first of them that is not in form.
-enum LinesRead {
-    Next(usize),
-    NotInForm(u32),
-}
+// Places in a row of numbers.
+pub const X: usize = 0;
+pub const Y: usize = 1;
+pub const VALUE: usize = 2;
 
-// How many stations follow, the number of the first one's line, and its place. Where a line is not in form: its number, and no station.
-struct Counted {
-    found: bool,
-    count: u32,
-    line: u32,
-    next: usize,
-}
+// Places in a row of minutes.
+pub const OBSERVED: usize = 0;
+pub const FROM: usize = 1;
+pub const UNTIL: usize = 2;
 
-// What the caller's columns do not hold of a request, with the number of the line after the last; or the first line not in form.
-pub struct Asked {
-    pub nx: u32,
-    pub ny: u32,
+// All of a request but its first guess and its stations' rows. Entries of radius and limit past the count of scans are not read.
+pub struct Terms {
+    pub nx: usize,
+    pub ny: usize,
+    pub stations: usize,
+    pub scans: usize,
+    pub radius: [i32; 6],
+    pub limit: [i32; 6],
+    pub smooth: bool,
     pub time: u32,
     pub age: u32,
-    pub smooth: bool,
-    pub scans: u32,
-    pub stations: u32,
-    pub line: u32,
 }
 
-pub enum RequestRead {
-    Value(Asked),
-    NotInForm(u32),
+// A window's four ends, which are inside it.
+pub struct Window {
+    pub left: usize,
+    pub right: usize,
+    pub top: usize,
+    pub bottom: usize,
 }
 
-// ---- lines of a kind, the first of which is line number line, into the front of the caller's columns
+// ---- the terms
 
-fn scan_lines(
-    s: &[u8],
-    at: usize,
-    line: u32,
-    n: usize,
-    radius: &mut [i32],
-    limit: &mut [i32],
-) -> LinesRead
-    requires { ⌜ (line + n < 2 ^ 32) × (n ≤ length (now radius)) × (n ≤ length (now limit)) ⌝ }
-    ensures { λ r. ⌜ lines n scanLine (line, drop at (now (s .entry))) ≡ linesTold (now (s .entry)) (tab n (entryAt (now (radius .exit)) (now (limit .exit)))) (line + n) r ⌝ }
+// The first n entries of a plan's column.
+fn first_entries(column: &[i32], n: usize) -> [i32; 6]
+    requires { ⌜ (n ≤ mostScans) × (n ≤ length (now column)) ⌝ }
+    ensures { λ r. ⌜ First n (now (column .entry)) r ⌝ }
 {
-    let mut p = at;
-    let mut i: usize = 0;
-    while i < n {
-        let EntryRead::Value(r, e, next) = lines::scan_line(s, p) else {
-            return LinesRead::NotInForm(line + i as u32);
-        };
-        radius[i] = r;
-        limit[i] = e;
-        p = next;
-        i += 1;
+    let mut entries = [0i32; 6];
+    let mut m: usize = 0;
+    while m < n {
+        entries[m] = column[m];
+        m += 1;
     }
-    LinesRead::Next(p)
+    entries
 }
 
-fn row_lines(s: &[u8], at: usize, line: u32, nx: usize, ny: usize, z: &mut [i32]) -> LinesRead
-    requires { ⌜ (line + ny < 2 ^ 32) × (ny * nx ≤ length (now z)) ⌝ }
-    ensures { λ r. ⌜ rows ny (rowLine nx) (line, drop at (now (s .entry))) ≡ linesTold (now (s .entry)) (take (ny * nx) (now (z .exit))) (line + ny) r ⌝ }
+// The terms of a call whose plan has as many entries as it counts scans.
+pub fn terms_of(
+    nx: u32,
+    ny: u32,
+    stations: usize,
+    scans: u32,
+    radius: &[i32],
+    limit: &[i32],
+    smooth: bool,
+    time: u32,
+    age: u32,
+) -> Terms
+    requires { ⌜ (scans ≤ mostScans) × (scans ≤ length (now radius)) × (scans ≤ length (now limit)) ⌝ }
+    ensures { λ t. ⌜ Termed t nx ny stations (record { scans = scans; radius = now (radius .entry); limit = now (limit .entry); smooth = smooth }) time age ⌝ }
 {
-    let mut p = at;
-    let mut j: usize = 0;
-    while j < ny {
-        let a = j * nx;
-        let b = a + nx;
-        let WordRead::At(next) = lines::row_line(s, p, &mut z[a..b]) else {
-            return LinesRead::NotInForm(line + j as u32);
-        };
-        p = next;
-        j += 1;
-    }
-    LinesRead::Next(p)
-}
-
-fn station_lines(
-    s: &[u8],
-    at: usize,
-    line: u32,
-    n: usize,
-    x: &mut [i32],
-    y: &mut [i32],
-    value: &mut [i32],
-    observed: &mut [u32],
-    from: &mut [u32],
-    until: &mut [u32],
-) -> LinesRead
-    requires { ⌜ (line + n < 2 ^ 32) × Room n (sixColumns (now x) (now y) (now value) (now observed) (now from) (now until)) ⌝ }
-    ensures { λ r. ⌜ lines n stationLine (line, drop at (now (s .entry))) ≡ linesTold (now (s .entry)) (tab n (stationAt (sixColumns (now (x .exit)) (now (y .exit)) (now (value .exit)) (now (observed .exit)) (now (from .exit)) (now (until .exit))))) (line + n) r ⌝ }
-{
-    let mut p = at;
-    let mut i: usize = 0;
-    while i < n {
-        let StationRead::Value(row, next) = lines::station_line(s, p) else {
-            return LinesRead::NotInForm(line + i as u32);
-        };
-        let row_x = row.x;
-        let row_y = row.y;
-        let row_value = row.value;
-        x[i] = row_x;
-        y[i] = row_y;
-        value[i] = row_value;
-        observed[i] = row.observed;
-        from[i] = row.from;
-        until[i] = row.until;
-        p = next;
-        i += 1;
-    }
-    LinesRead::Next(p)
-}
-
-// ---- the whole request: each part after those before it, unless one of these was not in form
-
-// The scans.
-fn plan_lines(s: &[u8], h: HeadRead, radius: &mut [i32], limit: &mut [i32]) -> LinesRead
-    requires { ⌜ Limited h × (mostScans ≤ length (now radius)) × (mostScans ≤ length (now limit)) ⌝ }
-    ensures { λ r. ⌜ Plans (now (s .entry)) (now (radius .exit)) (now (limit .exit)) h r ⌝ }
-{
-    match h {
-        HeadRead::NotInForm(k) => LinesRead::NotInForm(k),
-        HeadRead::Value(v) => scan_lines(s, v.next, v.line, v.scans as usize, radius, limit),
+    let radii = first_entries(radius, scans as usize);
+    let limits = first_entries(limit, scans as usize);
+    Terms {
+        nx: nx as usize,
+        ny: ny as usize,
+        stations,
+        scans: scans as usize,
+        radius: radii,
+        limit: limits,
+        smooth,
+        time,
+        age,
     }
 }
 
-// The first guess.
-fn guess_lines(s: &[u8], h: HeadRead, plan: LinesRead, guess: &mut [i32]) -> LinesRead
-    requires { ⌜ Limited h × (mostPoints ≤ length (now guess)) ⌝ }
-    ensures { λ r. ⌜ Guesses (now (s .entry)) (now (guess .exit)) h plan r ⌝ }
+// ---- the tables
+
+fn load_numbers(numbers: &mut [[i32; 3]; 512], x: &[i32], y: &[i32], value: &[i32])
+    requires { ⌜ (length (now x) ≤ mostStations) × (length (now y) ≡ length (now x)) × (length (now value) ≡ length (now x)) × (length (now numbers) ≡ mostStations) ⌝ }
+    ensures { λ u. ⌜ Filled [] (numbersAt (now (x .entry)) (now (y .entry)) (now (value .entry))) 0 (length (now (x .entry))) (now (numbers .entry)) (now (numbers .exit)) ⌝ }
 {
-    match h {
-        HeadRead::NotInForm(k) => LinesRead::NotInForm(k),
-        HeadRead::Value(v) => match plan {
-            LinesRead::NotInForm(k) => LinesRead::NotInForm(k),
-            LinesRead::Next(p) => {
-                row_lines(s, p, v.line + v.scans, v.nx as usize, v.ny as usize, guess)
-            }
-        },
+    let mut k: usize = 0;
+    while k < x.len() {
+        let row = [x[k], y[k], value[k]];
+        numbers[k] = row;
+        k += 1;
     }
 }
 
-// A line that is not in form.
-fn no_station(line: u32) -> Counted
-    ensures { λ r. ⌜ r ≡ notCounted line ⌝ }
+fn load_minutes(minutes: &mut [[u32; 3]; 512], observed: &[u32], from: &[u32], until: &[u32])
+    requires { ⌜ (length (now observed) ≤ mostStations) × (length (now from) ≡ length (now observed)) × (length (now until) ≡ length (now observed)) × (length (now minutes) ≡ mostStations) ⌝ }
+    ensures { λ u. ⌜ Filled [] (minutesAt (now (observed .entry)) (now (from .entry)) (now (until .entry))) 0 (length (now (observed .entry))) (now (minutes .entry)) (now (minutes .exit)) ⌝ }
 {
-    Counted {
-        found: false,
-        count: 0,
-        line,
-        next: 0,
+    let mut k: usize = 0;
+    while k < observed.len() {
+        let row = [observed[k], from[k], until[k]];
+        minutes[k] = row;
+        k += 1;
     }
 }
 
-// How many stations there are.
-fn count_line(s: &[u8], h: HeadRead, rows: LinesRead) -> Counted
-    requires { ⌜ Limited h ⌝ }
-    ensures { λ r. ⌜ Counts (now (s .entry)) h rows r ⌝ }
+// The columns of a call, as rows.
+pub fn load(
+    numbers: &mut [[i32; 3]; 512],
+    minutes: &mut [[u32; 3]; 512],
+    x: &[i32],
+    y: &[i32],
+    value: &[i32],
+    observed: &[u32],
+    from: &[u32],
+    until: &[u32],
+)
+    requires { ⌜ Equal (sixColumns (now x) (now y) (now value) (now observed) (now from) (now until)) × (length (now numbers) ≡ mostStations) × (length (now minutes) ≡ mostStations) ⌝ }
+    ensures { λ u. ⌜ tab (length (now (x .entry))) (stationIn (now (numbers .exit)) (now (minutes .exit)))
+        ≡ stationsOf (sixColumns (now (x .entry)) (now (y .entry)) (now (value .entry)) (now (observed .entry)) (now (from .entry)) (now (until .entry))) ⌝ }
 {
-    match h {
-        HeadRead::NotInForm(k) => no_station(k),
-        HeadRead::Value(v) => match rows {
-            LinesRead::NotInForm(k) => no_station(k),
-            LinesRead::Next(p) => {
-                let line = v.line + v.scans + v.ny;
-                match lines::number_line(s, p, b"stations=", 0, 512) {
-                    UnsignedRead::NotInForm => no_station(line),
-                    UnsignedRead::Value(count, next) => {
-                        Counted {
-                            found: true,
-                            count,
-                            line: line + 1,
-                            next,
-                        }
-                    }
-                }
-            }
-        },
-    }
-}
-
-// What all lines say, if nothing follows the stations.
-fn finished(s: &[u8], h: HeadRead, c: Counted, end: LinesRead) -> RequestRead
-    requires { ⌜ c .line + c .count < 2 ^ 32 ⌝ }
-    ensures { λ r. ⌜ Asks (now (s .entry)) h c end r ⌝ }
-{
-    match h {
-        HeadRead::NotInForm(k) => RequestRead::NotInForm(k),
-        HeadRead::Value(v) => {
-            if !c.found {
-                return RequestRead::NotInForm(c.line);
-            }
-            match end {
-                LinesRead::NotInForm(k) => RequestRead::NotInForm(k),
-                LinesRead::Next(next) => {
-                    if next < s.len() {
-                        return RequestRead::NotInForm(c.line + c.count);
-                    }
-                    let all = Asked {
-                        nx: v.nx,
-                        ny: v.ny,
-                        time: v.time,
-                        age: v.age,
-                        smooth: v.smooth,
-                        scans: v.scans,
-                        stations: c.count,
-                        line: c.line + c.count,
-                    };
-                    RequestRead::Value(all)
-                }
-            }
-        }
-    }
-}
-
-pub fn read_request(
-    s: &[u8],
-    guess: &mut [i32],
-    radius: &mut [i32],
-    limit: &mut [i32],
-    x: &mut [i32],
-    y: &mut [i32],
-    value: &mut [i32],
-    observed: &mut [u32],
-    from: &mut [u32],
-    until: &mut [u32],
-) -> RequestRead
-    requires { ⌜ Lent (now guess) (now radius) (now limit) (sixColumns (now x) (now y) (now value) (now observed) (now from) (now until)) ⌝ }
-    ensures { λ r. ⌜ (requestLines (1, now (s .entry)) ≡ requestTold (now (guess .exit)) (now (radius .exit)) (now (limit .exit)) (sixColumns (now (x .exit)) (now (y .exit)) (now (value .exit)) (now (observed .exit)) (now (from .exit)) (now (until .exit))) r) × Fits r ⌝ }
-{
-    let h = head::head_lines(s);
-    let plan = plan_lines(s, h, radius, limit);
-    let rows = guess_lines(s, h, plan, guess);
-    let c = count_line(s, h, rows);
-    let end = station_lines(
-        s,
-        c.next,
-        c.line,
-        c.count as usize,
-        x,
-        y,
-        value,
-        observed,
-        from,
-        until,
-    );
-    finished(s, h, c, end)
+    load_numbers(numbers, x, y, value);
+    load_minutes(minutes, observed, from, until);
 }

@@ -19,10 +19,10 @@ use Rattle.scheme.specs.Accepted.{Shaped, same-shape}
 use Rattle.scheme.specs.Most.{mostField}
 use Rattle.scheme.specs.Bounds.{passed, was-accepted, correction-size}
 use Rattle.scheme.specs.Stored.{Same, length-stored, field-stored, stored-same, smoothed-same, stored-all}
-use Rattle.station.specs.Judge.{OnGrid, JudgeReady, diffAt, verdictAt}
-use Rattle.smoothing.specs.Pattern.{Small}
-use Rattle.point.specs.Near.{Inside, Columns, sumsOver, over-small}
-use Rattle.point.specs.Pass.{corrected, backed, PassReady}
+use Rattle.scan_station.specs.Judge.{OnGrid, JudgeReady, diffAt, verdictAt}
+use Rattle.scan_smoothing.specs.Pattern.{Small}
+use Rattle.scan_point.specs.Near.{Inside, Columns, sumsOver, over-small}
+use Rattle.scan_point.specs.Pass.{corrected, backed, PassReady}
 use Rattle.scans.specs.Scanned.{Scanned}
 
 -- a value before the last scan of a plan: one limit is still to come

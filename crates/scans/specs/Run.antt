@@ -15,7 +15,7 @@ use Rattle.scheme.specs.Accepted.{SoundCall, same-shape}
 use Rattle.scheme.specs.Bounds.{after-within}
 use Rattle.scheme.specs.Support.{support-small}
 use Rattle.scheme.specs.Stored.{length-stored, stored-all}
-use Rattle.station.specs.Judge.{OnGrid}
+use Rattle.scan_station.specs.Judge.{OnGrid}
 use Rattle.scans.specs.Scanned.{Holds, Scanned, scan-holds, scan-on-grid}
 use Rattle.scans.specs.Ready.{mostBefore, ScanReady}
 

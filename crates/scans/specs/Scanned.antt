@@ -23,9 +23,9 @@ use Rattle.scheme.specs.Scan as paper
 use Rattle.scheme.specs.Accepted.{Shaped}
 use Rattle.scheme.specs.Cells.{place-on}
 use Rattle.scheme.specs.Stored.{Same, field-stored, stored-same, sum-same}
-use Rattle.station.specs.Judge.{OnGrid, diffAt, verdictAt}
-use Rattle.point.specs.Near.{shareAt, sumsOver}
-use Rattle.point.specs.Pass.{corrected, backed}
+use Rattle.scan_station.specs.Judge.{OnGrid, diffAt, verdictAt}
+use Rattle.scan_point.specs.Near.{shareAt, sumsOver}
+use Rattle.scan_point.specs.Pass.{corrected, backed}
 
 -- row k of the columns, with its verdict
 abbrev pub rowOf : Columns → List ℕ → ℕ → Row

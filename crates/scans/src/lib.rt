@@ -3,7 +3,7 @@ ghost use mathlib.Core.Path.{_≡_};
 ghost use lib.ListN.{length};
 ghost use Rattle.scheme.specs.Units.{mostStations};
 ghost use Rattle.scheme.specs.Accepted.{Shaped};
-ghost use Rattle.smoothing.specs.Pattern.{Small};
+ghost use Rattle.scan_smoothing.specs.Pattern.{Small};
 ghost use Rattle.scans.specs.Scanned.{Scanned};
 ghost use Rattle.scans.specs.Ready.{ScanReady, smoothedIf};
 ghost use Rattle.scans.specs.Run.{Rest, callWith, Reached};
@@ -14,7 +14,7 @@ fn smooth_if(z: &mut [i32], nx: usize, ny: usize, on: bool)
     ensures { λ u. ⌜ now (z .exit) ≡ smoothedIf nx ny on (now (z .entry)) ⌝ }
 {
     if on {
-        smoothing::smooth(z, nx, ny);
+        scan_smoothing::smooth(z, nx, ny);
     }
 }
 
@@ -39,8 +39,8 @@ fn scan(
     ensures { λ u. ⌜ Scanned nx ny (now (x .entry)) (now (y .entry)) (now (value .entry)) smooth radius limit number bit (now (z .entry)) (now (support .entry)) (now (verdict .entry)) (now (z .exit)) (now (support .exit)) (now (verdict .exit)) (now (d .exit))
         × (length (now (d .exit)) ≡ mostStations) ⌝ }
 {
-    station::judge(z, nx, ny, x, y, value, verdict, d, limit, number);
-    point::correct(z, support, nx, ny, x, y, verdict, d, radius, bit);
+    scan_station::judge(z, nx, ny, x, y, value, verdict, d, limit, number);
+    scan_point::correct(z, support, nx, ny, x, y, verdict, d, radius, bit);
     smooth_if(z, nx, ny, smooth);
 }
 

@@ -10,7 +10,7 @@ use lib.ListN.{length, getD}
 use lib.IntN.{ℤ, pos, negsuc, natAbs}
 use lib.Signed.{leZ, ltZ}
 use Rattle.lists.specs.Tests.{and-true, or-false, not-both}
-use Rattle.lists.specs.First.{Found, nowhere, at, first-good, good-first, none-bad, all-fine}
+use Rattle.lists.specs.First.{Found, nowhere, at, first, firstIn, first-good, good-first, none-bad, all-fine}
 use Rattle.lists.specs.Members.{All, none, more}
 use Rattle.lists.specs.Tab.{length-tab, getD-tab}
 use Rattle.scheme.specs.Units.{among, within, mostValue, isMissing, leastSide, mostSide, mostStations, Station, mostPosition, Columns, stationAt, stationsOf, mostScans, mostRadius, mostLimit, Plan, R, E, Request, Call, asked}
@@ -216,6 +216,58 @@ sound q one few (more five (more six (more seven (more eight none)))) =
       first-guess = λ k h. leb-true _ _ (not-false _ (none-bad badGuess (pos 0) (q .firstGuess) (nowhere-refused 7 _ seven) k h));
       stations = λ k h. stationed _ (none-bad badStation noStation (q .stations) (nowhere-refused 8 _ eight) k h);
     }
+
+-- ---- a request that no row before 6 refuses, and results of the right length
+
+-- the rows from 6 on, which search the request
+abbrev pub fromSix : Request → List Refusal
+fromSix q =
+    refusedAt 6 (first (q .plan .scans) (badScan (q .plan)))
+    ∷ refusedAt 7 (firstIn badGuess (q .firstGuess))
+    ∷ refusedAt 8 (firstIn badStation (q .stations))
+    ∷ []
+
+pub record Formed (q : Request) : Type 0 where
+  pub shape : Shaped (q .nx) (q .ny) (length (q .firstGuess))
+  pub few-stations : length (q .stations) ≤ mostStations
+  pub scans-some : 1 ≤ q .plan .scans
+  pub scans-few : q .plan .scans ≤ mostScans
+  pub radii : q .plan .scans ≤ length (q .plan .radius)
+  pub limits : q .plan .scans ≤ length (q .plan .limit)
+
+pub formed-sound : (q : Request) → Formed q → inOrder (fromSix q) ≡ accepted → Sound q
+unfolding badGuess
+formed-sound q f e = go (all-accepted _ e)
+  where
+    go : All (λ r. r ≡ accepted) (fromSix q) → Sound q
+    go (more six (more seven (more eight none))) =
+        let scan = first-good (q .plan .scans) (badScan (q .plan)) (nowhere-refused 6 _ six) in
+        record {
+          shape = f .shape;
+          few-stations = f .few-stations;
+          plan =
+              record {
+                scans-some = f .scans-some;
+                scans-few = f .scans-few;
+                radii = f .radii;
+                limits = f .limits;
+                scan = λ m h. scanned (q .plan) m (scan m h);
+                falls = λ m h. fallen (q .plan) m (scan m (omega arith)) (scan (suc m) h);
+              };
+          first-guess = λ k h. leb-true _ _ (not-false _ (none-bad badGuess (pos 0) (q .firstGuess) (nowhere-refused 7 _ seven) k h));
+          stations = λ k h. stationed _ (none-bad badStation noStation (q .stations) (nowhere-refused 8 _ eight) k h);
+        }
+
+-- results as long as the grid, and a verdict for each station
+pub record Fits (q : Request) (grid support verdict : ℕ) : Type 0 where
+  pub grid-long : grid ≡ q .nx * q .ny
+  pub support-long : support ≡ q .nx * q .ny
+  pub verdict-long : verdict ≡ length (q .stations)
+
+-- results as long as the window
+pub record FitsWindow (w : Window) (grid support : ℕ) : Type 0 where
+  pub grid-long : grid ≡ pointsAlong (w .columns) * pointsAlong (w .rows)
+  pub support-long : support ≡ pointsAlong (w .columns) * pointsAlong (w .rows)
 
 sound-call : (c : Call) → badShape (c .nx) (c .ny) (length (c .firstGuess)) ≡ false → badColumns (c .stations) ≡ false
     → All (λ r. r ≡ accepted) (fromFive (asked c)) → SoundCall c

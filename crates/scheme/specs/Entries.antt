@@ -10,12 +10,13 @@ use lib.IntN.{ℤ, pos, natAbs, _+ℤ_}
 use Rattle.lists.specs.Sums.{total, upTo, upTo-same}
 use Rattle.lists.specs.First.{first, first-same}
 use Rattle.scheme.specs.Units.{Field, stored, Plan, R, E, Request, guess, asking}
-use Rattle.scheme.specs.Refusals.{badScans, rising, badScan, fromFive}
+use Rattle.scheme.specs.Refusals.{badScans, rising, badScan, Window, fromFive}
 use Rattle.scheme.specs.Difference.{Row, judged}
 use Rattle.scheme.specs.Correction.{Sums, nothing, plus, share, correction, backedBy}
 use Rattle.scheme.specs.Smoothing.{smoothed}
 use Rattle.scheme.specs.Scan.{State, start, differences, rowsJudged, sumsAt, corrected, scan, after, Analysis, analysis}
-use Rattle.scheme.specs.Reach.{steps, reach}
+use Rattle.scheme.specs.Reach.{steps, reach, windowOf, Tile, wholeAt}
+use Rattle.scheme.specs.Accepted.{fromSix}
 
 -- the same request with another plan
 abbrev pub withPlan : Request → Plan → Request
@@ -77,6 +78,15 @@ module _ (q : Request) (p' : Plan) (same : UpToCount (q .plan) p') where
   entries-past-the-count-change-no-analysis =
       ap (λ (n : ℕ). storedOf (after (withPlan q p') n)) (same .scans) ∙ ap storedOf (after-same (q .plan .scans) (omega arith))
 
+  -- nor what the window query answers
+  pub entries-past-the-count-change-no-window : (w : Window) → wholeAt (withPlan q p') w ≡ wholeAt q w
+  unfolding wholeAt
+  entries-past-the-count-change-no-window w =
+      ap (λ (n : ℕ). tileOf (after (withPlan q p') n)) (same .scans) ∙ ap tileOf (after-same (q .plan .scans) (omega arith))
+    where
+      tileOf : State → Tile
+      tileOf s = record { grid = windowOf w (s .field); support = windowOf w (s .support) }
+
   pub entries-past-the-count-change-no-reach : reach p' ≡ reach (q .plan)
   unfolding reach steps
   entries-past-the-count-change-no-reach =
@@ -93,6 +103,12 @@ module _ (q : Request) (p' : Plan) (same : UpToCount (q .plan) p') where
   unfolding badScan
   same-bad m h = rw (same .radii m h, same .limits m h, same-rising m h)
 
+  same-first : first (p' .scans) (badScan p') ≡ first (q .plan .scans) (badScan (q .plan))
+  same-first = ap (λ (n : ℕ). first n (badScan p')) (same .scans) ∙ first-same (q .plan .scans) (badScan p') (badScan (q .plan)) same-bad
+
+  pub same-from-six : fromSix (withPlan q p') ≡ fromSix q
+  same-from-six = rw same-first
+
   module _ (r : q .plan .scans ≤ length (q .plan .radius)) (l : q .plan .scans ≤ length (q .plan .limit))
       (r' : q .plan .scans ≤ length (p' .radius)) (l' : q .plan .scans ≤ length (p' .limit)) where
     same-count : badScans p' ≡ badScans (q .plan)
@@ -105,9 +121,6 @@ module _ (q : Request) (p' : Plan) (same : UpToCount (q .plan) p') where
           le-ltb (length (q .plan .radius)) (q .plan .scans) r,
           le-ltb (length (q .plan .limit)) (q .plan .scans) l,
         )
-
-    same-first : first (p' .scans) (badScan p') ≡ first (q .plan .scans) (badScan (q .plan))
-    same-first = ap (λ (n : ℕ). first n (badScan p')) (same .scans) ∙ first-same (q .plan .scans) (badScan p') (badScan (q .plan)) same-bad
 
     pub entries-past-the-count-change-no-refusal : fromFive (withPlan q p') ≡ fromFive q
     unfolding fromFive

@@ -16,8 +16,8 @@ use Rattle.scheme.specs.Accepted.{Sound, noStation, rows-of, row-of, OnGrid, Qu
 use Rattle.scheme.specs.Stored.{stored-same}
 use Rattle.scheme.specs.Cut.{cut-sound}
 use Rattle.scheme.specs.Windows.{OfWindow, window-value, window-support}
-use Rattle.cut.specs.Kept.{Long, KeepReady, Kept}
-use Rattle.cut.specs.Part.{partOf, PartReady, part-ready}
+use Rattle.window_cut.specs.Kept.{Long, KeepReady, Kept}
+use Rattle.window_cut.specs.Part.{partOf, PartReady, part-ready}
 
 -- ---- along one axis of n points: the window lies on the cut, and the cut on the grid
 

@@ -33,14 +33,14 @@ fn work(
     requires { ⌜ QueryAccepted (asking nx ny (now guess) (sixColumns (now x) (now y) (now value) (now observed) (now from) (now until)) count (now radius) (now limit) smooth time age) (windowAt left right top bottom) (length (now grid)) (length (now support)) ⌝ }
     ensures { λ u. ⌜ tile (now (grid .exit)) (now (support .exit)) ≡ wholeAt (asked (asking nx ny (now (guess .entry)) (sixColumns (now (x .entry)) (now (y .entry)) (now (value .entry)) (now (observed .entry)) (now (from .entry)) (now (until .entry))) count (now (radius .entry)) (now (limit .entry)) smooth time age)) (windowAt left right top bottom) ⌝ }
 {
-    let reach = spans::reach(radius, count, smooth);
-    let columns = spans::widened(reach, nx, left, right);
-    let rows = spans::widened(reach, ny, top, bottom);
+    let reach = window_spans::reach(radius, count, smooth);
+    let columns = window_spans::widened(reach, nx, left, right);
+    let rows = window_spans::widened(reach, ny, top, bottom);
     let wide = columns.last - columns.first + 1;
     let high = rows.last - rows.first + 1;
     let points = wide * high;
     let mut part = [0i32; 4096];
-    cut::part_of_values(
+    window_cut::part_of_values(
         &mut part[..points],
         guess,
         nx,
@@ -55,7 +55,7 @@ fn work(
     let mut kobserved = [0u32; 512];
     let mut kfrom = [0u32; 512];
     let mut kuntil = [0u32; 512];
-    let kept = cut::keep_stations(
+    let kept = window_cut::keep_stations(
         &mut kx,
         &mut ky,
         &mut kvalue,
@@ -71,7 +71,7 @@ fn work(
         from,
         until,
     );
-    tile::whole_at(
+    window_tile::whole_at(
         wide,
         high,
         &part[..points],

@@ -16,8 +16,8 @@ use Rattle.refusal.proofs.from_two.Reads as reads
 use Rattle.refusal.proofs.from_two.Lts as lts
 use Rattle.refusal.proofs.coded.Reads as coded-reads
 use Rattle.refusal.proofs.from_four.Reads as from-four-reads
-use Rattle.shapes.proofs.window_bad.Reads as window-bad-reads
-use Rattle.shapes.proofs.window_lengths_bad.Reads as window-lengths-bad-reads
+use Rattle.refusal_shapes.proofs.window_bad.Reads as window-bad-reads
+use Rattle.refusal_shapes.proofs.window_lengths_bad.Reads as window-lengths-bad-reads
 
 window-bad-requires : tie.Need-window-bad-requires
 window-bad-requires c κs = search needs

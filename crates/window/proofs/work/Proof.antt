@@ -15,20 +15,20 @@ use Rattle.scheme.specs.Reach.{reach, cutOf, cut, wholeAt}
 use Rattle.scheme.specs.Promises.{sixColumns, windowAt}
 use Rattle.scheme.specs.Most.{mostPoints}
 use Rattle.scheme.specs.Stored.{length-stored}
-use Rattle.spans.specs.Spans.{radii}
-use Rattle.cut.specs.Kept.{Long, Kept}
-use Rattle.cut.specs.Part.{partOf}
-use Rattle.tile.specs.Query.{prefix-back, prefix-in}
+use Rattle.window_spans.specs.Spans.{radii}
+use Rattle.window_cut.specs.Kept.{Long, Kept}
+use Rattle.window_cut.specs.Part.{partOf}
+use Rattle.window_tile.specs.Query.{prefix-back, prefix-in}
 use Rattle.window.specs.Cut.{Along, movedOn, cutCall, across, down, few-points, guess-part, keep-ready, asks-cut, cut-accepted, cut-whole}
 use Rattle.window.proofs.work.Statement.{statement}
 use Rattle.window.proofs.work.Tie as tie
 use Rattle.window.proofs.work.Reads as reads
 use Rattle.window.proofs.work.Lts as lts
-use Rattle.cut.proofs.keep_stations.Reads as keep-stations-reads
-use Rattle.cut.proofs.part_of_values.Reads as part-of-values-reads
-use Rattle.spans.proofs.reach.Reads as reach-reads
-use Rattle.tile.proofs.whole_at.Reads as whole-at-reads
-use Rattle.spans.proofs.widened.Reads as widened-reads
+use Rattle.window_cut.proofs.keep_stations.Reads as keep-stations-reads
+use Rattle.window_cut.proofs.part_of_values.Reads as part-of-values-reads
+use Rattle.window_spans.proofs.reach.Reads as reach-reads
+use Rattle.window_tile.proofs.whole_at.Reads as whole-at-reads
+use Rattle.window_spans.proofs.widened.Reads as widened-reads
 
 -- the call and the window
 module _ (s : lts.Start (reach-reads.Asked, reach-reads.Learnt, widened-reads.Asked, widened-reads.Learnt, part-of-values-reads.Asked, part-of-values-reads.Learnt, keep-stations-reads.Asked, keep-stations-reads.Learnt, whole-at-reads.Asked, whole-at-reads.Learnt) reads.Pre reads.Post) where

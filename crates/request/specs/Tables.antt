@@ -1,0 +1,47 @@
+-- The request as it is handed on: its terms, its first guess, and its stations as rows of two tables.
+use Prim.Native.Nat.{ℕ}
+use mathlib.Core.List.{List, []}
+use lib.ListN.{getD}
+use lib.IntN.{ℤ, pos}
+use Rattle.lists.specs.Tab.{tab}
+use Rattle.scheme.specs.Units.{Station, Plan, Request}
+use Rattle.scheme.specs.Refusals.{Window}
+use Rattle.scheme.specs.Promises.{windowAt}
+use Rattle.request.specs.declared.Terms.{Terms}
+use Rattle.request.specs.declared.Window.{Window as Ends}
+
+-- the station of a row of numbers and a row of minutes
+unfoldable pub stationOf : List ℤ → List ℕ → Station
+stationOf numbers minutes =
+    record {
+      x = getD numbers 0 (pos 0);
+      y = getD numbers 1 (pos 0);
+      value = getD numbers 2 (pos 0);
+      observed = getD minutes 0 0;
+      from = getD minutes 1 0;
+      until = getD minutes 2 0;
+    }
+
+-- of row k of the two tables
+abbrev pub stationIn : List (List ℤ) → List (List ℕ) → ℕ → Station
+stationIn numbers minutes k = stationOf (getD numbers k []) (getD minutes k [])
+
+abbrev pub planIn : Terms → Plan
+planIn t = record { scans = t .scans; radius = t .radius; limit = t .limit; smooth = t .smooth }
+
+-- the request
+abbrev pub requestIn : Terms → List ℤ → List (List ℤ) → List (List ℕ) → Request
+requestIn t guess numbers minutes =
+    record {
+      nx = t .nx;
+      ny = t .ny;
+      firstGuess = guess;
+      stations = tab (t .stations) (stationIn numbers minutes);
+      plan = planIn t;
+      T = t .time;
+      A = t .age;
+    }
+
+-- the window of four ends
+abbrev pub windowIn : Ends → Window
+windowIn w = windowAt (w .left) (w .right) (w .top) (w .bottom)

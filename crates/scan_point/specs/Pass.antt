@@ -1,0 +1,187 @@
+-- A correction pass over a stored grid, row after row.
+use Prim.Native.Nat.{ℕ, _+_, _-_, _*_, _/_, _%_, _≤_, _<_}
+use native.Mathlib.Omega.{arith}
+use native.Mathlib.Nat.{mul-le-mul, mul-le-mul-right, suc-mul, mul-comm}
+use mathlib.Core.Path.{_≡_, sym, ap, _∙_}
+use mathlib.Core.Bool.{cond}
+use mathlib.Core.List.{List}
+use lib.Arith.{digits-div, digits-mod}
+use lib.Dec.{ltb}
+use lib.ListN.{length, getD, set}
+use lib.IntN.{ℤ, pos, natAbs, _+ℤ_}
+use Rattle.lists.specs.Sums.{upTo}
+use Rattle.lists.specs.Filled.{Filled, filled-set, filled-join, filled-all}
+use Rattle.scheme.specs.Units.{mostSide, Field, stored, fieldOf, mostStations, mostRadius, mostLimit}
+use Rattle.scheme.specs.Correction.{Sums, nothing, plus, correction}
+use Rattle.scheme.specs.Most.{mostPoints, mostSquare, mostWeights, mostField}
+use Rattle.scheme.specs.Accepted.{Shaped}
+use Rattle.scan_point.specs.Near.{nearShare, Sized, near-small, sumsOver, Columns, Near}
+
+-- ---- one row, whose points stand at base, base + 1, ..
+
+abbrev pub rowSums : (lx : List ℤ) (ly : List ℕ) (ld : List ℤ) (n r2 i : ℕ) → Sums
+rowSums lx ly ld n r2 i = upTo nothing plus n (nearShare lx ly ld r2 i)
+
+-- the new value and the new support byte at place k
+unfoldable pub rowZ : (z : List ℤ) (lx : List ℤ) (ly : List ℕ) (ld : List ℤ) (n r2 base k : ℕ) → ℤ
+rowZ z lx ly ld n r2 base k = getD z k (pos 0) +ℤ correction (rowSums lx ly ld n r2 (k - base))
+
+unfoldable pub rowS : (sup : List ℕ) (lx : List ℤ) (ly : List ℕ) (ld : List ℤ) (n r2 bit base k : ℕ) → ℕ
+rowS sup lx ly ld n r2 bit base k = getD sup k 0 + cond (ltb 0 (rowSums lx ly ld n r2 (k - base) .weights)) bit 0
+
+pub record RowReady (z : List ℤ) (sup : List ℕ) (base nx : ℕ) (lx : List ℤ) (ly : List ℕ) (ld : List ℤ) (n r2 bit : ℕ) : Type 0 where
+  pub few : n ≤ mostStations
+  pub narrow : nx ≤ mostSide
+  pub inside : base + nx ≤ length z
+  pub short : length z ≤ mostPoints
+  pub both : length sup ≡ length z
+  pub close : r2 ≤ mostSquare
+  pub sized : (t : ℕ) → t < n → Sized lx ly ld t
+  pub low : (k : ℕ) → base ≤ k → natAbs (getD z k (pos 0)) ≤ mostField
+  pub free : (k : ℕ) → base ≤ k → getD sup k 0 + bit < 256
+
+-- a turn along the row: w and wd are the sums at column i
+module _ {z₀ : List ℤ} {sup₀ : List ℕ} {base nx : ℕ} {lx : List ℤ} {ly : List ℕ} {ld : List ℤ} {n r2 bit : ℕ}
+    (ok : RowReady z₀ sup₀ base nx lx ly ld n r2 bit) {z : List ℤ} {sup : List ℕ} {i : ℕ} (turn : i < nx)
+    (pz : Filled (pos 0) (rowZ z₀ lx ly ld n r2 base) base (base + i) z₀ z) (ps : Filled 0 (rowS sup₀ lx ly ld n r2 bit base) base (base + i) sup₀ sup) where
+  pub place-in : (base + i < length z) × (base + i < length sup) × (base + i < mostPoints)
+  place-in =
+      (omega (arith, pz .same-length, ok .inside), omega (arith, ps .same-length, ok .both, ok .inside), omega (arith, ok .inside, ok .short))
+
+  pub value-low : natAbs (getD z (base + i) (pos 0)) ≤ mostField
+  value-low = rw (pz .rest (base + i) (omega arith)) (ok .low (base + i) (omega arith))
+
+  pub bit-free : getD sup (base + i) 0 + bit < 256
+  bit-free = rw (ps .rest (base + i) (omega arith)) (ok .free (base + i) (omega arith))
+
+  column : base + i - base ≡ i
+  column = omega arith
+
+  next-place : base + (i + 1) ≡ base + i + 1
+  next-place = omega arith
+
+  module _ {w : ℕ} {wd : ℤ} (w-is : w ≡ rowSums lx ly ld n r2 i .weights) (wd-is : wd ≡ rowSums lx ly ld n r2 i .pulls) where
+    pub sums-small : (w ≤ mostWeights) × (natAbs wd ≤ mostLimit * w)
+    sums-small =
+        let h = near-small lx ly ld r2 i n (ok .sized) in
+        rw (w-is, wd-is) (omega (arith, h .weights-most, ok .few), h .pulls-most)
+
+    pub next-value : (v : ℤ) → v ≡ getD z (base + i) (pos 0) +ℤ correction (record { weights = w; pulls = wd })
+        → Filled (pos 0) (rowZ z₀ lx ly ld n r2 base) base (base + (i + 1)) z₀ (set z (base + i) v)
+    next-value v e =
+        filled-set (pos 0) (rowZ z₀ lx ly ld n r2 base) base (base + i) (base + (i + 1)) z₀ z v next-place (omega arith) (place-in .0) (e ∙ same) pz
+      where
+        same : getD z (base + i) (pos 0) +ℤ correction (record { weights = w; pulls = wd }) ≡ rowZ z₀ lx ly ld n r2 base (base + i)
+        same = unfold rowZ in (rw (column, w-is, wd-is, pz .rest (base + i) (omega arith)))
+
+    pub next-support : (b : ℕ) → b ≡ getD sup (base + i) 0 + cond (ltb 0 w) bit 0
+        → Filled 0 (rowS sup₀ lx ly ld n r2 bit base) base (base + (i + 1)) sup₀ (set sup (base + i) b)
+    next-support b e =
+        filled-set 0 (rowS sup₀ lx ly ld n r2 bit base) base (base + i) (base + (i + 1)) sup₀ sup b next-place (omega arith) (place-in .1) (e ∙ same) ps
+      where
+        same : getD sup (base + i) 0 + cond (ltb 0 w) bit 0 ≡ rowS sup₀ lx ly ld n r2 bit base (base + i)
+        same = unfold rowS in (rw (column, w-is, ps .rest (base + i) (omega arith)))
+
+-- ---- the whole grid
+
+-- the field after the corrections, and the support with its new bit, from the columns
+unfoldable pub corrected : (z : List ℤ) (nx : ℕ) (xs ys : List ℤ) (st : List ℕ) (ds : List ℤ) (r2 : ℕ) → Field ℤ
+corrected z nx xs ys st ds r2 i j = fieldOf (pos 0) nx z i j +ℤ correction (sumsOver xs ys st ds r2 i j)
+
+unfoldable pub backed : (sup : List ℕ) (nx : ℕ) (xs ys : List ℤ) (st : List ℕ) (ds : List ℤ) (r2 bit : ℕ) → Field ℕ
+backed sup nx xs ys st ds r2 bit i j = fieldOf 0 nx sup i j + cond (ltb 0 (sumsOver xs ys st ds r2 i j .weights)) bit 0
+
+abbrev pub passZ : (z : List ℤ) (nx : ℕ) (xs ys : List ℤ) (st : List ℕ) (ds : List ℤ) (r2 k : ℕ) → ℤ
+passZ z nx xs ys st ds r2 k = corrected z nx xs ys st ds r2 (k % nx) (k / nx)
+
+abbrev pub passS : (sup : List ℕ) (nx : ℕ) (xs ys : List ℤ) (st : List ℕ) (ds : List ℤ) (r2 bit k : ℕ) → ℕ
+passS sup nx xs ys st ds r2 bit k = backed sup nx xs ys st ds r2 bit (k % nx) (k / nx)
+
+pub record PassReady (z : List ℤ) (sup : List ℕ) (nx ny : ℕ) (xs ys : List ℤ) (st : List ℕ) (ds : List ℤ) (radius bit : ℕ) : Type 0 where
+  pub shape : Shaped nx ny (length z)
+  pub both : length sup ≡ length z
+  pub close : radius ≤ mostRadius
+  pub columns : Columns xs ys st ds
+  pub low : (k : ℕ) → natAbs (getD z k (pos 0)) ≤ mostField
+  pub free : (k : ℕ) → getD sup k 0 + bit < 256
+
+-- ---- a row of the pass
+
+module _ {z₀ : List ℤ} {sup₀ : List ℕ} {nx ny : ℕ} {xs ys : List ℤ} {st : List ℕ} {ds : List ℤ} {radius bit : ℕ}
+    (ok : PassReady z₀ sup₀ nx ny xs ys st ds radius bit) where
+  abbrev r2 : ℕ
+  r2 = radius * radius
+
+  pub r2-close : r2 ≤ mostSquare
+  r2-close = mul-le-mul (ok .close) (ok .close)
+
+  row-in : (j : ℕ) → j < ny → j * nx + nx ≤ nx * ny
+  row-in j h = omega (arith, mul-le-mul-right nx h)
+
+  pub short : length z₀ ≤ mostPoints
+  short = rw (ok .shape .whole) (mul-le-mul (ok .shape .few-columns) (ok .shape .few-rows))
+
+  pub row-place : (j : ℕ) → j < ny → j * nx + nx ≤ mostPoints
+  row-place j h = omega (arith, row-in j h, short, ok .shape .whole)
+
+  module _ {j : ℕ} (hj : j < ny) {z : List ℤ} {sup : List ℕ}
+      (pz : Filled (pos 0) (passZ z₀ nx xs ys st ds r2) 0 (j * nx) z₀ z) (ps : Filled 0 (passS sup₀ nx xs ys st ds r2 bit) 0 (j * nx) sup₀ sup)
+      {lx : List ℤ} {ly : List ℕ} {ld : List ℤ} {n : ℕ} (near : Near lx ly ld n xs ys st ds r2 j (length xs)) where
+    pub row-ready : RowReady z sup (j * nx) nx lx ly ld n r2 bit
+    row-ready =
+        record {
+          few = omega (arith, near .no-more, ok .columns .few);
+          narrow = ok .shape .few-columns;
+          inside = omega (arith, row-in j hj, pz .same-length, ok .shape .whole);
+          short = omega (arith, pz .same-length, short);
+          both = ps .same-length ∙ ok .both ∙ sym (pz .same-length);
+          close = r2-close;
+          sized = near .sized;
+          low = λ k h. rw (pz .rest k h) (ok .low k);
+          free = λ k h. rw (ps .rest k h) (ok .free k);
+        }
+
+    -- place k of row j
+    module _ (k : ℕ) (h : j * nx ≤ k) (l : k < j * nx + nx) where
+      split : k ≡ j * nx + (k - j * nx)
+      split = omega arith
+
+      at-column : k % nx ≡ k - j * nx
+      at-column = ap (λ (m : ℕ). m % nx) split ∙ digits-mod j (omega arith)
+
+      at-row : k / nx ≡ j
+      at-row = ap (λ (m : ℕ). m / nx) split ∙ digits-div j (omega arith)
+
+      same-z : rowZ z lx ly ld n r2 (j * nx) k ≡ passZ z₀ nx xs ys st ds r2 k
+      unfolding rowZ corrected fieldOf sumsOver
+      same-z =
+          rw (at-column, at-row, ← split) (rw (pz .rest k h, near .same (k - j * nx)))
+
+      same-s : rowS sup lx ly ld n r2 bit (j * nx) k ≡ passS sup₀ nx xs ys st ds r2 bit k
+      unfolding rowS backed fieldOf sumsOver
+      same-s =
+          rw (at-column, at-row, ← split) (rw (ps .rest k h, near .same (k - j * nx)))
+
+    next-row : j * nx + nx ≡ (j + 1) * nx
+    next-row = omega (arith, suc-mul j nx)
+
+    pub next-z : (z' : List ℤ) → Filled (pos 0) (rowZ z lx ly ld n r2 (j * nx)) (j * nx) (j * nx + nx) z z'
+        → Filled (pos 0) (passZ z₀ nx xs ys st ds r2) 0 ((j + 1) * nx) z₀ z'
+    next-z z' p =
+        rw (← next-row)
+        (filled-join (pos 0) (passZ z₀ nx xs ys st ds r2) (rowZ z lx ly ld n r2 (j * nx)) 0 (j * nx) (j * nx + nx) z₀ z z' (omega arith) (omega arith) same-z pz p)
+
+    pub next-s : (sup' : List ℕ) → Filled 0 (rowS sup lx ly ld n r2 bit (j * nx)) (j * nx) (j * nx + nx) sup sup'
+        → Filled 0 (passS sup₀ nx xs ys st ds r2 bit) 0 ((j + 1) * nx) sup₀ sup'
+    next-s sup' p =
+        rw (← next-row)
+        (filled-join 0 (passS sup₀ nx xs ys st ds r2 bit) (rowS sup lx ly ld n r2 bit (j * nx)) 0 (j * nx) (j * nx + nx) sup₀ sup sup' (omega arith) (omega arith) same-s ps p)
+
+  -- all rows
+  pub all-z : (z : List ℤ) → Filled (pos 0) (passZ z₀ nx xs ys st ds r2) 0 (ny * nx) z₀ z → z ≡ stored nx ny (corrected z₀ nx xs ys st ds r2)
+  unfolding stored
+  all-z z p = filled-all (pos 0) (passZ z₀ nx xs ys st ds r2) (nx * ny) z₀ z (ok .shape .whole) (rw (mul-comm ny nx) at p)
+
+  pub all-s : (sup : List ℕ) → Filled 0 (passS sup₀ nx xs ys st ds r2 bit) 0 (ny * nx) sup₀ sup → sup ≡ stored nx ny (backed sup₀ nx xs ys st ds r2 bit)
+  unfolding stored
+  all-s sup p = filled-all 0 (passS sup₀ nx xs ys st ds r2 bit) (nx * ny) sup₀ sup (ok .both ∙ ok .shape .whole) (rw (mul-comm ny nx) at p)

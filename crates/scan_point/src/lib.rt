@@ -1,0 +1,202 @@
+// Sums and corrections at the points of a grid (document 01, "One scan", Correction).
+ghost use mathlib.Core.Path.{_≡_};
+ghost use Prim.Native.Nat.{ℕ, _+_, _*_, _≤_, _<_};
+ghost use mathlib.Core.Bool.{cond};
+ghost use lib.Dec.{ltb};
+ghost use lib.ListN.{length};
+ghost use lib.IntN.{pos, natAbs, _+ℤ_, _*ℤ_};
+ghost use Rattle.lists.specs.Sums.{upTo};
+ghost use Rattle.lists.specs.Filled.{Filled};
+ghost use Rattle.scheme.specs.Units.{mostSide, stored, mostStations, mostLimit};
+ghost use Rattle.scheme.specs.Weight.{weight};
+ghost use Rattle.scheme.specs.Correction.{nothing, plus, correction};
+ghost use Rattle.scheme.specs.Most.{mostAlong, mostSquare, mostWeights, mostPulls, mostField};
+ghost use Rattle.scan_point.specs.Near.{nearShare, Sized, WithNear, rowGap, Columns, Roomy, Near};
+ghost use Rattle.scan_point.specs.Pass.{rowZ, rowS, RowReady, PassReady, corrected, backed};
+
+// The sum of weights, and the sum of weight·D.
+pub struct Sums {
+    pub w: u64,
+    pub wd: i64,
+}
+
+// The sums with one more station, of difference d at squared distance d2.
+fn more(w: u64, wd: i64, r2: u32, d2: u32, d: i64) -> Sums
+    requires { ⌜ (w ≤ mostWeights) × (natAbs wd ≤ mostPulls) × (r2 ≤ mostSquare) × (natAbs d ≤ mostLimit) ⌝ }
+    ensures { λ s. ⌜ (s .w ≡ w + weight r2 d2) × (s .wd ≡ wd +ℤ pos (weight r2 d2) *ℤ d) ⌝ }
+{
+    if r2 <= d2 {
+        return Sums { w, wd };
+    }
+    let q = scan_weight::weight(r2, d2);
+    Sums {
+        w: w + (q as u64),
+        wd: wd + (q as i64) * d,
+    }
+}
+
+// The sums at column i of a grid row with one more of the stations near that row, the one at t.
+fn with_near(
+    w: u64,
+    wd: i64,
+    lx: &[i32; 512],
+    ly: &[u32; 512],
+    ld: &[i64; 512],
+    t: usize,
+    i: usize,
+    r2: u32,
+) -> Sums
+    requires { ⌜ (w ≤ mostWeights) × (natAbs wd ≤ mostPulls) × (t < mostStations) × (i < mostSide) × (r2 ≤ mostSquare) × Sized (now lx) (now ly) (now ld) t ⌝ }
+    ensures { λ s. ⌜ WithNear (now (lx .entry)) (now (ly .entry)) (now (ld .entry)) r2 i t w wd (s .w) (s .wd) ⌝ }
+{
+    let px = (64 * i) as i32;
+    more(w, wd, r2, scan_weight::squared_distance(lx[t], px, ly[t]), ld[t])
+}
+
+// The sums at column i of a grid row, over the n stations near that row: from the last to the first, two in a turn.
+fn point_sums(
+    lx: &[i32; 512],
+    ly: &[u32; 512],
+    ld: &[i64; 512],
+    n: usize,
+    i: usize,
+    r2: u32,
+) -> Sums
+    requires { ⌜ (n ≤ mostStations) × (i < mostSide) × (r2 ≤ mostSquare) × ((t : ℕ) → t < n → Sized (now lx) (now ly) (now ld) t) ⌝ }
+    ensures { λ s. ⌜ (s .w ≡ upTo nothing plus n (nearShare (now (lx .entry)) (now (ly .entry)) (now (ld .entry)) r2 i) .weights)
+        × (s .wd ≡ upTo nothing plus n (nearShare (now (lx .entry)) (now (ly .entry)) (now (ld .entry)) r2 i) .pulls) ⌝ }
+{
+    let mut s = Sums { w: 0, wd: 0 };
+    let mut t = n;
+    while 1 < t {
+        s = with_near(s.w, s.wd, lx, ly, ld, t - 1, i, r2);
+        s = with_near(s.w, s.wd, lx, ly, ld, t - 2, i, r2);
+        t -= 2;
+    }
+    if 0 < t {
+        return with_near(s.w, s.wd, lx, ly, ld, 0, i, r2);
+    }
+    s
+}
+
+// A point's value after its correction.
+fn moved(z: i32, w: u64, wd: i64) -> i32
+    requires { ⌜ (natAbs z ≤ mostField) × (w ≤ mostWeights) × (natAbs wd ≤ mostLimit * w) ⌝ }
+    ensures { λ r. ⌜ r ≡ z +ℤ correction (record { weights = w; pulls = wd }) ⌝ }
+{
+    if w == 0 {
+        return z;
+    }
+    ((z as i64) + rounding::rounded(wd, w as u32)) as i32
+}
+
+// A point's support byte after its correction.
+fn with_bit(b: u8, w: u64, bit: u8) -> u8
+    requires { ⌜ b + bit < 256 ⌝ }
+    ensures { λ r. ⌜ r ≡ b + cond (ltb 0 w) bit 0 ⌝ }
+{
+    if 0 < w { b + bit } else { b }
+}
+
+// The squared distance of a station to grid row j; the squared radius for one that is not accepted.
+fn row_gap(verdict: u8, y: i32, j: usize, r2: u32) -> u32
+    requires { ⌜ (j < mostSide) × (verdict ≡ 0 → natAbs y ≤ mostAlong) ⌝ }
+    ensures { λ r. ⌜ r ≡ rowGap verdict y j r2 ⌝ }
+{
+    if verdict == 0 {
+        scan_weight::square_apart(y, (64 * j) as i32)
+    } else {
+        r2
+    }
+}
+
+fn one_if_below(gap: u32, r2: u32) -> usize
+    ensures { λ r. ⌜ r ≡ cond (ltb gap r2) 1 0 ⌝ }
+{
+    if gap < r2 { 1 } else { 0 }
+}
+
+// Gathers the stations near grid row j, once for all its points: each turn stores at the next free place, which only a near one takes.
+fn near_row(
+    lx: &mut [i32; 512],
+    ly: &mut [u32; 512],
+    ld: &mut [i64; 512],
+    x: &[i32],
+    y: &[i32],
+    verdict: &[u8],
+    d: &[i64; 512],
+    r2: u32,
+    j: usize,
+) -> usize
+    requires { ⌜ (r2 ≤ mostSquare) × (j < mostSide) × Columns (now x) (now y) (now verdict) (now d) × Roomy (now lx) (now ly) (now ld) ⌝ }
+    ensures { λ n. ⌜ Roomy (now (lx .exit)) (now (ly .exit)) (now (ld .exit))
+        × Near (now (lx .exit)) (now (ly .exit)) (now (ld .exit)) n (now (x .entry)) (now (y .entry)) (now (verdict .entry)) (now (d .entry)) r2 j (length (now (x .entry))) ⌝ }
+{
+    let mut n: usize = 0;
+    let mut k: usize = 0;
+    while k < x.len() {
+        let gap = row_gap(verdict[k], y[k], j, r2);
+        lx[n] = x[k];
+        ly[n] = gap;
+        ld[n] = d[k];
+        n += one_if_below(gap, r2);
+        k += 1;
+    }
+    n
+}
+
+// One grid row, whose points stand at base, base + 1, ..: each is corrected by the stations near the row.
+fn correct_row(
+    z: &mut [i32],
+    support: &mut [u8],
+    base: usize,
+    nx: usize,
+    lx: &[i32; 512],
+    ly: &[u32; 512],
+    ld: &[i64; 512],
+    n: usize,
+    r2: u32,
+    bit: u8,
+)
+    requires { ⌜ RowReady (now z) (now support) base nx (now lx) (now ly) (now ld) n r2 bit ⌝ }
+    ensures { λ u. ⌜ Filled (pos 0) (rowZ (now (z .entry)) (now (lx .entry)) (now (ly .entry)) (now (ld .entry)) n r2 base) base (base + nx) (now (z .entry)) (now (z .exit))
+        × Filled 0 (rowS (now (support .entry)) (now (lx .entry)) (now (ly .entry)) (now (ld .entry)) n r2 bit base) base (base + nx) (now (support .entry)) (now (support .exit)) ⌝ }
+{
+    let mut i: usize = 0;
+    while i < nx {
+        let s = point_sums(lx, ly, ld, n, i, r2);
+        let p = base + i;
+        z[p] = moved(z[p], s.w, s.wd);
+        support[p] = with_bit(support[p], s.w, bit);
+        i += 1;
+    }
+}
+
+// One correction of the whole grid, in place: the differences d were all taken before, so that no point sees another's correction.
+pub fn correct(
+    z: &mut [i32],
+    support: &mut [u8],
+    nx: usize,
+    ny: usize,
+    x: &[i32],
+    y: &[i32],
+    verdict: &[u8],
+    d: &[i64; 512],
+    radius: u32,
+    bit: u8,
+)
+    requires { ⌜ PassReady (now z) (now support) nx ny (now x) (now y) (now verdict) (now d) radius bit ⌝ }
+    ensures { λ u. ⌜ (now (z .exit) ≡ stored nx ny (corrected (now (z .entry)) nx (now (x .entry)) (now (y .entry)) (now (verdict .entry)) (now (d .entry)) (radius * radius)))
+        × (now (support .exit) ≡ stored nx ny (backed (now (support .entry)) nx (now (x .entry)) (now (y .entry)) (now (verdict .entry)) (now (d .entry)) (radius * radius) bit)) ⌝ }
+{
+    let r2 = radius * radius;
+    let mut lx = [0i32; 512];
+    let mut ly = [0u32; 512];
+    let mut ld = [0i64; 512];
+    let mut j: usize = 0;
+    while j < ny {
+        let n = near_row(&mut lx, &mut ly, &mut ld, x, y, verdict, d, r2, j);
+        correct_row(z, support, j * nx, nx, &lx, &ly, &ld, n, r2, bit);
+        j += 1;
+    }
+}

@@ -1,0 +1,71 @@
+// How a scan judges the stations (document 01, "One scan", Difference).
+ghost use mathlib.Core.Path.{_≡_};
+ghost use Prim.Native.Nat.{ℕ, _≤_};
+ghost use lib.ListN.{length, getD};
+ghost use lib.IntN.{pos, natAbs};
+ghost use Rattle.lists.specs.Filled.{Filled};
+ghost use Rattle.scheme.specs.Units.{mostScans};
+ghost use Rattle.scheme.specs.Difference.{afterTest};
+ghost use Rattle.scheme.specs.Most.{mostField, mostDifference};
+ghost use Rattle.scheme.specs.Accepted.{Shaped};
+ghost use Rattle.scan_station.specs.Judge.{OnGrid, JudgeReady, diffOf, diffAt, verdictAt};
+
+// The observation less the value of the field there, 0 for a row that is not accepted, whose position may be off the grid.
+fn difference(verdict: u8, x: i32, y: i32, value: i32, z: &[i32], nx: usize, ny: usize) -> i64
+    requires { ⌜ Shaped nx ny (length (now z)) × ((k : ℕ) → natAbs (getD (now z) k (pos 0)) ≤ mostField) × (verdict ≡ 0 → OnGrid nx ny x y value) ⌝ }
+    ensures { λ r. ⌜ (r ≡ diffOf (now (z .entry)) nx ny verdict x y value) × (natAbs r ≤ mostDifference) ⌝ }
+{
+    if verdict != 0 {
+        return 0;
+    }
+    value as i64 - field_value::value_at(z, nx, ny, x as u32, y as u32)
+}
+
+// |d|, for the E test.
+fn size_of(d: i64) -> u64
+    requires { ⌜ natAbs d ≤ mostDifference ⌝ }
+    ensures { λ r. ⌜ r ≡ natAbs d ⌝ }
+{
+    if d < 0 { (-d) as u64 } else { d as u64 }
+}
+
+// The verdict after the E test of a scan. A row that is no longer accepted keeps the verdict of its first refusal.
+fn verdict_after(verdict: u8, d: i64, limit: u32, scan: u8) -> u8
+    requires { ⌜ (natAbs d ≤ mostDifference) × (scan ≤ mostScans) ⌝ }
+    ensures { λ r. ⌜ r ≡ afterTest scan limit d verdict ⌝ }
+{
+    if verdict != 0 {
+        return verdict;
+    }
+    if (limit as u64) < size_of(d) {
+        10 + scan
+    } else {
+        0
+    }
+}
+
+// All stations are judged from the field as the scan finds it: the difference of each accepted row, and its verdict after the E test.
+pub fn judge(
+    z: &[i32],
+    nx: usize,
+    ny: usize,
+    x: &[i32],
+    y: &[i32],
+    value: &[i32],
+    verdict: &mut [u8],
+    d: &mut [i64; 512],
+    limit: u32,
+    scan: u8,
+)
+    requires { ⌜ JudgeReady (now z) nx ny (now x) (now y) (now value) (now verdict) (now d) scan ⌝ }
+    ensures { λ u. ⌜ Filled (pos 0) (diffAt (now (z .entry)) nx ny (now (x .entry)) (now (y .entry)) (now (value .entry)) (now (verdict .entry))) 0 (length (now (x .entry))) (now (d .entry)) (now (d .exit))
+        × Filled 0 (verdictAt (now (z .entry)) nx ny (now (x .entry)) (now (y .entry)) (now (value .entry)) (now (verdict .entry)) scan limit) 0 (length (now (x .entry))) (now (verdict .entry)) (now (verdict .exit)) ⌝ }
+{
+    let mut k: usize = 0;
+    while k < x.len() {
+        let dk = difference(verdict[k], x[k], y[k], value[k], z, nx, ny);
+        d[k] = dk;
+        verdict[k] = verdict_after(verdict[k], dk, limit, scan);
+        k += 1;
+    }
+}

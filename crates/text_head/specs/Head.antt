@@ -1,0 +1,47 @@
+-- What reading the lines before the scans answers, as the definitions of the text say it.
+use Prim.Native.Nat.{ℕ, _≤_}
+use mathlib.Core.Path.{_≡_}
+use mathlib.Core.Bool.{Bool}
+use mathlib.Core.List.{List}
+use lib.Dec.{eqb}
+use lib.ListN.{drop}
+use Rattle.scheme.specs.Units.{leastSide, mostSide, mostScans, Request}
+use Rattle.scheme.specs.Text.{defaultAge}
+use Rattle.scheme.specs.Text.Reader.{fails, _>>=_, gives, _or_}
+use Rattle.scheme.specs.Text.Lines.{gridLine}
+use Rattle.scheme.specs.Text.Order.{Text, line}
+use Rattle.scheme.specs.RoundTrip.{timeLine, ageLine, smoothLine, scansLine}
+use Rattle.text_head.specs.declared.Head.{Head}
+use Rattle.text_head.specs.declared.HeadRead.{HeadRead}
+use Rattle.text_head.specs.declared.HeadRead.the-variants.{Value as HeadValue, NotInForm as NotHead}
+
+-- a line that may be left out
+abbrev pub ageOr : Text ℕ
+ageOr = line ageLine or gives defaultAge
+
+-- the lines before the scans, and then what they call for
+abbrev pub headThen : ((nx ny time age : ℕ) → Bool → (scans : ℕ) → Text Request) → Text Request
+headThen next = do
+  size ← line gridLine
+  time ← line timeLine
+  age ← ageOr
+  smooth ← line smoothLine
+  scans ← line scansLine
+  next (size .nx) (size .ny) time age (eqb smooth 1) scans
+
+pub record Limits (h : Head) : Type 0 where
+  pub two-columns : leastSide ≤ h .nx
+  pub few-columns : h .nx ≤ mostSide
+  pub two-rows : leastSide ≤ h .ny
+  pub few-rows : h .ny ≤ mostSide
+  pub scans : h .scans ≤ mostScans
+  pub line : h .line ≤ 6
+
+pub record HeadIs (s : List ℕ) (h : Head) : Type 0 where
+  pub said : (next : (nx ny time age : ℕ) → Bool → (scans : ℕ) → Text Request)
+      → headThen next (1, s) ≡ next (h .nx) (h .ny) (h .time) (h .age) (h .smooth) (h .scans) (h .line, drop (h .next) s)
+  pub limits : Limits h
+
+abbrev pub Heads : List ℕ → HeadRead → Type 0
+Heads s (HeadValue h) = HeadIs s h
+Heads s (NotHead k) = (next : (nx ny time age : ℕ) → Bool → (scans : ℕ) → Text Request) → headThen next (1, s) ≡ fails k

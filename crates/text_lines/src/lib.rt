@@ -1,0 +1,190 @@
+// Lines of the request text (document 01), one at a time: each at a place of the text.
+ghost use mathlib.Core.Path.{_≡_};
+ghost use lib.ListN.{length, drop};
+ghost use mathlib.Core.List.{[], _∷_};
+ghost use Rattle.scheme.specs.Text.Reader.{_before_};
+ghost use Rattle.scheme.specs.Text.Pieces.{word, count, signed, mark, values};
+ghost use Rattle.scheme.specs.Text.Lines.{number, gridLine, scanLine, rowLine, stationLine, observation, end};
+ghost use Rattle.text_pieces.specs.Told.{unsignedTold, signedTold, Within};
+ghost use Rattle.text_lines.specs.Told.{Sizes, entryTold, stationTold, valuesTold};
+use text_pieces::SignedRead;
+use text_pieces::UnsignedRead;
+use text_pieces::WordRead;
+
+// The lowest i32 marks a missing observation.
+const MISSING: i32 = -2147483648;
+
+// The largest u32 means no end.
+const NO_END: u32 = 4294967295;
+
+// What a line says and the place after it, or that it is not in form.
+pub enum SizeRead {
+    Value(u32, u32, usize),
+    NotInForm,
+}
+
+pub enum EntryRead {
+    Value(i32, i32, usize),
+    NotInForm,
+}
+
+pub struct Row {
+    pub x: i32,
+    pub y: i32,
+    pub value: i32,
+    pub observed: u32,
+    pub from: u32,
+    pub until: u32,
+}
+
+pub enum StationRead {
+    Value(Row, usize),
+    NotInForm,
+}
+
+// A line that says one number, in low..high.
+pub fn number_line(s: &[u8], at: usize, key: &[u8], low: u32, high: u32) -> UnsignedRead
+    ensures { λ r. ⌜ (number (now (key .entry)) (count low high) (drop at (now (s .entry))) ≡ unsignedTold (now (s .entry)) r) × Within low high r ⌝ }
+{
+    let WordRead::At(p) = text_pieces::word_at(s, at, key) else {
+        return UnsignedRead::NotInForm;
+    };
+    text_pieces::unsigned_before(s, text_pieces::count_at(s, p, low, high), b"\n")
+}
+
+pub fn grid_line(s: &[u8], at: usize) -> SizeRead
+    ensures { λ r. ⌜ Sizes (now (s .entry)) (gridLine (drop at (now (s .entry)))) r ⌝ }
+{
+    let WordRead::At(p) = text_pieces::word_at(s, at, b"grid=") else {
+        return SizeRead::NotInForm;
+    };
+    let UnsignedRead::Value(nx, q) = text_pieces::unsigned_before(s, text_pieces::count_at(s, p, 2, 64), b",")
+    else {
+        return SizeRead::NotInForm;
+    };
+    let UnsignedRead::Value(ny, next) = text_pieces::unsigned_before(
+        s,
+        text_pieces::count_at(s, q, 2, 64),
+        b"\n",
+    ) else {
+        return SizeRead::NotInForm;
+    };
+    SizeRead::Value(nx, ny, next)
+}
+
+pub fn scan_line(s: &[u8], at: usize) -> EntryRead
+    ensures { λ r. ⌜ scanLine (drop at (now (s .entry))) ≡ entryTold (now (s .entry)) r ⌝ }
+{
+    let WordRead::At(p) = text_pieces::word_at(s, at, b"scan=") else {
+        return EntryRead::NotInForm;
+    };
+    let SignedRead::Value(radius, q) = text_pieces::signed_before(s, text_pieces::signed_at(s, p), b",")
+    else {
+        return EntryRead::NotInForm;
+    };
+    let SignedRead::Value(limit, next) = text_pieces::signed_before(s, text_pieces::signed_at(s, q), b"\n")
+    else {
+        return EntryRead::NotInForm;
+    };
+    EntryRead::Value(radius, limit, next)
+}
+
+// A station's value may be `M`.
+fn observation_at(s: &[u8], at: usize) -> SignedRead
+    ensures { λ r. ⌜ observation (drop at (now (s .entry))) ≡ signedTold (now (s .entry)) r ⌝ }
+{
+    match text_pieces::word_at(s, at, b"M") {
+        WordRead::At(next) => SignedRead::Value(MISSING, next),
+        WordRead::NotInForm => text_pieces::signed_at(s, at),
+    }
+}
+
+// A station's until may be `open`.
+fn end_at(s: &[u8], at: usize) -> UnsignedRead
+    ensures { λ r. ⌜ end (drop at (now (s .entry))) ≡ unsignedTold (now (s .entry)) r ⌝ }
+{
+    match text_pieces::word_at(s, at, b"open") {
+        WordRead::At(next) => UnsignedRead::Value(NO_END, next),
+        WordRead::NotInForm => text_pieces::count_at(s, at, 0, 4294967295),
+    }
+}
+
+pub fn station_line(s: &[u8], at: usize) -> StationRead
+    ensures { λ r. ⌜ stationLine (drop at (now (s .entry))) ≡ stationTold (now (s .entry)) r ⌝ }
+{
+    let WordRead::At(a) = text_pieces::word_at(s, at, b"st=") else {
+        return StationRead::NotInForm;
+    };
+    let SignedRead::Value(x, b) = text_pieces::signed_before(s, text_pieces::signed_at(s, a), b",") else {
+        return StationRead::NotInForm;
+    };
+    let SignedRead::Value(y, d) = text_pieces::signed_before(s, text_pieces::signed_at(s, b), b",") else {
+        return StationRead::NotInForm;
+    };
+    let SignedRead::Value(value, e) = text_pieces::signed_before(s, observation_at(s, d), b",") else {
+        return StationRead::NotInForm;
+    };
+    let UnsignedRead::Value(observed, f) = text_pieces::unsigned_before(
+        s,
+        text_pieces::count_at(s, e, 0, 4294967295),
+        b",",
+    ) else {
+        return StationRead::NotInForm;
+    };
+    let UnsignedRead::Value(from, g) = text_pieces::unsigned_before(
+        s,
+        text_pieces::count_at(s, f, 0, 4294967295),
+        b",",
+    ) else {
+        return StationRead::NotInForm;
+    };
+    let UnsignedRead::Value(until, next) = text_pieces::unsigned_before(s, end_at(s, g), b"\n") else {
+        return StationRead::NotInForm;
+    };
+    let row = Row {
+        x,
+        y,
+        value,
+        observed,
+        from,
+        until,
+    };
+    StationRead::Value(row, next)
+}
+
+// A value of a grid row that has so many after it.
+fn cell_at(s: &[u8], at: usize, more: usize) -> SignedRead
+    ensures { λ r. ⌜ (signed before word (mark more ∷ [])) (drop at (now (s .entry))) ≡ signedTold (now (s .entry)) r ⌝ }
+{
+    if more == 0 {
+        return text_pieces::signed_before(s, text_pieces::signed_at(s, at), b"\n");
+    }
+    text_pieces::signed_before(s, text_pieces::signed_at(s, at), b",")
+}
+
+// As many values as z is long, into z.
+fn values_at(s: &[u8], at: usize, z: &mut [i32]) -> WordRead
+    ensures { λ r. ⌜ values (length (now (z .entry))) (drop at (now (s .entry))) ≡ valuesTold (now (s .entry)) (now (z .exit)) r ⌝ }
+{
+    let mut p = at;
+    let mut i: usize = 0;
+    while i < z.len() {
+        let SignedRead::Value(v, next) = cell_at(s, p, z.len() - 1 - i) else {
+            return WordRead::NotInForm;
+        };
+        z[i] = v;
+        p = next;
+        i += 1;
+    }
+    WordRead::At(p)
+}
+
+// One grid row, into z.
+pub fn row_line(s: &[u8], at: usize, z: &mut [i32]) -> WordRead
+    ensures { λ r. ⌜ rowLine (length (now (z .entry))) (drop at (now (s .entry))) ≡ valuesTold (now (s .entry)) (now (z .exit)) r ⌝ }
+{
+    let WordRead::At(p) = text_pieces::word_at(s, at, b"row=") else {
+        return WordRead::NotInForm;
+    };
+    values_at(s, p, z)
+}

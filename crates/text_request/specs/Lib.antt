@@ -1,0 +1,4 @@
+pub mod Told
+pub mod Turns
+pub mod Columns
+pub mod Whole
