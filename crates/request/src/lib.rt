@@ -14,12 +14,16 @@ ghost use Rattle.request.specs.Loaded.{First, Termed, numbersAt, minutes
 
 // Places in a row of numbers.
 pub const X: usize = 0;
+
 pub const Y: usize = 1;
+
 pub const VALUE: usize = 2;
 
 // Places in a row of minutes.
 pub const OBSERVED: usize = 0;
+
 pub const FROM: usize = 1;
+
 pub const UNTIL: usize = 2;
 
 // All of a request but its first guess and its stations' rows. Entries of radius and limit past the count of scans are not read.

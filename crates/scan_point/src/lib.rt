@@ -50,7 +50,13 @@ fn with_near(
     ensures { λ s. ⌜ WithNear (now (lx .entry)) (now (ly .entry)) (now (ld .entry)) r2 i t w wd (s .w) (s .wd) ⌝ }
 {
     let px = (64 * i) as i32;
-    more(w, wd, r2, scan_weight::squared_distance(lx[t], px, ly[t]), ld[t])
+    more(
+        w,
+        wd,
+        r2,
+        scan_weight::squared_distance(lx[t], px, ly[t]),
+        ld[t],
+    )
 }
 
 // The sums at column i of a grid row, over the n stations near that row: from the last to the first, two in a turn.

@@ -39,7 +39,8 @@ fn age_line(s: &[u8], at: usize, line: u32) -> Age
     requires { ⌜ line ≤ 3 ⌝ }
     ensures { λ r. ⌜ (ageOr (line, drop at (now (s .entry))) ≡ reads (r .age) (r .line, drop (r .next) (now (s .entry)))) × (r .line ≤ 4) ⌝ }
 {
-    let UnsignedRead::Value(age, next) = text_lines::number_line(s, at, b"age=", 0, 4294967295) else {
+    let UnsignedRead::Value(age, next) = text_lines::number_line(s, at, b"age=", 0, 4294967295)
+    else {
         return Age {
             age: DEFAULT_AGE,
             line,

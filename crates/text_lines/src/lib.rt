@@ -58,8 +58,11 @@ pub fn grid_line(s: &[u8], at: usize) -> SizeRead
     let WordRead::At(p) = text_pieces::word_at(s, at, b"grid=") else {
         return SizeRead::NotInForm;
     };
-    let UnsignedRead::Value(nx, q) = text_pieces::unsigned_before(s, text_pieces::count_at(s, p, 2, 64), b",")
-    else {
+    let UnsignedRead::Value(nx, q) = text_pieces::unsigned_before(
+        s,
+        text_pieces::count_at(s, p, 2, 64),
+        b",",
+    ) else {
         return SizeRead::NotInForm;
     };
     let UnsignedRead::Value(ny, next) = text_pieces::unsigned_before(
@@ -78,12 +81,18 @@ pub fn scan_line(s: &[u8], at: usize) -> EntryRead
     let WordRead::At(p) = text_pieces::word_at(s, at, b"scan=") else {
         return EntryRead::NotInForm;
     };
-    let SignedRead::Value(radius, q) = text_pieces::signed_before(s, text_pieces::signed_at(s, p), b",")
-    else {
+    let SignedRead::Value(radius, q) = text_pieces::signed_before(
+        s,
+        text_pieces::signed_at(s, p),
+        b",",
+    ) else {
         return EntryRead::NotInForm;
     };
-    let SignedRead::Value(limit, next) = text_pieces::signed_before(s, text_pieces::signed_at(s, q), b"\n")
-    else {
+    let SignedRead::Value(limit, next) = text_pieces::signed_before(
+        s,
+        text_pieces::signed_at(s, q),
+        b"\n",
+    ) else {
         return EntryRead::NotInForm;
     };
     EntryRead::Value(radius, limit, next)
@@ -115,13 +124,16 @@ pub fn station_line(s: &[u8], at: usize) -> StationRead
     let WordRead::At(a) = text_pieces::word_at(s, at, b"st=") else {
         return StationRead::NotInForm;
     };
-    let SignedRead::Value(x, b) = text_pieces::signed_before(s, text_pieces::signed_at(s, a), b",") else {
+    let SignedRead::Value(x, b) = text_pieces::signed_before(s, text_pieces::signed_at(s, a), b",")
+    else {
         return StationRead::NotInForm;
     };
-    let SignedRead::Value(y, d) = text_pieces::signed_before(s, text_pieces::signed_at(s, b), b",") else {
+    let SignedRead::Value(y, d) = text_pieces::signed_before(s, text_pieces::signed_at(s, b), b",")
+    else {
         return StationRead::NotInForm;
     };
-    let SignedRead::Value(value, e) = text_pieces::signed_before(s, observation_at(s, d), b",") else {
+    let SignedRead::Value(value, e) = text_pieces::signed_before(s, observation_at(s, d), b",")
+    else {
         return StationRead::NotInForm;
     };
     let UnsignedRead::Value(observed, f) = text_pieces::unsigned_before(
@@ -138,7 +150,8 @@ pub fn station_line(s: &[u8], at: usize) -> StationRead
     ) else {
         return StationRead::NotInForm;
     };
-    let UnsignedRead::Value(until, next) = text_pieces::unsigned_before(s, end_at(s, g), b"\n") else {
+    let UnsignedRead::Value(until, next) = text_pieces::unsigned_before(s, end_at(s, g), b"\n")
+    else {
         return StationRead::NotInForm;
     };
     let row = Row {
