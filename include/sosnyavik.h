@@ -10,7 +10,7 @@
 ** grid alone and with the same numbers. Beside them stand a point reading and
 ** a summary, which tell a field in doubles that are exact.
 **
-** In this file: version, marks, units and sizes, windows, results, verdicts,
+** What follows: version, marks, units and sizes, windows, results, verdicts,
 ** support, refusals, what the caller owes, what the calls keep, the calls, and
 ** a request by name, which is how a program had best call them.
 */
@@ -32,7 +32,7 @@ extern "C" {
 ** when a call takes other arguments than before, and a program must be compiled
 ** anew. The second rises with a new call, the third with anything else.
 */
-#define SOSNYAVIK_VERSION "0.1.0"
+#define SOSNYAVIK_VERSION "0.1.0" /* 2026-11-15 */
 
 /*
 ** MARKS
@@ -395,7 +395,10 @@ struct sosnyavik_summary {
     } units;
 };
 
-struct sosnyavik_summary sosnyavik_summarise(uint32_t nx, uint32_t ny, const int32_t *field, size_t field_len);
+/* clang-format off */
+struct sosnyavik_summary sosnyavik_summarise(
+    uint32_t nx, uint32_t ny, const int32_t *field, size_t field_len);
+/* clang-format on */
 
 /*
 ** A REQUEST BY NAME
@@ -514,20 +517,23 @@ static inline uint32_t sosnyavik_request_analyse(
 }
 
 static inline uint32_t sosnyavik_request_window(
-    const struct sosnyavik_request *request, struct sosnyavik_ends ends, struct sosnyavik_results results) {
+    const struct sosnyavik_request *request, struct sosnyavik_ends ends,
+    struct sosnyavik_results results) {
     return sosnyavik_window(SOSNYAVIK_GUESS(request), ends.left, ends.right, ends.top, ends.bottom,
                             SOSNYAVIK_REST(request),
                             SOSNYAVIK_SLICE(results.grid), SOSNYAVIK_SLICE(results.support));
 }
 
 static inline uint32_t sosnyavik_request_reading_kind(
-    const struct sosnyavik_request *request, struct sosnyavik_results results, int32_t x, int32_t y) {
+    const struct sosnyavik_request *request, struct sosnyavik_results results,
+    int32_t x, int32_t y) {
     return sosnyavik_reading_kind(request->nx, request->ny, SOSNYAVIK_SLICE(results.grid),
                                   SOSNYAVIK_SLICE(results.support), x, y);
 }
 
 static inline double sosnyavik_request_reading_value(
-    const struct sosnyavik_request *request, struct sosnyavik_results results, int32_t x, int32_t y) {
+    const struct sosnyavik_request *request, struct sosnyavik_results results,
+    int32_t x, int32_t y) {
     return sosnyavik_reading_value(request->nx, request->ny, SOSNYAVIK_SLICE(results.grid),
                                    SOSNYAVIK_SLICE(results.support), x, y);
 }
