@@ -205,6 +205,25 @@ static void reading_of_the_example(void) {
     says(sosnyavik_request_summarise(&request, whole), 0, 585 / 64.0, 12.0, 183 / 64.0);
 }
 
+// By name as by the plain call, over every window, of a request that is not the same with x for y or left for top.
+static void same_by_name(void) {
+    Request q = paper;
+    q.y[0] = 32, q.value[0] = 700, q.until[2] = SOSNYAVIK_NO_END;
+    for (uint32_t w = 0; w < 81; w++) {
+        Results plain, named;
+        memset(&plain, UNTOUCHED, sizeof plain);
+        memset(&named, UNTOUCHED, sizeof named);
+        q.left = w % 3, q.right = w / 3 % 3, q.top = w / 9 % 3, q.bottom = w / 27;
+        q.part_len = (size_t)(q.right - q.left + 1) * (q.bottom - q.top + 1);
+        bool is_window = q.left <= q.right && q.top <= q.bottom;
+        must(window(&q, &plain) == (is_window ? 0 : 0x00020000), "a window");
+        must(window_by_name(&q, &named) == (is_window ? 0 : 0x00020000), "a window by name");
+        must(memcmp(&plain, &named, sizeof plain) == 0, "the answer of a window by name");
+        must(analyse(&q, &plain) == 0 && analyse_by_name(&q, &named) == 0, "an analysis by name");
+        must(memcmp(&plain, &named, sizeof plain) == 0, "the answer of an analysis by name");
+    }
+}
+
 // Where no age is given, an observation of 120 minutes counts and one of 121 does not: document 01's default.
 static void age_where_none_is_given(void) {
     Results r;
@@ -256,6 +275,7 @@ int main(void) {
     readings();
     summaries();
     reading_of_the_example();
+    same_by_name();
     age_where_none_is_given();
     left_out();
     puts("header: the examples, and the mistakes for refusals 1 to 8, answer as include/sosnyavik.h says, by name too");
