@@ -207,9 +207,6 @@ static uint32_t check_lengths(const struct sosnyavik_request *asked, const struc
 }
 
 uint32_t plain_analyse(const struct sosnyavik_request *asked, struct sosnyavik_results results) {
-    uint32_t refused = check_lengths(asked, &results);
-    if (refused != 0)
-        return refused;
     /* a copy, which no write to a result can change: the compiler need not read it again */
     struct request request = {
         .nx = asked->nx,
@@ -229,7 +226,9 @@ uint32_t plain_analyse(const struct sosnyavik_request *asked, struct sosnyavik_r
         .time = asked->time,
         .age = asked->age,
     };
-    refused = check_entries(&request);
+    uint32_t refused = check_lengths(asked, &results);
+    if (refused == 0)
+        refused = check_entries(&request);
     if (refused == 0)
         analyse(&request, results.grid.at, results.support.at, results.verdict.at);
     return refused;
