@@ -475,10 +475,10 @@ struct sosnyavik_u8_result {
 /* clang-format off */
 #ifdef __cplusplus
 #define SOSNYAVIK_REQUEST(...) {__VA_ARGS__}
-#define SOSNYAVIK_OR(value) = value
+#define SOSNYAVIK_OR(...) = __VA_ARGS__
 #else
 #define SOSNYAVIK_REQUEST(...) {.age = SOSNYAVIK_DEFAULT_AGE, __VA_ARGS__}
-#define SOSNYAVIK_OR(value)
+#define SOSNYAVIK_OR(...)
 #endif
 
 struct sosnyavik_request {
