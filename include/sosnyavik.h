@@ -258,7 +258,8 @@ extern "C" {
 */
 /* clang-format off */
 uint32_t sosnyavik_analyse(
-    uint32_t nx, uint32_t ny, const int32_t *first_guess, size_t first_guess_len,
+    uint32_t nx, uint32_t ny,
+    const int32_t *first_guess, size_t first_guess_len,
     const int32_t *x, size_t x_len,
     const int32_t *y, size_t y_len,
     const int32_t *value, size_t value_len,
@@ -297,7 +298,8 @@ uint32_t sosnyavik_analyse(
 */
 /* clang-format off */
 uint32_t sosnyavik_window(
-    uint32_t nx, uint32_t ny, const int32_t *first_guess, size_t first_guess_len,
+    uint32_t nx, uint32_t ny,
+    const int32_t *first_guess, size_t first_guess_len,
     uint32_t left, uint32_t right, uint32_t top, uint32_t bottom,
     const int32_t *x, size_t x_len,
     const int32_t *y, size_t y_len,
@@ -510,36 +512,38 @@ struct sosnyavik_results {
     (of)->smooth, (of)->time, (of)->age
 
 static inline uint32_t sosnyavik_request_analyse(
-    const struct sosnyavik_request *request, struct sosnyavik_results results) {
+    const struct sosnyavik_request *request,
+    struct sosnyavik_results results) {
     return sosnyavik_analyse(SOSNYAVIK_GUESS(request), SOSNYAVIK_REST(request),
                              SOSNYAVIK_SLICE(results.grid), SOSNYAVIK_SLICE(results.support),
                              SOSNYAVIK_SLICE(results.verdict));
 }
 
 static inline uint32_t sosnyavik_request_window(
-    const struct sosnyavik_request *request, struct sosnyavik_ends ends,
-    struct sosnyavik_results results) {
+    const struct sosnyavik_request *request,
+    struct sosnyavik_ends ends, struct sosnyavik_results results) {
     return sosnyavik_window(SOSNYAVIK_GUESS(request), ends.left, ends.right, ends.top, ends.bottom,
                             SOSNYAVIK_REST(request),
                             SOSNYAVIK_SLICE(results.grid), SOSNYAVIK_SLICE(results.support));
 }
 
 static inline uint32_t sosnyavik_request_reading_kind(
-    const struct sosnyavik_request *request, struct sosnyavik_results results,
-    int32_t x, int32_t y) {
+    const struct sosnyavik_request *request,
+    struct sosnyavik_results results, int32_t x, int32_t y) {
     return sosnyavik_reading_kind(request->nx, request->ny, SOSNYAVIK_SLICE(results.grid),
                                   SOSNYAVIK_SLICE(results.support), x, y);
 }
 
 static inline double sosnyavik_request_reading_value(
-    const struct sosnyavik_request *request, struct sosnyavik_results results,
-    int32_t x, int32_t y) {
+    const struct sosnyavik_request *request,
+    struct sosnyavik_results results, int32_t x, int32_t y) {
     return sosnyavik_reading_value(request->nx, request->ny, SOSNYAVIK_SLICE(results.grid),
                                    SOSNYAVIK_SLICE(results.support), x, y);
 }
 
 static inline struct sosnyavik_summary sosnyavik_request_summarise(
-    const struct sosnyavik_request *request, struct sosnyavik_results results) {
+    const struct sosnyavik_request *request,
+    struct sosnyavik_results results) {
     return sosnyavik_summarise(request->nx, request->ny, SOSNYAVIK_SLICE(results.grid));
 }
 /* clang-format on */
