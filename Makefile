@@ -1,6 +1,6 @@
 # make run: answer a request.  make test: the gate.  make bench: the archive against plain C.  make soak: a million requests compared.
 # make edits: what each edit that must fail would answer, into docs/EDITS.md.
-# make install PREFIX=/usr/local: archive, header, pkg-config file and the program, for a server's build.
+# make install PREFIX=/usr/local: library, header, pkg-config file, the program and the manual, for a server's build.
 .PHONY: run test bench soak edits install clean
 .DEFAULT_GOAL := test
 
@@ -41,7 +41,7 @@ edits:
 	@scripts/edits
 
 install:
-	@scripts/tools rt
+	@scripts/tools rt $(X86_TOOLS)
 	@test -n "$(PREFIX)" || { echo "make install: say where to: make install PREFIX=/usr/local" >&2; exit 1; }
 	@mkdir -p build/install
 	@rt staticlib clause > build/install/staticlib.log 2>&1 || { echo "make install: rt staticlib clause failed: see build/install/staticlib.log" >&2; exit 1; }

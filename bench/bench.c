@@ -64,8 +64,11 @@ struct output {
 static struct input input;
 static struct output ours, plain, part;
 
+/* The input as the calls take it. */
+static struct sosnyavik_request request;
+
 /* The window that is asked for: all ends count from 0 and are inside. */
-static uint32_t left, right, top, bottom;
+static struct sosnyavik_ends ends;
 
 static void complain(const char *what, const char *word) {
     fprintf(
@@ -115,6 +118,20 @@ static void make_stations(uint64_t *state) {
     }
 }
 
+/* Made before anything is measured: neither counted nor timed, and on no stack. */
+static void make_request(void) {
+    const struct evening *evening = input.evening;
+    size_t points = (size_t)evening->nx * evening->ny, stations = evening->stations;
+    request = (struct sosnyavik_request)
+        SOSNYAVIK_REQUEST(.nx = evening->nx, .ny = evening->ny, .first_guess = {input.first_guess, points},
+                          .x = {input.x, stations}, .y = {input.y, stations}, .value = {input.value, stations},
+                          .observed = {input.observed, stations}, .from = {input.from, stations},
+                          .until = {input.until, stations}, .scans = evening->scans,
+                          .radius = {evening->radius, evening->scans}, .limit = {evening->limit, evening->scans},
+                          .smooth = evening->smooth, .time = MINUTE);
+    request.age = AGE;
+}
+
 static void make_input(const char *name) {
     for (size_t i = 0; i < sizeof EVENINGS / sizeof *EVENINGS; i++) {
         if (strcmp(EVENINGS[i].name, name) == 0)
@@ -125,36 +142,32 @@ static void make_input(const char *name) {
     uint64_t state = 1955;
     make_first_guess(&state);
     make_stations(&state);
+    make_request();
+}
+
+/* As long as the points that are asked for. */
+static struct sosnyavik_results results_of(struct output *output, size_t points) {
+    return (struct sosnyavik_results){.grid = {output->grid, points},
+                                      .support = {output->support, points},
+                                      .verdict = {output->verdict, input.evening->stations}};
 }
 
 static void run(Analysis *analysis, struct output *output) {
-    const struct evening *evening = input.evening;
-    size_t points = (size_t)evening->nx * evening->ny, stations = evening->stations;
-    output->returned =
-        analysis(evening->nx, evening->ny, input.first_guess, points, input.x, stations, input.y, stations, input.value,
-                 stations, input.observed, stations, input.from, stations, input.until, stations, evening->scans,
-                 evening->radius, evening->scans, evening->limit, evening->scans, evening->smooth, MINUTE, AGE,
-                 output->grid, points, output->support, points, output->verdict, stations);
+    output->returned = analysis(&request, results_of(output, request.first_guess.count));
 }
 
-static size_t window_columns(void) { return right - left + 1; }
+static size_t window_columns(void) { return ends.right - ends.left + 1; }
 
 static void run_window(void) {
-    const struct evening *evening = input.evening;
-    size_t points = (size_t)evening->nx * evening->ny, stations = evening->stations;
-    size_t asked = window_columns() * (bottom - top + 1);
-    part.returned = sosnyavik_window(evening->nx, evening->ny, input.first_guess, points, left, right, top, bottom,
-                                     input.x, stations, input.y, stations, input.value, stations, input.observed,
-                                     stations, input.from, stations, input.until, stations, evening->scans,
-                                     evening->radius, evening->scans, evening->limit, evening->scans, evening->smooth,
-                                     MINUTE, AGE, part.grid, asked, part.support, asked);
+    size_t points = window_columns() * (ends.bottom - ends.top + 1);
+    part.returned = sosnyavik_request_window(&request, ends, results_of(&part, points));
 }
 
 static void make_window(uint32_t side) {
-    left = (input.evening->nx - side) / 2;
-    right = left + side - 1;
-    top = (input.evening->ny - side) / 2;
-    bottom = top + side - 1;
+    ends.left = (input.evening->nx - side) / 2;
+    ends.right = ends.left + side - 1;
+    ends.top = (input.evening->ny - side) / 2;
+    ends.bottom = ends.top + side - 1;
 }
 
 /* The results are filled unlike before the calls, so that an entry which one of them leaves out differs too. */
@@ -162,7 +175,7 @@ static void compare(void) {
     size_t points = (size_t)input.evening->nx * input.evening->ny;
     memset(&ours, 0x55, sizeof ours);
     memset(&plain, 0xAA, sizeof plain);
-    run(sosnyavik_analyse, &ours);
+    run(sosnyavik_request_analyse, &ours);
     run(plain_analyse, &plain);
     if (ours.returned != plain.returned)
         fail("the returned numbers differ");
@@ -178,12 +191,12 @@ static void compare(void) {
 static void compare_window(void) {
     memset(&ours, 0x55, sizeof ours);
     memset(&part, 0xAA, sizeof part);
-    run(sosnyavik_analyse, &ours);
+    run(sosnyavik_request_analyse, &ours);
     run_window();
     if (ours.returned != 0 || part.returned != 0)
         fail("the window query or the whole analysis is refused");
-    for (uint32_t j = top; j <= bottom; j++) {
-        size_t from = j * input.evening->nx + left, to = (j - top) * window_columns();
+    for (uint32_t j = ends.top; j <= ends.bottom; j++) {
+        size_t from = j * input.evening->nx + ends.left, to = (j - ends.top) * window_columns();
         if (memcmp(ours.grid + from, part.grid + to, window_columns() * sizeof *part.grid) != 0)
             fail("the window's grid is not the whole analysis's");
         if (memcmp(ours.support + from, part.support + to, window_columns()) != 0)
@@ -203,7 +216,7 @@ static int64_t nanoseconds(Analysis *analysis, struct output *output) {
 static void time_both(long repeat) {
     int64_t least_ours = INT64_MAX, least_plain = INT64_MAX;
     for (long i = 0; i < repeat; i++) {
-        int64_t taken_ours = nanoseconds(sosnyavik_analyse, &ours);
+        int64_t taken_ours = nanoseconds(sosnyavik_request_analyse, &ours);
         int64_t taken_plain = nanoseconds(plain_analyse, &plain);
         least_ours = taken_ours < least_ours ? taken_ours : least_ours;
         least_plain = taken_plain < least_plain ? taken_plain : least_plain;
@@ -216,20 +229,23 @@ enum { STACK = 8 * 1024 * 1024, PAGE = 4096, PAINT = 0xC3 };
 /* Where their results go, so that the calls are made. */
 static volatile double read_here;
 
+/* Any field may be read. */
+static struct sosnyavik_results first_guess_as_results(void) {
+    struct sosnyavik_results results = results_of(&ours, request.first_guess.count);
+    results.grid.at = input.first_guess;
+    return results;
+}
+
 /* The place is the grid's middle: any will do. */
 static void run_reading(void) {
-    const struct evening *evening = input.evening;
-    size_t points = (size_t)evening->nx * evening->ny;
-    int32_t x = 32 * (int32_t)evening->nx, y = 32 * (int32_t)evening->ny;
-    read_here = sosnyavik_reading_kind(evening->nx, evening->ny, input.first_guess, points, ours.support, points, x, y);
-    read_here =
-        sosnyavik_reading_value(evening->nx, evening->ny, input.first_guess, points, ours.support, points, x, y);
+    struct sosnyavik_results results = first_guess_as_results();
+    int32_t x = 32 * (int32_t)request.nx, y = 32 * (int32_t)request.ny;
+    read_here = sosnyavik_request_reading_kind(&request, results, x, y);
+    read_here = sosnyavik_request_reading_value(&request, results, x, y);
 }
 
 static void run_summary(void) {
-    const struct evening *evening = input.evening;
-    size_t points = (size_t)evening->nx * evening->ny;
-    read_here = sosnyavik_summarise(evening->nx, evening->ny, input.first_guess, points).units.span;
+    read_here = sosnyavik_request_summarise(&request, first_guess_as_results()).units.span;
 }
 
 /* The case as a request text (document 01), for the program. */
@@ -251,7 +267,7 @@ static void print_text(void) {
 }
 
 static void run_nothing(void) {}
-static void run_analysis(void) { run(sosnyavik_analyse, &ours); }
+static void run_analysis(void) { run(sosnyavik_request_analyse, &ours); }
 
 /* A stack that is painted, so that what was touched shows. Its lowest page stops a call that would need more. */
 static unsigned char *painted_stack(void) {
@@ -313,7 +329,7 @@ static void run_case(const char *which, long repeat) {
         return;
     }
     for (long i = 0; i < repeat; i++)
-        run(is_ours ? sosnyavik_analyse : plain_analyse, is_ours ? &ours : &plain);
+        run(is_ours ? sosnyavik_request_analyse : plain_analyse, is_ours ? &ours : &plain);
 }
 
 int main(int argc, char **argv) {

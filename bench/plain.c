@@ -18,8 +18,6 @@ enum {
     GREATEST_LIMIT = 2000000,
     GREATEST_NUMBER = 1000000,
 };
-#define MISSING INT32_MIN
-#define NO_END UINT32_MAX
 
 struct request {
     uint32_t nx, ny;
@@ -54,8 +52,8 @@ static bool is_scan(const struct request *request, uint32_t scan) {
 
 static bool is_station(const struct request *request, size_t row) {
     int32_t value = request->value[row];
-    return (value == MISSING || is_number(value)) && is_number(request->x[row]) && is_number(request->y[row]) &&
-           request->from[row] < request->until[row];
+    return (value == SOSNYAVIK_MISSING || is_number(value)) && is_number(request->x[row]) &&
+           is_number(request->y[row]) && request->from[row] < request->until[row];
 }
 
 /* Refusals 6 to 8, which read the columns; 0 if there is none. */
@@ -77,14 +75,14 @@ static uint32_t check_entries(const struct request *request) {
 
 /* No end makes only the upper test hold. */
 static bool in_service(uint32_t from, uint32_t minute, uint32_t until) {
-    return from <= minute && (until == NO_END || minute < until);
+    return from <= minute && (until == SOSNYAVIK_NO_END || minute < until);
 }
 
 static bool on_axis(int32_t position, uint32_t side) { return within(position, 0, STEP * ((int32_t)side - 1)); }
 
 static uint8_t verdict_before(const struct request *request, size_t row) {
     uint32_t from = request->from[row], until = request->until[row], observed = request->observed[row];
-    if (request->value[row] == MISSING)
+    if (request->value[row] == SOSNYAVIK_MISSING)
         return 1;
     if (!in_service(from, observed, until) || !in_service(from, request->time, until))
         return 2;
@@ -193,26 +191,45 @@ static void analyse(const struct request *request, int32_t *grid, uint8_t *suppo
     }
 }
 
-uint32_t plain_analyse(uint32_t nx, uint32_t ny, const int32_t *first_guess, size_t first_guess_len, const int32_t *x,
-                       size_t x_len, const int32_t *y, size_t y_len, const int32_t *value, size_t value_len,
-                       const uint32_t *observed, size_t observed_len, const uint32_t *from, size_t from_len,
-                       const uint32_t *until, size_t until_len, uint32_t scans, const int32_t *radius,
-                       size_t radius_len, const int32_t *limit, size_t limit_len, bool smooth, uint32_t time,
-                       uint32_t age, int32_t *grid, size_t grid_len, uint8_t *support, size_t support_len,
-                       uint8_t *verdict, size_t verdict_len) {
-    if (!is_side(nx) || !is_side(ny) || first_guess_len != (size_t)nx * ny)
+/* Refusals 1 to 5, which measure; 0 if there is none. */
+static uint32_t check_lengths(const struct sosnyavik_request *asked, const struct sosnyavik_results *results) {
+    size_t points = asked->first_guess.count, rows = asked->x.count, scans = asked->scans;
+    if (!is_side(asked->nx) || !is_side(asked->ny) || points != (size_t)asked->nx * asked->ny)
         return refusal(1, 0);
-    if (grid_len != first_guess_len || support_len != first_guess_len || verdict_len != x_len)
+    if (results->grid.count != points || results->support.count != points || results->verdict.count != rows)
         return refusal(3, 0);
-    if (y_len != x_len || value_len != x_len || observed_len != x_len || from_len != x_len || until_len != x_len ||
-        x_len > MOST_STATIONS)
+    if (asked->y.count != rows || asked->value.count != rows || asked->observed.count != rows ||
+        asked->from.count != rows || asked->until.count != rows || rows > MOST_STATIONS)
         return refusal(4, 0);
-    if (scans < 1 || scans > MOST_SCANS || radius_len < scans || limit_len < scans)
+    if (scans < 1 || scans > MOST_SCANS || asked->radius.count < scans || asked->limit.count < scans)
         return refusal(5, 0);
-    struct request request = {nx,    ny,    first_guess, x,      y,     value,  observed, from,
-                              until, x_len, scans,       radius, limit, smooth, time,     age};
-    uint32_t refused = check_entries(&request);
+    return 0;
+}
+
+uint32_t plain_analyse(const struct sosnyavik_request *asked, struct sosnyavik_results results) {
+    /* a copy, which no write to a result can change: the compiler need not read it again */
+    struct request request = {
+        .nx = asked->nx,
+        .ny = asked->ny,
+        .first_guess = asked->first_guess.at,
+        .x = asked->x.at,
+        .y = asked->y.at,
+        .value = asked->value.at,
+        .observed = asked->observed.at,
+        .from = asked->from.at,
+        .until = asked->until.at,
+        .stations = asked->x.count,
+        .scans = asked->scans,
+        .radius = asked->radius.at,
+        .limit = asked->limit.at,
+        .smooth = asked->smooth,
+        .time = asked->time,
+        .age = asked->age,
+    };
+    uint32_t refused = check_lengths(asked, &results);
     if (refused == 0)
-        analyse(&request, grid, support, verdict);
+        refused = check_entries(&request);
+    if (refused == 0)
+        analyse(&request, results.grid.at, results.support.at, results.verdict.at);
     return refused;
 }

@@ -86,8 +86,8 @@ struct answer whole_answer(const struct evening *evening, unsigned char pattern)
     return make_answer(points, points, evening->columns[X].length, pattern);
 }
 
-struct answer window_answer(const struct window *window, unsigned char pattern) {
-    size_t points = (size_t)(window->right - window->left + 1) * (window->bottom - window->top + 1);
+struct answer window_answer(struct sosnyavik_ends ends, unsigned char pattern) {
+    size_t points = (size_t)(ends.right - ends.left + 1) * (ends.bottom - ends.top + 1);
     return make_answer(points, points, 0, pattern);
 }
 
@@ -107,27 +107,39 @@ bool same_answer(const struct answer *a, const struct answer *b) {
     return true;
 }
 
-/* clang-format off */
-uint32_t analyse(const struct evening *evening, struct answer *answer) {
-    const struct slice *in = evening->columns, *out = answer->results;
-    return sosnyavik_analyse(
-        evening->nx, evening->ny, in[FIRST_GUESS].at, in[FIRST_GUESS].length,
-        in[X].at, in[X].length, in[Y].at, in[Y].length, in[VALUE].at, in[VALUE].length,
-        in[OBSERVED].at, in[OBSERVED].length, in[FROM].at, in[FROM].length, in[UNTIL].at, in[UNTIL].length,
-        evening->scans, in[RADIUS].at, in[RADIUS].length, in[LIMIT].at, in[LIMIT].length,
-        evening->smooth, evening->time, evening->age,
-        out[GRID].at, out[GRID].length, out[SUPPORT].at, out[SUPPORT].length, out[VERDICT].at, out[VERDICT].length);
+static struct sosnyavik_i32_column numbers(const struct slice *slice) {
+    return (struct sosnyavik_i32_column){slice->at, slice->length};
 }
 
-uint32_t query(const struct evening *evening, const struct window *window, struct answer *answer) {
-    const struct slice *in = evening->columns, *out = answer->results;
-    return sosnyavik_window(
-        evening->nx, evening->ny, in[FIRST_GUESS].at, in[FIRST_GUESS].length,
-        window->left, window->right, window->top, window->bottom,
-        in[X].at, in[X].length, in[Y].at, in[Y].length, in[VALUE].at, in[VALUE].length,
-        in[OBSERVED].at, in[OBSERVED].length, in[FROM].at, in[FROM].length, in[UNTIL].at, in[UNTIL].length,
-        evening->scans, in[RADIUS].at, in[RADIUS].length, in[LIMIT].at, in[LIMIT].length,
-        evening->smooth, evening->time, evening->age,
-        out[GRID].at, out[GRID].length, out[SUPPORT].at, out[SUPPORT].length);
+static struct sosnyavik_u32_column minutes(const struct slice *slice) {
+    return (struct sosnyavik_u32_column){slice->at, slice->length};
 }
-/* clang-format on */
+
+struct sosnyavik_request request_of(const struct evening *evening) {
+    const struct slice *in = evening->columns;
+    struct sosnyavik_request request =
+        SOSNYAVIK_REQUEST(.nx = evening->nx, .ny = evening->ny, .first_guess = numbers(&in[FIRST_GUESS]),
+                          .x = numbers(&in[X]), .y = numbers(&in[Y]), .value = numbers(&in[VALUE]),
+                          .observed = minutes(&in[OBSERVED]), .from = minutes(&in[FROM]), .until = minutes(&in[UNTIL]),
+                          .scans = evening->scans, .radius = numbers(&in[RADIUS]), .limit = numbers(&in[LIMIT]),
+                          .smooth = evening->smooth, .time = evening->time);
+    request.age = evening->age;
+    return request;
+}
+
+struct sosnyavik_results results_of(const struct answer *answer) {
+    const struct slice *out = answer->results;
+    return (struct sosnyavik_results){.grid = {out[GRID].at, out[GRID].length},
+                                      .support = {out[SUPPORT].at, out[SUPPORT].length},
+                                      .verdict = {out[VERDICT].at, out[VERDICT].length}};
+}
+
+uint32_t analyse(const struct evening *evening, struct answer *answer) {
+    struct sosnyavik_request request = request_of(evening);
+    return sosnyavik_request_analyse(&request, results_of(answer));
+}
+
+uint32_t query(const struct evening *evening, struct sosnyavik_ends ends, struct answer *answer) {
+    struct sosnyavik_request request = request_of(evening);
+    return sosnyavik_request_window(&request, ends, results_of(answer));
+}

@@ -15,10 +15,6 @@ struct evening {
     struct slice columns[COLUMNS];
 };
 
-struct window {
-    uint32_t left, right, top, bottom;
-};
-
 struct answer {
     struct slice results[RESULTS];
 };
@@ -38,11 +34,15 @@ uint32_t *minutes_of(const struct evening *evening, enum column column);
 /* Results of the lengths that are asked for, all bytes the pattern. */
 struct answer make_answer(size_t grid, size_t support, size_t verdict, unsigned char pattern);
 struct answer whole_answer(const struct evening *evening, unsigned char pattern);
-struct answer window_answer(const struct window *window, unsigned char pattern);
+struct answer window_answer(struct sosnyavik_ends ends, unsigned char pattern);
 void free_answer(struct answer *answer);
 bool same_answer(const struct answer *a, const struct answer *b);
 
+/* The two as the header has them by name. */
+struct sosnyavik_request request_of(const struct evening *evening);
+struct sosnyavik_results results_of(const struct answer *answer);
+
 uint32_t analyse(const struct evening *evening, struct answer *answer);
-uint32_t query(const struct evening *evening, const struct window *window, struct answer *answer);
+uint32_t query(const struct evening *evening, struct sosnyavik_ends ends, struct answer *answer);
 
 #endif

@@ -52,10 +52,10 @@ void try_evening(void) {
 }
 
 /* Point for point as the whole analysis has it. */
-static void must_be_part(const struct answer *part, const struct window *window, const struct answer *whole) {
-    size_t columns = window->right - window->left + 1;
-    for (uint32_t j = window->top; j <= window->bottom; j++) {
-        size_t from = (size_t)j * NX + window->left, to = (j - window->top) * columns;
+static void must_be_part(const struct answer *part, struct sosnyavik_ends ends, const struct answer *whole) {
+    size_t columns = ends.right - ends.left + 1;
+    for (uint32_t j = ends.top; j <= ends.bottom; j++) {
+        size_t from = (size_t)j * NX + ends.left, to = (j - ends.top) * columns;
         const int32_t *grid = whole->results[GRID].at, *part_grid = part->results[GRID].at;
         const uint8_t *support = whole->results[SUPPORT].at, *part_support = part->results[SUPPORT].at;
         must(memcmp(grid + from, part_grid + to, columns * sizeof *grid) == 0, "a window's grid");
@@ -64,7 +64,7 @@ static void must_be_part(const struct answer *part, const struct window *window,
 }
 
 void try_windows(void) {
-    static const struct window windows[] = {
+    static const struct sosnyavik_ends windows[] = {
         {0, NX - 1, 0, NY - 1},           {0, 0, 0, 0},
         {NX - 1, NX - 1, NY - 1, NY - 1}, {9, 13, 8, 10},
         {0, NX - 1, NY / 2, NY / 2},      {NX / 2, NX / 2, 0, NY - 1},
@@ -74,9 +74,9 @@ void try_windows(void) {
     struct answer whole = whole_answer(&evening, UNTOUCHED);
     must(analyse(&evening, &whole) == 0, "an evening's answer");
     for (size_t i = 0; i < count; i++) {
-        struct answer part = window_answer(&windows[i], UNTOUCHED);
-        must(query(&evening, &windows[i], &part) == 0, "a window's answer");
-        must_be_part(&part, &windows[i], &whole);
+        struct answer part = window_answer(windows[i], UNTOUCHED);
+        must(query(&evening, windows[i], &part) == 0, "a window's answer");
+        must_be_part(&part, windows[i], &whole);
         free_answer(&part);
     }
     printf("host: %zu windows, each as the whole analysis has it\n", count);
@@ -87,7 +87,7 @@ void try_windows(void) {
 /* A request, all of it a mistake's to change: the lengths of results are those of the slices. */
 struct attempt {
     struct evening evening;
-    struct window window;
+    struct sosnyavik_ends window;
     size_t lengths[RESULTS];
 };
 
@@ -154,7 +154,7 @@ static void try_mistake(const struct mistake *mistake, bool of_window) {
     mistake->make(&a);
     struct answer answer = make_answer(a.lengths[GRID], a.lengths[SUPPORT], a.lengths[VERDICT], UNTOUCHED);
     struct answer before = make_answer(a.lengths[GRID], a.lengths[SUPPORT], a.lengths[VERDICT], UNTOUCHED);
-    uint32_t returned = of_window ? query(&a.evening, &a.window, &answer) : analyse(&a.evening, &answer);
+    uint32_t returned = of_window ? query(&a.evening, a.window, &answer) : analyse(&a.evening, &answer);
     must(SOSNYAVIK_REFUSAL(returned) == mistake->refusal, mistake->what);
     must(SOSNYAVIK_PLACE(returned) == mistake->place, mistake->what);
     must(same_answer(&answer, &before), "the results of a refused call");

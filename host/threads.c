@@ -13,7 +13,7 @@
 
 enum { THREADS = 8, ROUNDS = 20, EVENINGS = 2, NX = 32, NY = 32, MASTS = 60 };
 
-static const struct window MIDDLE = {12, 19, 12, 19};
+static const struct sosnyavik_ends MIDDLE = {12, 19, 12, 19};
 
 /* What all threads share: two evenings, and what a run before them made of each. */
 struct known {
@@ -26,13 +26,14 @@ struct known {
 static struct known known[EVENINGS];
 static pthread_barrier_t at_once;
 
-static double read_middle(const struct answer *answer) {
-    const struct slice *grid = &answer->results[GRID], *support = &answer->results[SUPPORT];
-    return sosnyavik_reading_value(NX, NY, grid->at, grid->length, support->at, support->length, 1001, 1003);
+static double read_middle(const struct evening *evening, const struct answer *answer) {
+    struct sosnyavik_request request = request_of(evening);
+    return sosnyavik_request_reading_value(&request, results_of(answer), 1001, 1003);
 }
 
-static struct sosnyavik_summary sum_up(const struct answer *answer) {
-    return sosnyavik_summarise(NX, NY, answer->results[GRID].at, answer->results[GRID].length);
+static struct sosnyavik_summary sum_up(const struct evening *evening, const struct answer *answer) {
+    struct sosnyavik_request request = request_of(evening);
+    return sosnyavik_request_summarise(&request, results_of(answer));
 }
 
 static bool same_doubles(const struct sosnyavik_summary *a, const struct sosnyavik_summary *b) {
@@ -41,12 +42,12 @@ static bool same_doubles(const struct sosnyavik_summary *a, const struct sosnyav
 
 /* Each round has results of its own, filled anew: what is left out of one shows. */
 static void run_all(const struct known *k, unsigned char pattern) {
-    struct answer whole = whole_answer(&k->evening, pattern), part = window_answer(&MIDDLE, pattern);
+    struct answer whole = whole_answer(&k->evening, pattern), part = window_answer(MIDDLE, pattern);
     must(analyse(&k->evening, &whole) == 0, "an analysis among threads");
-    must(query(&k->evening, &MIDDLE, &part) == 0, "a window query among threads");
+    must(query(&k->evening, MIDDLE, &part) == 0, "a window query among threads");
     must(same_answer(&whole, &k->whole) && same_answer(&part, &k->part), "an answer among threads");
-    double reading = read_middle(&whole);
-    struct sosnyavik_summary summary = sum_up(&whole);
+    double reading = read_middle(&k->evening, &whole);
+    struct sosnyavik_summary summary = sum_up(&k->evening, &whole);
     must(memcmp(&reading, &k->reading, sizeof reading) == 0, "a reading among threads");
     must(same_doubles(&summary, &k->summary), "a summary among threads");
     free_answer(&whole);
@@ -68,10 +69,10 @@ static void make_known(struct known *k, int32_t warmer) {
     for (size_t point = 0; point < NX * NY; point++)
         numbers_of(&k->evening, FIRST_GUESS)[point] += warmer;
     k->whole = whole_answer(&k->evening, UNTOUCHED);
-    k->part = window_answer(&MIDDLE, UNTOUCHED);
-    must(analyse(&k->evening, &k->whole) == 0 && query(&k->evening, &MIDDLE, &k->part) == 0, "an evening's answers");
-    k->reading = read_middle(&k->whole);
-    k->summary = sum_up(&k->whole);
+    k->part = window_answer(MIDDLE, UNTOUCHED);
+    must(analyse(&k->evening, &k->whole) == 0 && query(&k->evening, MIDDLE, &k->part) == 0, "an evening's answers");
+    k->reading = read_middle(&k->evening, &k->whole);
+    k->summary = sum_up(&k->evening, &k->whole);
 }
 
 static void free_known(struct known *k) {
@@ -115,18 +116,18 @@ static void *analyse_small(void *unused) {
 }
 
 static void *query_small(void *unused) {
-    must(query(&known[0].evening, &MIDDLE, &small) == 0, "a window query on a small stack");
+    must(query(&known[0].evening, MIDDLE, &small) == 0, "a window query on a small stack");
     return unused;
 }
 
 static void *read_small(void *unused) {
-    double value = read_middle(&known[0].whole);
+    double value = read_middle(&known[0].evening, &known[0].whole);
     must(memcmp(&value, &known[0].reading, sizeof value) == 0, "a reading on a small stack");
     return unused;
 }
 
 static void *sum_up_small(void *unused) {
-    struct sosnyavik_summary s = sum_up(&known[0].whole);
+    struct sosnyavik_summary s = sum_up(&known[0].evening, &known[0].whole);
     must(same_doubles(&s, &known[0].summary), "a summary on a small stack");
     return unused;
 }
@@ -159,7 +160,7 @@ void try_small_stacks(void) {
     size_t analysis = run_on(SOSNYAVIK_STACK_ANALYSE, analyse_small);
     must(same_answer(&small, &known[0].whole), "the answer of an analysis on a small stack");
     free_answer(&small);
-    small = window_answer(&MIDDLE, UNTOUCHED);
+    small = window_answer(MIDDLE, UNTOUCHED);
     size_t window = run_on(SOSNYAVIK_STACK_WINDOW, query_small);
     must(same_answer(&small, &known[0].part), "the answer of a window query on a small stack");
     free_answer(&small);

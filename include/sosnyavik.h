@@ -1,5 +1,5 @@
 /*
-** sosnyavik.h: the C view of the Sosnyavik analysis; link with libclause.a.
+** sosnyavik.h: the C view of the Sosnyavik analysis; link with -lsosnyavik.
 **
 ** Cressman's successive corrections over whole numbers. A first guess on a
 ** rectangular grid is drawn towards station values, scan by scan. The answer
@@ -10,8 +10,9 @@
 ** grid alone and with the same numbers. Beside them stand a point reading and
 ** a summary, which tell a field in doubles that are exact.
 **
-** In this file: marks, units and sizes, windows, results, verdicts, support,
-** refusals, what the caller owes, what the calls keep, and the calls.
+** What follows: version, marks, units and sizes, windows, results, verdicts,
+** support, refusals, what the caller owes, what the calls keep, the calls, and
+** a request by name, which is how a program had best call them.
 */
 #ifndef SOSNYAVIK_H
 #define SOSNYAVIK_H
@@ -23,6 +24,15 @@
 #ifdef __cplusplus
 extern "C" {
 #endif
+
+/*
+** VERSION
+**
+** Its first number is that of the shared object, libsosnyavik.so.0: it rises
+** when a call takes other arguments than before, and a program must be compiled
+** anew. The second rises with a new call, the third with anything else.
+*/
+#define SOSNYAVIK_VERSION "0.1.0" /* 2026-11-15 */
 
 /*
 ** MARKS
@@ -71,7 +81,11 @@ extern "C" {
 **   time          minute of the analysis             any
 **   age           greatest age of an observation     any
 **                 at that minute, in minutes
+**
+** SOSNYAVIK_DEFAULT_AGE is the age of a request that gives none, by name or as
+** text.
 */
+#define SOSNYAVIK_DEFAULT_AGE 120
 
 /*
 ** WINDOWS
@@ -244,7 +258,8 @@ extern "C" {
 */
 /* clang-format off */
 uint32_t sosnyavik_analyse(
-    uint32_t nx, uint32_t ny, const int32_t *first_guess, size_t first_guess_len,
+    uint32_t nx, uint32_t ny,
+    const int32_t *first_guess, size_t first_guess_len,
     const int32_t *x, size_t x_len,
     const int32_t *y, size_t y_len,
     const int32_t *value, size_t value_len,
@@ -283,7 +298,8 @@ uint32_t sosnyavik_analyse(
 */
 /* clang-format off */
 uint32_t sosnyavik_window(
-    uint32_t nx, uint32_t ny, const int32_t *first_guess, size_t first_guess_len,
+    uint32_t nx, uint32_t ny,
+    const int32_t *first_guess, size_t first_guess_len,
     uint32_t left, uint32_t right, uint32_t top, uint32_t bottom,
     const int32_t *x, size_t x_len,
     const int32_t *y, size_t y_len,
@@ -381,7 +397,159 @@ struct sosnyavik_summary {
     } units;
 };
 
-struct sosnyavik_summary sosnyavik_summarise(uint32_t nx, uint32_t ny, const int32_t *field, size_t field_len);
+/* clang-format off */
+struct sosnyavik_summary sosnyavik_summarise(
+    uint32_t nx, uint32_t ny, const int32_t *field, size_t field_len);
+/* clang-format on */
+
+/*
+** A REQUEST BY NAME
+**
+** In a row of thirty arguments two columns are soon exchanged. So a request is
+** a struct too: each column stands under its own name, beside its own length.
+** What is said above of an argument holds of the member of its name. For each
+** call sosnyavik_NAME there is sosnyavik_request_NAME, which hands the members
+** on as they are and adds nothing. The example, and its window, once more:
+**
+**   struct sosnyavik_request request = SOSNYAVIK_REQUEST(
+**       .nx = 3, .ny = 3, .first_guess = {first_guess, 9},
+**       .x = {x, 3}, .y = {y, 3}, .value = {value, 3},
+**       .observed = {observed, 3}, .from = {from, 3}, .until = {until, 3},
+**       .scans = 1, .radius = {radius, 1}, .limit = {limit, 1},
+**       .time = 1000);
+**   request.age = 60;
+**   struct sosnyavik_results whole = {
+**       .grid = {grid, 9}, .support = {support, 9}, .verdict = {verdict, 3}};
+**   struct sosnyavik_ends ends = {
+**       .left = 0, .right = 1, .top = 1, .bottom = 1};
+**   struct sosnyavik_results window = {
+**       .grid = {part, 2}, .support = {part_support, 2}};
+**   uint32_t r = sosnyavik_request_analyse(&request, whole);
+**   uint32_t s = sosnyavik_request_window(&request, ends, window);
+**   double at_64_64 = sosnyavik_request_reading_value(&request, whole, 64, 64);
+**
+** Now r and s are 0, grid, support, verdict, part and part_support are as above,
+** and at_64_64 is 11.859375.
+**
+** SOSNYAVIK_REQUEST gives each member that is not named in it its default: age
+** is SOSNYAVIK_DEFAULT_AGE, all else is 0, false or no entries. A member that
+** comes with a later version has a default by which the answers stay; so write
+** every request by SOSNYAVIK_REQUEST. In C a member whose default is not 0, which
+** is age alone, is set after it, as above. In C++20 members are named in the
+** order below, age too. In C++11 none is named, and all are set after it:
+**
+**   sosnyavik_request request = SOSNYAVIK_REQUEST();
+**   request.nx = 3, request.ny = 3, request.first_guess = {first_guess, 9};
+**
+** The window, which is no part of a request, has its four ends in a struct.
+** Results are slices to be written; the window query asks for no verdict. The
+** reading and the summary take nx and ny from a request, and grid and support
+** from the results of its whole analysis.
+**
+** A request of zeros alone, made without SOSNYAVIK_REQUEST, is refused like any
+** other: it has no columns and no rows, which is refusal 1.
+*/
+struct sosnyavik_i32_column {
+    const int32_t *at;
+    size_t count;
+};
+
+struct sosnyavik_u32_column {
+    const uint32_t *at;
+    size_t count;
+};
+
+struct sosnyavik_ends {
+    uint32_t left, right, top, bottom;
+};
+
+struct sosnyavik_i32_result {
+    int32_t *at;
+    size_t count;
+};
+
+struct sosnyavik_u8_result {
+    uint8_t *at;
+    size_t count;
+};
+
+/* In C++ a member has its default. In C it cannot: SOSNYAVIK_REQUEST has those that are not 0. */
+/* clang-format off */
+#ifdef __cplusplus
+#define SOSNYAVIK_REQUEST(...) {__VA_ARGS__}
+#define SOSNYAVIK_OR(...) = __VA_ARGS__
+#else
+#define SOSNYAVIK_REQUEST(...) {.age = SOSNYAVIK_DEFAULT_AGE, __VA_ARGS__}
+#define SOSNYAVIK_OR(...)
+#endif
+
+struct sosnyavik_request {
+    uint32_t nx SOSNYAVIK_OR(0), ny SOSNYAVIK_OR(0);
+    struct sosnyavik_i32_column first_guess SOSNYAVIK_OR({});
+    struct sosnyavik_i32_column x SOSNYAVIK_OR({}), y SOSNYAVIK_OR({}), value SOSNYAVIK_OR({});
+    struct sosnyavik_u32_column observed SOSNYAVIK_OR({}), from SOSNYAVIK_OR({}), until SOSNYAVIK_OR({});
+    uint32_t scans SOSNYAVIK_OR(0);
+    struct sosnyavik_i32_column radius SOSNYAVIK_OR({}), limit SOSNYAVIK_OR({});
+    bool smooth SOSNYAVIK_OR(false);
+    uint32_t time SOSNYAVIK_OR(0), age SOSNYAVIK_OR(SOSNYAVIK_DEFAULT_AGE);
+};
+
+struct sosnyavik_results {
+    struct sosnyavik_i32_result grid SOSNYAVIK_OR({});
+    struct sosnyavik_u8_result support SOSNYAVIK_OR({}), verdict SOSNYAVIK_OR({});
+};
+/* clang-format on */
+#undef SOSNYAVIK_OR
+
+/* A slice, and what each call asks of a request: one place for every argument, whatever the number of calls. */
+/* clang-format off */
+#define SOSNYAVIK_SLICE(of) (of).at, (of).count
+#define SOSNYAVIK_GUESS(of) (of)->nx, (of)->ny, SOSNYAVIK_SLICE((of)->first_guess)
+#define SOSNYAVIK_REST(of) \
+    SOSNYAVIK_SLICE((of)->x), SOSNYAVIK_SLICE((of)->y), SOSNYAVIK_SLICE((of)->value), \
+    SOSNYAVIK_SLICE((of)->observed), SOSNYAVIK_SLICE((of)->from), SOSNYAVIK_SLICE((of)->until), \
+    (of)->scans, SOSNYAVIK_SLICE((of)->radius), SOSNYAVIK_SLICE((of)->limit), \
+    (of)->smooth, (of)->time, (of)->age
+
+static inline uint32_t sosnyavik_request_analyse(
+    const struct sosnyavik_request *request,
+    struct sosnyavik_results results) {
+    return sosnyavik_analyse(SOSNYAVIK_GUESS(request), SOSNYAVIK_REST(request),
+                             SOSNYAVIK_SLICE(results.grid), SOSNYAVIK_SLICE(results.support),
+                             SOSNYAVIK_SLICE(results.verdict));
+}
+
+static inline uint32_t sosnyavik_request_window(
+    const struct sosnyavik_request *request,
+    struct sosnyavik_ends ends, struct sosnyavik_results results) {
+    return sosnyavik_window(SOSNYAVIK_GUESS(request), ends.left, ends.right, ends.top, ends.bottom,
+                            SOSNYAVIK_REST(request),
+                            SOSNYAVIK_SLICE(results.grid), SOSNYAVIK_SLICE(results.support));
+}
+
+static inline uint32_t sosnyavik_request_reading_kind(
+    const struct sosnyavik_request *request,
+    struct sosnyavik_results results, int32_t x, int32_t y) {
+    return sosnyavik_reading_kind(request->nx, request->ny, SOSNYAVIK_SLICE(results.grid),
+                                  SOSNYAVIK_SLICE(results.support), x, y);
+}
+
+static inline double sosnyavik_request_reading_value(
+    const struct sosnyavik_request *request,
+    struct sosnyavik_results results, int32_t x, int32_t y) {
+    return sosnyavik_reading_value(request->nx, request->ny, SOSNYAVIK_SLICE(results.grid),
+                                   SOSNYAVIK_SLICE(results.support), x, y);
+}
+
+static inline struct sosnyavik_summary sosnyavik_request_summarise(
+    const struct sosnyavik_request *request,
+    struct sosnyavik_results results) {
+    return sosnyavik_summarise(request->nx, request->ny, SOSNYAVIK_SLICE(results.grid));
+}
+/* clang-format on */
+#undef SOSNYAVIK_SLICE
+#undef SOSNYAVIK_GUESS
+#undef SOSNYAVIK_REST
 
 #ifdef __cplusplus
 }

@@ -1,5 +1,6 @@
 // What include/sosnyavik.h tells a C programmer, called: the paper's example, whole and as a window, a mistake for each
-// refusal of each call, and the examples of the reading and the summary.
+// refusal of each call, and the examples of the reading and the summary. All of it twice, by the plain calls and by
+// name; and what a request by name has where nothing is given.
 #include <stdio.h>
 #include <stdlib.h>
 #include <string.h>
@@ -60,6 +61,31 @@ static uint32_t window(const Request *q, Results *r) {
                             r->support, q->part_len);
 }
 
+// The same request by name, as the header writes its example.
+static struct sosnyavik_request by_name(const Request *q) {
+    struct sosnyavik_request request =
+        SOSNYAVIK_REQUEST(.nx = q->nx, .ny = 3, .first_guess = {q->first_guess, POINTS}, .x = {q->x, ROWS},
+                          .y = {q->y, q->y_len}, .value = {q->value, ROWS}, .observed = {q->observed, ROWS},
+                          .from = {q->from, ROWS}, .until = {q->until, ROWS}, .scans = q->scans,
+                          .radius = {q->radius, q->plan_len}, .limit = {q->limit, q->plan_len}, .time = 1000);
+    request.age = 60;
+    return request;
+}
+
+static uint32_t analyse_by_name(const Request *q, Results *r) {
+    struct sosnyavik_request request = by_name(q);
+    struct sosnyavik_results whole = {
+        .grid = {r->grid, POINTS}, .support = {r->support, POINTS}, .verdict = {r->verdict, q->verdict_len}};
+    return sosnyavik_request_analyse(&request, whole);
+}
+
+static uint32_t window_by_name(const Request *q, Results *r) {
+    struct sosnyavik_request request = by_name(q);
+    struct sosnyavik_ends ends = {.left = q->left, .right = q->right, .top = q->top, .bottom = q->bottom};
+    struct sosnyavik_results window = {.grid = {r->grid, q->part_len}, .support = {r->support, q->part_len}};
+    return sosnyavik_request_window(&request, ends, window);
+}
+
 static void must(bool holds, const char *what) {
     if (holds)
         return;
@@ -95,10 +121,12 @@ static void examples(void) {
     part.grid[0] = 672, part.grid[1] = 759;
     part.support[0] = 1, part.support[1] = 1;
     answered(analyse, &whole, "the example");
+    answered(analyse_by_name, &whole, "the example by name");
     answered(window, &part, "the window of the example");
+    answered(window_by_name, &part, "the window of the example by name");
 }
 
-// The mistakes that both calls refuse alike.
+// The mistakes that all calls with a request refuse alike.
 static void mistakes(Call *call) {
     Request q = paper;
     q.nx = 65, refused(call, q, 1, 0, "refusal 1"), q = paper;
@@ -109,21 +137,29 @@ static void mistakes(Call *call) {
     q.from[2] = 995, q.until[2] = 0, refused(call, q, 8, 2, "refusal 8");
 }
 
-static void mistakes_of_one_call(void) {
+static void mistakes_of_an_analysis(Call *call) {
     Request q = paper;
-    q.verdict_len = 2, refused(analyse, q, 3, 0, "refusal 3"), q = paper;
-    q.right = 3, refused(window, q, 2, 0, "refusal 2"), q = paper;
-    q.part_len = POINTS, refused(window, q, 3, 0, "refusal 3 of a window");
+    q.verdict_len = 2, refused(call, q, 3, 0, "refusal 3");
+}
+
+static void mistakes_of_a_window(Call *call) {
+    Request q = paper;
+    q.right = 3, refused(call, q, 2, 0, "refusal 2"), q = paper;
+    q.part_len = POINTS, refused(call, q, 3, 0, "refusal 3 of a window");
 }
 
 // Bit for bit: positive zero is not negative zero.
 static bool same(double a, double b) { return memcmp(&a, &b, sizeof a) == 0; }
 
 static void reads(size_t support_len, int32_t x, int32_t y, uint32_t kind, double value) {
-    static const int32_t field[4] = {0, 1, 0, 0};
-    static const uint8_t backed[5] = {1, 1, 1, 0, 1};
+    static int32_t field[4] = {0, 1, 0, 0};
+    static uint8_t backed[5] = {1, 1, 1, 0, 1};
+    const struct sosnyavik_request shape = {.nx = 2, .ny = 2};
+    const struct sosnyavik_results results = {.grid = {field, 4}, .support = {backed, support_len}};
     must(sosnyavik_reading_kind(2, 2, field, 4, backed, support_len, x, y) == kind, "the kind of a reading");
     must(same(sosnyavik_reading_value(2, 2, field, 4, backed, support_len, x, y), value), "a reading's double");
+    must(sosnyavik_request_reading_kind(&shape, results, x, y) == kind, "the kind of a reading by name");
+    must(same(sosnyavik_request_reading_value(&shape, results, x, y), value), "a reading's double by name");
 }
 
 static void readings(void) {
@@ -137,12 +173,18 @@ static void readings(void) {
     reads(5, 65, 0, SOSNYAVIK_REFUSED, 0.0);
 }
 
-static void summed_up(uint32_t nx, size_t length, uint32_t refusal, double lowest, double highest, double span) {
-    static const int32_t field[4] = {-32, 0, 640, 672};
-    struct sosnyavik_summary s = sosnyavik_summarise(nx, 2, field, length);
+static void says(struct sosnyavik_summary s, uint32_t refusal, double lowest, double highest, double span) {
     must(s.refusal == refusal && s.place == 0, "a summary's refusal");
     must(same(s.units.lowest, lowest) && same(s.units.highest, highest), "a summary's lowest or highest");
     must(same(s.units.span, span), "a summary's span");
+}
+
+static void summed_up(uint32_t nx, size_t length, uint32_t refusal, double lowest, double highest, double span) {
+    static int32_t field[4] = {-32, 0, 640, 672};
+    const struct sosnyavik_request shape = {.nx = nx, .ny = 2};
+    const struct sosnyavik_results results = {.grid = {field, length}};
+    says(sosnyavik_summarise(nx, 2, field, length), refusal, lowest, highest, span);
+    says(sosnyavik_request_summarise(&shape, results), refusal, lowest, highest, span);
 }
 
 static void summaries(void) {
@@ -151,13 +193,91 @@ static void summaries(void) {
     summed_up(2, 3, 1, 0.0, 0.0, 0.0);
 }
 
+// The last number of the example by name: its whole analysis, read at the point in the middle.
+static void reading_of_the_example(void) {
+    Results r;
+    struct sosnyavik_request request = by_name(&paper);
+    struct sosnyavik_results whole = {
+        .grid = {r.grid, POINTS}, .support = {r.support, POINTS}, .verdict = {r.verdict, ROWS}};
+    must(sosnyavik_request_analyse(&request, whole) == 0, "the example by name");
+    must(same(sosnyavik_request_reading_value(&request, whole, 64, 64), 11.859375), "the example's reading");
+    must(sosnyavik_request_reading_kind(&request, whole, 64, 64) == SOSNYAVIK_BACKED, "the kind of that reading");
+    says(sosnyavik_request_summarise(&request, whole), 0, 585 / 64.0, 12.0, 183 / 64.0);
+}
+
+// By name as by the plain call, over every window, of a request that is not the same with x for y or left for top.
+static void same_by_name(void) {
+    Request q = paper;
+    q.y[0] = 32, q.value[0] = 700, q.until[2] = SOSNYAVIK_NO_END;
+    for (uint32_t w = 0; w < 81; w++) {
+        Results plain, named;
+        memset(&plain, UNTOUCHED, sizeof plain);
+        memset(&named, UNTOUCHED, sizeof named);
+        q.left = w % 3, q.right = w / 3 % 3, q.top = w / 9 % 3, q.bottom = w / 27;
+        q.part_len = (size_t)(q.right - q.left + 1) * (q.bottom - q.top + 1);
+        bool is_window = q.left <= q.right && q.top <= q.bottom;
+        must(window(&q, &plain) == (is_window ? 0 : 0x00020000), "a window");
+        must(window_by_name(&q, &named) == (is_window ? 0 : 0x00020000), "a window by name");
+        must(memcmp(&plain, &named, sizeof plain) == 0, "the answer of a window by name");
+        must(analyse(&q, &plain) == 0 && analyse_by_name(&q, &named) == 0, "an analysis by name");
+        must(memcmp(&plain, &named, sizeof plain) == 0, "the answer of an analysis by name");
+    }
+}
+
+// Where no age is given, an observation of 120 minutes counts and one of 121 does not: document 01's default.
+static void age_where_none_is_given(void) {
+    Results r;
+    struct sosnyavik_request request = by_name(&paper), bare = SOSNYAVIK_REQUEST();
+    struct sosnyavik_results whole = {
+        .grid = {r.grid, POINTS}, .support = {r.support, POINTS}, .verdict = {r.verdict, ROWS}};
+    request.age = bare.age;
+    request.time = 990 + 120;
+    must(sosnyavik_request_analyse(&request, whole) == 0 && r.verdict[0] == 0, "an age of 120 where none is given");
+    request.time = 990 + 121;
+    must(sosnyavik_request_analyse(&request, whole) == 0 && r.verdict[0] == 4, "an age of 121 where none is given");
+}
+
+// Refused by its number, and nothing read through a null pointer.
+static void refuses_nothing(struct sosnyavik_request request) {
+    const struct sosnyavik_ends ends = {0, 0, 0, 0};
+    const struct sosnyavik_results none = {.grid = {NULL, 0}};
+    must(sosnyavik_request_analyse(&request, none) == 0x00010000, "a request of zeros");
+    must(sosnyavik_request_window(&request, ends, none) == 0x00010000, "a window of a request of zeros");
+    must(sosnyavik_request_reading_kind(&request, none, 0, 0) == SOSNYAVIK_REFUSED, "a reading of zeros");
+    must(same(sosnyavik_request_reading_value(&request, none, 0, 0), 0.0), "the double of a reading of zeros");
+    says(sosnyavik_request_summarise(&request, none), 1, 0.0, 0.0, 0.0);
+}
+
+// What is left out of a request is refused, and no station is no mistake.
+static void left_out(void) {
+    Results r;
+    struct sosnyavik_request zeroed, bare = SOSNYAVIK_REQUEST(), empty = by_name(&paper);
+    struct sosnyavik_results whole = {.grid = {r.grid, POINTS}, .support = {r.support, POINTS}};
+    memset(&zeroed, 0, sizeof zeroed);
+    refuses_nothing(zeroed);
+    refuses_nothing(bare);
+    bare.nx = bare.ny = 3, bare.first_guess = empty.first_guess;
+    must(sosnyavik_request_analyse(&bare, whole) == 0x00050000, "a request without a plan");
+    bare.scans = empty.scans, bare.radius = empty.radius, bare.limit = empty.limit;
+    must(sosnyavik_request_analyse(&bare, whole) == 0, "a request without stations");
+    must(memcmp(r.grid, paper.first_guess, sizeof r.grid) == 0, "the grid without stations");
+}
+
 int main(void) {
+    Call *analyses[] = {analyse, analyse_by_name}, *windows[] = {window, window_by_name};
     examples();
-    mistakes(analyse);
-    mistakes(window);
-    mistakes_of_one_call();
+    for (int i = 0; i < 2; i++) {
+        mistakes(analyses[i]);
+        mistakes(windows[i]);
+        mistakes_of_an_analysis(analyses[i]);
+        mistakes_of_a_window(windows[i]);
+    }
     readings();
     summaries();
-    puts("header: the examples, and the mistakes for refusals 1 to 8, answer as include/sosnyavik.h says");
+    reading_of_the_example();
+    same_by_name();
+    age_where_none_is_given();
+    left_out();
+    puts("header: the examples, and the mistakes for refusals 1 to 8, answer as include/sosnyavik.h says, by name too");
     return 0;
 }

@@ -4,7 +4,7 @@
  * mistake of the host's own, such as a length that is not its slice's, shows here as well.
  */
 #include "../../bench/plain.h"
-#include "sosnyavik.h"
+#include "../../tests/standin.h"
 
 #include <stdlib.h>
 #include <string.h>
@@ -15,56 +15,49 @@ static bool is_shape(uint32_t nx, uint32_t ny, size_t points) {
     return 2 <= nx && nx <= SIDE && 2 <= ny && ny <= SIDE && points == (size_t)nx * ny;
 }
 
-/* clang-format off */
-uint32_t sosnyavik_analyse(
-    uint32_t nx, uint32_t ny, const int32_t *first_guess, size_t first_guess_len,
-    const int32_t *x, size_t x_len, const int32_t *y, size_t y_len, const int32_t *value, size_t value_len,
-    const uint32_t *observed, size_t observed_len, const uint32_t *from, size_t from_len,
-    const uint32_t *until, size_t until_len,
-    uint32_t scans, const int32_t *radius, size_t radius_len, const int32_t *limit, size_t limit_len,
-    bool smooth, uint32_t time, uint32_t age,
-    int32_t *grid, size_t grid_len, uint8_t *support, size_t support_len, uint8_t *verdict, size_t verdict_len) {
-    return plain_analyse(
-        nx, ny, first_guess, first_guess_len, x, x_len, y, y_len, value, value_len,
-        observed, observed_len, from, from_len, until, until_len, scans, radius, radius_len, limit, limit_len,
-        smooth, time, age, grid, grid_len, support, support_len, verdict, verdict_len);
+static uint32_t answer_analysis(const struct sosnyavik_request *request, struct sosnyavik_results results) {
+    return plain_analyse(request, results);
 }
 
-/* The whole analysis, and the window's points out of it. */
-uint32_t sosnyavik_window(
-    uint32_t nx, uint32_t ny, const int32_t *first_guess, size_t first_guess_len,
-    uint32_t left, uint32_t right, uint32_t top, uint32_t bottom,
-    const int32_t *x, size_t x_len, const int32_t *y, size_t y_len, const int32_t *value, size_t value_len,
-    const uint32_t *observed, size_t observed_len, const uint32_t *from, size_t from_len,
-    const uint32_t *until, size_t until_len,
-    uint32_t scans, const int32_t *radius, size_t radius_len, const int32_t *limit, size_t limit_len,
-    bool smooth, uint32_t time, uint32_t age,
-    int32_t *grid, size_t grid_len, uint8_t *support, size_t support_len) {
-    if (!is_shape(nx, ny, first_guess_len))
-        return 1 * ONE;
-    if (left > right || top > bottom || right >= nx || bottom >= ny)
-        return 2 * ONE;
-    size_t columns = right - left + 1, points = columns * (bottom - top + 1);
-    if (grid_len != points || support_len != points)
-        return 3 * ONE;
-    int32_t *whole = malloc(first_guess_len * sizeof *whole);
-    uint8_t *whole_support = malloc(first_guess_len), *verdict = malloc(x_len + 1);
-    if (whole == NULL || whole_support == NULL || verdict == NULL)
+static void *allocate(size_t size) {
+    void *block = malloc(size);
+    if (block == NULL && size > 0)
         abort();
-    uint32_t returned = plain_analyse(
-        nx, ny, first_guess, first_guess_len, x, x_len, y, y_len, value, value_len,
-        observed, observed_len, from, from_len, until, until_len, scans, radius, radius_len, limit, limit_len,
-        smooth, time, age, whole, first_guess_len, whole_support, first_guess_len, verdict, x_len);
-    for (uint32_t j = top; returned == 0 && j <= bottom; j++) {
-        memcpy(grid + (j - top) * columns, whole + j * nx + left, columns * sizeof *grid);
-        memcpy(support + (j - top) * columns, whole_support + j * nx + left, columns);
+    return block;
+}
+
+/* The window's points out of the whole analysis's. */
+static void copy_window(struct sosnyavik_results whole, uint32_t nx, struct sosnyavik_ends ends,
+                        struct sosnyavik_results part) {
+    size_t columns = ends.right - ends.left + 1;
+    for (uint32_t j = ends.top; j <= ends.bottom; j++) {
+        size_t from = (size_t)j * nx + ends.left, to = (j - ends.top) * columns;
+        memcpy(part.grid.at + to, whole.grid.at + from, columns * sizeof *part.grid.at);
+        memcpy(part.support.at + to, whole.support.at + from, columns);
     }
-    free(whole);
-    free(whole_support);
-    free(verdict);
+}
+
+static uint32_t answer_window(const struct sosnyavik_request *request, struct sosnyavik_ends ends,
+                              struct sosnyavik_results results) {
+    size_t points = request->first_guess.count, rows = request->x.count;
+    if (!is_shape(request->nx, request->ny, points))
+        return 1 * ONE;
+    if (ends.left > ends.right || ends.top > ends.bottom || ends.right >= request->nx || ends.bottom >= request->ny)
+        return 2 * ONE;
+    size_t asked = (size_t)(ends.right - ends.left + 1) * (ends.bottom - ends.top + 1);
+    if (results.grid.count != asked || results.support.count != asked)
+        return 3 * ONE;
+    struct sosnyavik_results whole = {.grid = {allocate(points * sizeof(int32_t)), points},
+                                      .support = {allocate(points), points},
+                                      .verdict = {allocate(rows), rows}};
+    uint32_t returned = plain_analyse(request, whole);
+    if (returned == 0)
+        copy_window(whole, request->nx, ends, results);
+    free(whole.grid.at);
+    free(whole.support.at);
+    free(whole.verdict.at);
     return returned;
 }
-/* clang-format on */
 
 struct reading {
     uint32_t kind;

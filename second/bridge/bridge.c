@@ -39,8 +39,7 @@ enum { GUARD = 4096 };
  * ends the program, and a read beyond it is a memory checker's to find. */
 struct column {
     size_t length, size;
-    void *sent, *lent;
-    const void *address;
+    void *sent, *lent, *address;
 };
 
 /* A result between two guards. All is in one block; size and guard are bytes. */
@@ -50,10 +49,11 @@ struct result {
     void *address;
 };
 
-/* A window query has no verdict: the last of its results is not there. */
+/* What the archive is asked, and the memory behind it. A window query has no verdict: the last of its results is not
+ * there. */
 struct request {
-    uint32_t nx, ny, scans, smooth, time, age;
-    uint32_t left, right, top, bottom;
+    struct sosnyavik_request asked;
+    struct sosnyavik_ends ends;
     struct column columns[COLUMNS];
     size_t results_lent;
     struct result results[RESULTS];
@@ -109,73 +109,66 @@ static bool is_written_outside(const struct result *result) {
     return !is_whole(before, result->guard, result->pattern) || !is_whole(after, result->guard, result->pattern);
 }
 
-static void take_window(struct request *q) {
-    q->left = take_number();
-    q->right = take_number();
-    q->top = take_number();
-    q->bottom = take_number();
+static struct sosnyavik_ends take_ends(void) {
+    struct sosnyavik_ends ends;
+    ends.left = take_number();
+    ends.right = take_number();
+    ends.top = take_number();
+    ends.bottom = take_number();
+    return ends;
 }
 
+static struct sosnyavik_i32_column signed_column(const struct column *column) {
+    return (struct sosnyavik_i32_column){column->address, column->length};
+}
+
+static struct sosnyavik_u32_column unsigned_column(const struct column *column) {
+    return (struct sosnyavik_u32_column){column->address, column->length};
+}
+
+static void take_columns(struct request *q, bool null) {
+    struct column *in = q->columns;
+    for (size_t c = 0; c < COLUMNS; c++)
+        in[c] = take_column(sizeof(uint32_t), null);
+    q->asked.first_guess = signed_column(&in[FIRST_GUESS]);
+    q->asked.x = signed_column(&in[X]);
+    q->asked.y = signed_column(&in[Y]);
+    q->asked.value = signed_column(&in[VALUE]);
+    q->asked.observed = unsigned_column(&in[OBSERVED]);
+    q->asked.from = unsigned_column(&in[FROM]);
+    q->asked.until = unsigned_column(&in[UNTIL]);
+    q->asked.radius = signed_column(&in[RADIUS]);
+    q->asked.limit = signed_column(&in[LIMIT]);
+}
+
+/* Every member comes, and none is left to its default. */
 static struct request take_request(enum function function) {
     struct request q = {.results_lent = function == WINDOW ? VERDICT : RESULTS};
     bool null = take_number() != 0;
     unsigned char pattern = (unsigned char)take_number();
-    q.nx = take_number();
-    q.ny = take_number();
-    q.scans = take_number();
-    q.smooth = take_number();
-    q.time = take_number();
-    q.age = take_number();
+    q.asked.nx = take_number();
+    q.asked.ny = take_number();
+    q.asked.scans = take_number();
+    q.asked.smooth = take_number() != 0;
+    q.asked.time = take_number();
+    q.asked.age = take_number();
     if (function == WINDOW)
-        take_window(&q);
-    for (size_t c = 0; c < COLUMNS; c++)
-        q.columns[c] = take_column(sizeof(uint32_t), null);
+        q.ends = take_ends();
+    take_columns(&q, null);
     for (size_t r = 0; r < q.results_lent; r++)
         q.results[r] = take_result(r == GRID ? sizeof(int32_t) : sizeof(uint8_t), pattern, null);
     return q;
 }
 
-/* clang-format off */
-static uint32_t call_analyse(const struct request *q) {
-    const struct column *in = q->columns;
+static uint32_t call(enum function function, const struct request *q) {
     const struct result *out = q->results;
-    return sosnyavik_analyse(
-        q->nx, q->ny, in[FIRST_GUESS].address, in[FIRST_GUESS].length,
-        in[X].address, in[X].length,
-        in[Y].address, in[Y].length,
-        in[VALUE].address, in[VALUE].length,
-        in[OBSERVED].address, in[OBSERVED].length,
-        in[FROM].address, in[FROM].length,
-        in[UNTIL].address, in[UNTIL].length,
-        q->scans,
-        in[RADIUS].address, in[RADIUS].length,
-        in[LIMIT].address, in[LIMIT].length,
-        q->smooth != 0, q->time, q->age,
-        out[GRID].address, out[GRID].length,
-        out[SUPPORT].address, out[SUPPORT].length,
-        out[VERDICT].address, out[VERDICT].length);
+    struct sosnyavik_results results = {.grid = {out[GRID].address, out[GRID].length},
+                                        .support = {out[SUPPORT].address, out[SUPPORT].length},
+                                        .verdict = {out[VERDICT].address, out[VERDICT].length}};
+    if (function == WINDOW)
+        return sosnyavik_request_window(&q->asked, q->ends, results);
+    return sosnyavik_request_analyse(&q->asked, results);
 }
-
-static uint32_t call_window(const struct request *q) {
-    const struct column *in = q->columns;
-    const struct result *out = q->results;
-    return sosnyavik_window(
-        q->nx, q->ny, in[FIRST_GUESS].address, in[FIRST_GUESS].length,
-        q->left, q->right, q->top, q->bottom,
-        in[X].address, in[X].length,
-        in[Y].address, in[Y].length,
-        in[VALUE].address, in[VALUE].length,
-        in[OBSERVED].address, in[OBSERVED].length,
-        in[FROM].address, in[FROM].length,
-        in[UNTIL].address, in[UNTIL].length,
-        q->scans,
-        in[RADIUS].address, in[RADIUS].length,
-        in[LIMIT].address, in[LIMIT].length,
-        q->smooth != 0, q->time, q->age,
-        out[GRID].address, out[GRID].length,
-        out[SUPPORT].address, out[SUPPORT].length);
-}
-/* clang-format on */
 
 static uint32_t flags_of(const struct request *q) {
     uint32_t flags = 0;
@@ -195,7 +188,7 @@ static void release(struct request *q) {
 
 static void answer_request(enum function function) {
     struct request q = take_request(function);
-    give_number(function == WINDOW ? call_window(&q) : call_analyse(&q));
+    give_number(call(function, &q));
     give_number(flags_of(&q));
     for (size_t r = 0; r < q.results_lent; r++)
         give(q.results[r].block + q.results[r].guard, q.results[r].size);
@@ -226,18 +219,7 @@ static struct query take_query(enum function function) {
 
 static void give_double(double value) { give(&value, sizeof value); }
 
-static void give_kind(const struct query *q) {
-    give_number(sosnyavik_reading_kind(q->nx, q->ny, q->field.address, q->field.length, q->support.address,
-                                       q->support.length, q->x, q->y));
-}
-
-static void give_value(const struct query *q) {
-    give_double(sosnyavik_reading_value(q->nx, q->ny, q->field.address, q->field.length, q->support.address,
-                                        q->support.length, q->x, q->y));
-}
-
-static void give_summary(const struct query *q) {
-    struct sosnyavik_summary summary = sosnyavik_summarise(q->nx, q->ny, q->field.address, q->field.length);
+static void give_summary(struct sosnyavik_summary summary) {
     give_number(summary.refusal);
     give_number(summary.place);
     give_double(summary.units.lowest);
@@ -247,12 +229,15 @@ static void give_summary(const struct query *q) {
 
 static void answer_query(enum function function) {
     struct query q = take_query(function);
+    struct sosnyavik_request shape = {.nx = q.nx, .ny = q.ny};
+    struct sosnyavik_results field = {.grid = {q.field.address, q.field.length},
+                                      .support = {q.support.address, q.support.length}};
     if (function == KIND)
-        give_kind(&q);
+        give_number(sosnyavik_request_reading_kind(&shape, field, q.x, q.y));
     else if (function == VALUE_AT)
-        give_value(&q);
+        give_double(sosnyavik_request_reading_value(&shape, field, q.x, q.y));
     else
-        give_summary(&q);
+        give_summary(sosnyavik_request_summarise(&shape, field));
     bool support_changed = function != SUMMARY && is_changed(&q.support);
     give_number((uint32_t)is_changed(&q.field) | (uint32_t)support_changed << 1);
     release_column(&q.field);

@@ -5,7 +5,7 @@
  * own, and says its four ends at the end of grid. A reading and a summary are made of all that they got; some x, or
  * field[0], ask for a fault.
  */
-#include "sosnyavik.h"
+#include "../../../tests/standin.h"
 
 #include <stdlib.h>
 #include <string.h>
@@ -24,103 +24,76 @@ static int32_t *tell(int32_t *to, const struct column *column) {
     return to + 3;
 }
 
-/* clang-format off */
-uint32_t sosnyavik_analyse(
-    uint32_t nx, uint32_t ny, const int32_t *first_guess, size_t first_guess_len,
-    const int32_t *x, size_t x_len,
-    const int32_t *y, size_t y_len,
-    const int32_t *value, size_t value_len,
-    const uint32_t *observed, size_t observed_len,
-    const uint32_t *from, size_t from_len,
-    const uint32_t *until, size_t until_len,
-    uint32_t scans,
-    const int32_t *radius, size_t radius_len,
-    const int32_t *limit, size_t limit_len,
-    bool smooth, uint32_t time, uint32_t age,
-    int32_t *grid, size_t grid_len,
-    uint8_t *support, size_t support_len,
-    uint8_t *verdict, size_t verdict_len) {
-    const struct column columns[COLUMNS] = {
-        {(uint32_t *)first_guess, first_guess_len},
-        {(uint32_t *)x, x_len},
-        {(uint32_t *)y, y_len},
-        {(uint32_t *)value, value_len},
-        {(uint32_t *)observed, observed_len},
-        {(uint32_t *)from, from_len},
-        {(uint32_t *)until, until_len},
-        {(uint32_t *)radius, radius_len},
-        {(uint32_t *)limit, limit_len},
-    };
-    /* clang-format on */
-    uint32_t nulls = (grid == NULL) + (support == NULL) + (verdict == NULL);
-    for (size_t c = 0; c < COLUMNS; c++)
-        nulls += columns[c].numbers == NULL;
-    if (grid_len == 0)
-        return nulls;
-
-    int32_t numbers[] = {(int32_t)nx, (int32_t)ny, (int32_t)scans, smooth, (int32_t)time, (int32_t)age};
-    memcpy(grid, numbers, sizeof numbers);
-    int32_t *to = grid + sizeof numbers / sizeof *numbers;
-    for (size_t c = 0; c < COLUMNS; c++)
-        to = tell(to, &columns[c]);
-    to[0] = (int32_t)grid_len;
-    to[1] = (int32_t)support_len;
-    to[2] = (int32_t)verdict_len;
-    memset(support, 1, support_len);
-    memset(verdict, 2, verdict_len);
-
-    switch (time) {
+static void write_outside(struct sosnyavik_results results, uint32_t fault) {
+    switch (fault) {
     case OUTSIDE:
-        grid[-1] = 0;
+        results.grid.at[-1] = 0;
         break;
     case OUTSIDE + 1:
-        grid[grid_len] = 0;
+        results.grid.at[results.grid.count] = 0;
         break;
     case OUTSIDE + 2:
-        support[-1] = 0;
+        results.support.at[-1] = 0;
         break;
     case OUTSIDE + 3:
-        support[support_len] = 0;
+        results.support.at[results.support.count] = 0;
         break;
     case OUTSIDE + 4:
-        verdict[-4096] = 0;
+        results.verdict.at[-4096] = 0;
         break;
     case OUTSIDE + 5:
-        verdict[verdict_len + 4095] = 0;
+        results.verdict.at[results.verdict.count + 4095] = 0;
         break;
     case ABORTS:
         abort();
     }
-    if (CHANGES <= time && time < CHANGES + COLUMNS)
-        columns[time - CHANGES].numbers[columns[time - CHANGES].length - 1] ^= 1;
+}
+
+static uint32_t answer_analysis(const struct sosnyavik_request *q, struct sosnyavik_results results) {
+    const struct column columns[COLUMNS] = {
+        {(uint32_t *)q->first_guess.at, q->first_guess.count},
+        {(uint32_t *)q->x.at, q->x.count},
+        {(uint32_t *)q->y.at, q->y.count},
+        {(uint32_t *)q->value.at, q->value.count},
+        {(uint32_t *)q->observed.at, q->observed.count},
+        {(uint32_t *)q->from.at, q->from.count},
+        {(uint32_t *)q->until.at, q->until.count},
+        {(uint32_t *)q->radius.at, q->radius.count},
+        {(uint32_t *)q->limit.at, q->limit.count},
+    };
+    uint32_t nulls = (results.grid.at == NULL) + (results.support.at == NULL) + (results.verdict.at == NULL);
+    for (size_t c = 0; c < COLUMNS; c++)
+        nulls += columns[c].numbers == NULL;
+    if (results.grid.count == 0)
+        return nulls;
+
+    int32_t numbers[] = {(int32_t)q->nx, (int32_t)q->ny,   (int32_t)q->scans,
+                         q->smooth,      (int32_t)q->time, (int32_t)q->age};
+    memcpy(results.grid.at, numbers, sizeof numbers);
+    int32_t *to = results.grid.at + sizeof numbers / sizeof *numbers;
+    for (size_t c = 0; c < COLUMNS; c++)
+        to = tell(to, &columns[c]);
+    to[0] = (int32_t)results.grid.count;
+    to[1] = (int32_t)results.support.count;
+    to[2] = (int32_t)results.verdict.count;
+    memset(results.support.at, 1, results.support.count);
+    memset(results.verdict.at, 2, results.verdict.count);
+
+    write_outside(results, q->time);
+    if (CHANGES <= q->time && q->time < CHANGES + COLUMNS)
+        columns[q->time - CHANGES].numbers[columns[q->time - CHANGES].length - 1] ^= 1;
     return nulls;
 }
 
-/* clang-format off */
-uint32_t sosnyavik_window(
-    uint32_t nx, uint32_t ny, const int32_t *first_guess, size_t first_guess_len,
-    uint32_t left, uint32_t right, uint32_t top, uint32_t bottom,
-    const int32_t *x, size_t x_len,
-    const int32_t *y, size_t y_len,
-    const int32_t *value, size_t value_len,
-    const uint32_t *observed, size_t observed_len,
-    const uint32_t *from, size_t from_len,
-    const uint32_t *until, size_t until_len,
-    uint32_t scans,
-    const int32_t *radius, size_t radius_len,
-    const int32_t *limit, size_t limit_len,
-    bool smooth, uint32_t time, uint32_t age,
-    int32_t *grid, size_t grid_len,
-    uint8_t *support, size_t support_len) {
-    /* clang-format on */
+static uint32_t answer_window(const struct sosnyavik_request *q, struct sosnyavik_ends ends,
+                              struct sosnyavik_results results) {
     uint8_t verdict[1];
-    int32_t ends[] = {(int32_t)left, (int32_t)right, (int32_t)top, (int32_t)bottom};
-    if (grid_len != 0)
-        memcpy(grid + grid_len - sizeof ends / sizeof *ends, ends, sizeof ends);
-    return sosnyavik_analyse(nx, ny, first_guess, first_guess_len, x, x_len, y, y_len, value, value_len, observed,
-                             observed_len, from, from_len, until, until_len, scans, radius, radius_len, limit,
-                             limit_len, smooth, time, age, grid, grid_len, support, support_len, verdict,
-                             sizeof verdict);
+    int32_t said[] = {(int32_t)ends.left, (int32_t)ends.right, (int32_t)ends.top, (int32_t)ends.bottom};
+    if (results.grid.count != 0)
+        memcpy(results.grid.at + results.grid.count - sizeof said / sizeof *said, said, sizeof said);
+    results.verdict.at = verdict;
+    results.verdict.count = sizeof verdict;
+    return answer_analysis(q, results);
 }
 
 enum { CHANGES_FIELD = -7, CHANGES_SUPPORT = -8 };

@@ -1,0 +1,83 @@
+// The example of include/sosnyavik.h from C++: by the plain calls, and by name as C++11 writes it and, from C++20 on,
+// with designated initialisers. What is left out has its default.
+#include <cstdio>
+#include <cstdlib>
+#include <cstring>
+
+#include "sosnyavik.h"
+
+namespace {
+
+const int32_t first_guess[9] = {640, 640, 640, 640, 640, 640, 640, 640, 640};
+const int32_t x[3] = {64, 0, 128}, y[3] = {64, 0, 128}, value[3] = {768, 576, 700};
+const uint32_t observed[3] = {990, 1000, 990}, from[3] = {0, 0, 0};
+const uint32_t until[3] = {SOSNYAVIK_NO_END, SOSNYAVIK_NO_END, 995};
+const int32_t radius[1] = {96}, limit[1] = {200};
+
+struct Answer {
+    int32_t grid[9];
+    uint8_t support[9], verdict[3];
+};
+
+void must(bool holds, const char *what) {
+    if (holds)
+        return;
+    std::fprintf(stderr, "header: %s, from C++, is not as include/sosnyavik.h says\n", what);
+    std::exit(1);
+}
+
+void must_answer(const sosnyavik_request &request, const Answer &expected, const char *what) {
+    Answer whole = {}, part = {};
+    sosnyavik_results results;
+    results.grid = {whole.grid, 9};
+    results.support = {whole.support, 9};
+    results.verdict = {whole.verdict, 3};
+    must(sosnyavik_request_analyse(&request, results) == 0, what);
+    must(std::memcmp(&whole, &expected, sizeof whole) == 0, what);
+    must(sosnyavik_request_reading_value(&request, results, 64, 64) == 11.859375, what);
+    must(sosnyavik_request_reading_kind(&request, results, 64, 64) == SOSNYAVIK_BACKED, what);
+    must(sosnyavik_request_summarise(&request, results).units.highest == 12.0, what);
+    results.grid = {part.grid, 2};
+    results.support = {part.support, 2};
+    must(sosnyavik_request_window(&request, {0, 1, 1, 1}, results) == 0, what);
+    must(part.grid[0] == expected.grid[3] && part.grid[1] == expected.grid[4], what);
+}
+
+sosnyavik_request by_assignment() {
+    sosnyavik_request request = SOSNYAVIK_REQUEST();
+    must(request.age == SOSNYAVIK_DEFAULT_AGE && request.x.at == nullptr && !request.smooth, "what is left out");
+    request.nx = 3, request.ny = 3, request.first_guess = {first_guess, 9};
+    request.x = {x, 3}, request.y = {y, 3}, request.value = {value, 3};
+    request.observed = {observed, 3}, request.from = {from, 3}, request.until = {until, 3};
+    request.scans = 1, request.radius = {radius, 1}, request.limit = {limit, 1};
+    request.time = 1000, request.age = 60;
+    return request;
+}
+
+#if __cplusplus >= 202002L
+// Members in their order, some left out in the middle and at the end, and age given in its place.
+void try_designated(const Answer &expected) {
+    sosnyavik_request request =
+        SOSNYAVIK_REQUEST(.nx = 3, .ny = 3, .first_guess = {first_guess, 9}, .x = {x, 3}, .y = {y, 3},
+                          .value = {value, 3}, .observed = {observed, 3}, .from = {from, 3}, .until = {until, 3},
+                          .scans = 1, .radius = {radius, 1}, .limit = {limit, 1}, .time = 1000, .age = 60);
+    must_answer(request, expected, "the example with designated initialisers");
+    sosnyavik_request bare = SOSNYAVIK_REQUEST(.nx = 3, .time = 1000);
+    must(bare.age == SOSNYAVIK_DEFAULT_AGE && bare.until.count == 0, "what is not designated");
+}
+#else
+void try_designated(const Answer &) {}
+#endif
+
+} // namespace
+
+int main() {
+    Answer plain = {};
+    must(sosnyavik_analyse(3, 3, first_guess, 9, x, 3, y, 3, value, 3, observed, 3, from, 3, until, 3, 1, radius, 1,
+                           limit, 1, false, 1000, 60, plain.grid, 9, plain.support, 9, plain.verdict, 3) == 0,
+         "the example");
+    must(plain.grid[0] == 585 && plain.grid[4] == 759 && plain.verdict[2] == 2, "the example");
+    must_answer(by_assignment(), plain, "the example by name");
+    try_designated(plain);
+    std::printf("header: the example from C++ %ld, by name too\n", __cplusplus);
+}
