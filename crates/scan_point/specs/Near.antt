@@ -202,6 +202,15 @@ near-is-accepted verdict y j r2 h = go (isAccepted verdict) (eqb-true verdict 0)
     go true f l = (f refl, refl)
     go false f l = absurd (omega arith)
 
+-- a row of room is a row of room after a store
+roomy-set : (lx : List ℤ) (ly : List ℕ) (ld : List ℤ) (n : ℕ) (x : ℤ) (y : ℕ) (d : ℤ) → Roomy lx ly ld → Roomy (set lx n x) (set ly n y) (set ld n d)
+roomy-set lx ly ld n x y d r =
+    record {
+      x-long = length-set lx n x ∙ r .x-long;
+      y-long = length-set ly n y ∙ r .y-long;
+      d-long = length-set ld n d ∙ r .d-long;
+    }
+
 module _ (all : Stations) (r2 j : ℕ) (bounded : r2 ≤ mostSquare) (ok : Ready all)
     (lx : List ℤ) (ly : List ℕ) (ld : List ℤ) (room : Roomy lx ly ld) (n k : ℕ) (turn : k < all .count) (near : Near lx ly ld n all r2 j k) where
   abbrev gap : ℕ
@@ -300,21 +309,17 @@ module _ (all : Stations) (r2 j : ℕ) (bounded : r2 ≤ mostSquare) (ok : Ready
               ∙ sym (upTo-next nothing plus k (shareAt all r2 i j));
         }
 
-  pub near-step : Near lx' ly' ld' (n + cond (ltb gap r2) 1 0) all r2 j (k + 1)
+  near-step : Near lx' ly' ld' (n + cond (ltb gap r2) 1 0) all r2 j (k + 1)
   near-step = go (lt-or-le gap r2)
     where
       go : (gap < r2) ⊎ (r2 ≤ gap) → Near lx' ly' ld' (n + cond (ltb gap r2) 1 0) all r2 j (k + 1)
       go (inl h) = rw (lt-ltb gap r2 h) (near-gathered h)
       go (inr h) = rw (le-ltb gap r2 h, add-zero n) (far-step h)
 
--- a row of room is a row of room after a store
-pub roomy-set : (lx : List ℤ) (ly : List ℕ) (ld : List ℤ) (n : ℕ) (x : ℤ) (y : ℕ) (d : ℤ) → Roomy lx ly ld → Roomy (set lx n x) (set ly n y) (set ld n d)
-roomy-set lx ly ld n x y d r =
-    record {
-      x-long = length-set lx n x ∙ r .x-long;
-      y-long = length-set ly n y ∙ r .y-long;
-      d-long = length-set ld n d ∙ r .d-long;
-    }
+  -- a turn, of the values that the code has
+  pub near-turn : {x d : ℤ} {g one : ℕ} → x ≡ xAt all k → d ≡ dAt all k → g ≡ gap → one ≡ cond (ltb g r2) 1 0
+      → Roomy (set lx n x) (set ly n g) (set ld n d) × Near (set lx n x) (set ly n g) (set ld n d) (n + one) all r2 j (k + 1)
+  near-turn ex ed eg eo = rw (eo, eg, ex, ed) (roomy-set lx ly ld n (xAt all k) gap (dAt all k) room, near-step)
 
 -- the sums over all rows are small too
 module _ (all : Stations) (r2 i j : ℕ) (ok : Ready all) where

@@ -200,7 +200,17 @@ pub fn correct(
     let mut ld = [0i64; 512];
     let mut j: usize = 0;
     while j < t.ny {
-        let n = near_row(&mut lx, &mut ly, &mut ld, t.stations, numbers, verdict, d, r2, j);
+        let n = near_row(
+            &mut lx,
+            &mut ly,
+            &mut ld,
+            t.stations,
+            numbers,
+            verdict,
+            d,
+            r2,
+            j,
+        );
         correct_row(z, support, j * t.nx, t.nx, &lx, &ly, &ld, n, r2, bit);
         j += 1;
     }

@@ -1,99 +1,129 @@
+-- `scan_point::near_row` meets its contract. The loop's invariant: the stations gathered give what the rows passed give. Assumes nothing.
+use Prim.Native.Nat.{ℕ, _-_, _≤_, _<_}
+use native.Mathlib.Omega.{arith}
+use borrow.Author.Needs.{needs, sfits-of}
+use mathlib.Core.Path.{_≡_, ap, _∙_}
+use mathlib.Core.Bool.{Bool, true, false, cond}
+use lib.Dec.{ltb}
+use lib.IntN.{ℤ}
+use mir.Syntax.{w32, w64}
+use mir.Facts.{toZ-ofZ}
+use Rattle.scheme.specs.Units.{mostStations}
+use Rattle.scan_point.specs.Near.{Stations, stationsWith, xAt, yAt, verdictAt, dAt, rowGap, Roomy, Near, near-none, near-turn}
 use Rattle.scan_point.proofs.near_row.Statement.{statement}
 use Rattle.scan_point.proofs.near_row.Tie as tie
-use Rattle.scan_point.proofs.near_row.Reads as reads
-use Rattle.scan_point.proofs.near_row.Lts as lts
-use Rattle.scan_point.proofs.one_if_below.Reads as one-if-below-reads
-use Rattle.scan_point.proofs.row_gap.Reads as row-gap-reads
 
 abbrev Inv-loop : tie.InvT-loop
-Inv-loop lx₀ ly₀ ld₀ stations numbers verdict d r2 j n₀ k₀ lx ly ld n k = ?
+Inv-loop lx₀ ly₀ ld₀ stations numbers verdict d r2 j n₀ k₀ lx ly ld n k =
+    (k ≤ stations) × Roomy lx ly ld × Near lx ly ld n (stationsWith stations numbers verdict d) r2 j k
 
 abbrev μ-loop : tie.MeasureT-loop
-μ-loop lx₀ ly₀ ld₀ stations numbers verdict d r2 j n₀ k₀ lx ly ld n k = ?
+μ-loop lx₀ ly₀ ld₀ stations numbers verdict d r2 j n₀ k₀ lx ly ld n k = stations - k
 
--- src/lib.rt:143:5
+-- a turn, at row k
+module _ (c : tie.In-loop Inv-loop μ-loop) where
+  abbrev start : tie.Start Inv-loop μ-loop
+  start = c .before .before .before
+
+  abbrev all : Stations
+  all = stationsWith (start .args .stations) (start .args .numbers .now) (start .args .verdict .now) (start .args .d .now)
+
+  abbrev k : ℕ
+  k = c .before .loop .k
+
+  few : k < mostStations
+  few = omega (arith, c .loop-test .taken, start .pre .2 .few)
+
+  room : c .before .loop .n < mostStations
+  room = omega (arith, few, c .before .loop .inv .2 .no-more)
+
+at-most-one : (b : Bool) → cond b 1 0 ≤ 1
+at-most-one true = omega arith
+at-most-one false = omega arith
+
+-- the turn of its last call
+abbrev turn : tie.After-one-if-below Inv-loop μ-loop → tie.In-loop Inv-loop μ-loop
+turn c = c .before .before .before .before .before .before .before
+
 loop-holds : tie.Need-loop-holds Inv-loop μ-loop
-loop-holds c = ?
+loop-holds c =
+    let a = c .before .args in
+    (omega arith, c .before .pre .3, near-none (a .lx .now) (a .ly .now) (a .ld .now) (stationsWith (a .stations) (a .numbers .now) (a .verdict .now) (a .d .now)) (a .r2) (a .j))
 
--- src/lib.rt:144:19
 mul-row : tie.Need-mul-row Inv-loop μ-loop
-mul-row c = ?
+mul-row c = omega (arith, few c)
 
--- src/lib.rt:144:19
 element-copy-out-row : tie.Need-element-copy-out-row Inv-loop μ-loop
-element-copy-out-row c = ?
+element-copy-out-row c = few c
 
--- src/lib.rt:145:27
 shared-slice-read-row-gap : tie.Need-shared-slice-read-row-gap Inv-loop μ-loop
-shared-slice-read-row-gap c = ?
+shared-slice-read-row-gap c = let t = c .before .before in omega (arith, t .loop-test .taken, start t .pre .2 .len-st)
 
--- src/lib.rt:145:39
 array-copy-out-row-gap : tie.Need-array-copy-out-row-gap Inv-loop μ-loop
-array-copy-out-row-gap c = ?
+array-copy-out-row-gap c = search needs
 
--- src/lib.rt:145:13
 row-gap-requires : tie.Need-row-gap-requires Inv-loop μ-loop
-row-gap-requires c κs = ?
+row-gap-requires c κs =
+    let t = c .before .before .before in
+    (start t .pre .1, λ e. rw (toZ-ofZ {w = w32} (sfits-of {z = yAt (all t) (k t)} (c .row-gap-arg .given))) (start t .pre .2 .inside (k t) (t .loop-test .taken) e .y-small))
 
--- src/lib.rt:146:17
 array-copy-out-lx : tie.Need-array-copy-out-lx Inv-loop μ-loop
-array-copy-out-lx c = ?
+array-copy-out-lx c = search needs
 
--- src/lib.rt:146:9
 mul-t15 : tie.Need-mul-t15 Inv-loop μ-loop
-mul-t15 c = ?
+mul-t15 c = omega (arith, room (c .before .before .before .before .before))
 
--- src/lib.rt:146:9
 element-set-from-lx : tie.Need-element-set-from-lx Inv-loop μ-loop
-element-set-from-lx c = ?
+element-set-from-lx c = room (c .before .before .before .before .before)
 
--- src/lib.rt:147:9
 mul-ly : tie.Need-mul-ly Inv-loop μ-loop
-mul-ly c = ?
+mul-ly c = omega (arith, room (c .before .before .before .before .before))
 
--- src/lib.rt:147:9
 element-write-ly : tie.Need-element-write-ly Inv-loop μ-loop
-element-write-ly c = ?
+element-write-ly c = room (c .before .before .before .before .before)
 
--- src/lib.rt:148:17
 mul-ld : tie.Need-mul-ld Inv-loop μ-loop
-mul-ld c = ?
+mul-ld c = omega (arith, few (c .before .before .before .before .before))
 
--- src/lib.rt:148:17
 element-copy-out-ld : tie.Need-element-copy-out-ld Inv-loop μ-loop
-element-copy-out-ld c = ?
+element-copy-out-ld c = few (c .before .before .before .before .before)
 
--- src/lib.rt:148:9
 mul-t33 : tie.Need-mul-t33 Inv-loop μ-loop
-mul-t33 c = ?
+mul-t33 c = omega (arith, room (c .before .before .before .before .before .before))
 
--- src/lib.rt:148:9
 element-set-from-ld : tie.Need-element-set-from-ld Inv-loop μ-loop
-element-set-from-ld c = ?
+element-set-from-ld c = room (c .before .before .before .before .before .before)
 
--- src/lib.rt:149:14
 one-if-below-requires : tie.Need-one-if-below-requires Inv-loop μ-loop
-one-if-below-requires c κs = ?
+one-if-below-requires c κs = search needs
 
--- src/lib.rt:149:9
 add-n : tie.Need-add-n Inv-loop μ-loop
-add-n c = ?
+add-n c = omega (arith, room (turn c), c .one-if-below .ensures, at-most-one (ltb (c .before .before .before .row-gap .result) (start (turn c) .args .r2)))
 
--- src/lib.rt:150:9
 add-k : tie.Need-add-k Inv-loop μ-loop
-add-k c = ?
+add-k c = omega (arith, few (turn c))
 
--- src/lib.rt:143:5
 loop-less : tie.Need-loop-less Inv-loop μ-loop
-loop-less c = ?
+loop-less c = let h = turn c .loop-test .taken in omega arith
 
--- src/lib.rt:143:5
 loop-again : tie.Need-loop-again Inv-loop μ-loop
-loop-again c = ?
+loop-again c =
+    let t = turn c in
+    let l = t .before .loop in
+    let p = start t .pre in
+    let g = c .before .before .before in
+    let y-is = toZ-ofZ {w = w32} (sfits-of {z = yAt (all t) (k t)} (g .before .row-gap-arg .given)) in
+    let (roomy, near) =
+    near-turn (all t) (start t .args .r2) (start t .args .j) (p .0) (p .2) (l .lx) (l .ly) (l .ld) (l .inv .1) (l .n) (k t) (t .loop-test .taken) (l .inv .2)
+    (toZ-ofZ {w = w32} (sfits-of {z = xAt (all t) (k t)} (c .before .before .lx .given))) (toZ-ofZ {w = w64} (sfits-of {z = dAt (all t) (k t)} (c .before .ld .given)))
+    (g .row-gap .ensures ∙ ap (λ (y : ℤ). rowGap (verdictAt (all t) (k t)) y (start t .args .j) (start t .args .r2)) y-is) (c .one-if-below .ensures) in
+    (omega (arith, t .loop-test .taken), roomy, near)
 
--- src/lib.rt:126:1
 returns : tie.Need-returns Inv-loop μ-loop
-returns c = ?
+returns c =
+    let l = c .before .loop in
+    let e : l .k ≡ c .before .before .before .args .stations = omega arith in
+    (l .inv .1, rw e at (l .inv .2))
 
 pub near-row-spec : {M : Type 1} → statement M
 near-row-spec =
