@@ -33,7 +33,11 @@ pub record OnGrid (nx ny : ℕ) (row : List ℤ) : Type 0 where
   pub y : Along ny (getD row 1 (pos 0))
   pub value : natAbs (getD row 2 (pos 0)) ≤ mostValue
 
--- what judging needs: an accepted row is on the grid
+-- every accepted row is
+abbrev pub AcceptedOnGrid : Terms → List (List ℤ) → List ℕ → Type 0
+AcceptedOnGrid t numbers st = (k : ℕ) → k < t .stations → getD st k 0 ≡ 0 → OnGrid (t .nx) (t .ny) (getD numbers k [])
+
+-- what judging needs
 pub record JudgeReady (z : List ℤ) (st : List ℕ) (ds : List ℤ) (t : Terms) (numbers : List (List ℤ)) (scan : ℕ) : Type 0 where
   pub shape : Shaped (t .nx) (t .ny) (length z)
   pub small : (k : ℕ) → natAbs (getD z k (pos 0)) ≤ mostField
@@ -41,7 +45,7 @@ pub record JudgeReady (z : List ℤ) (st : List ℕ) (ds : List ℤ) (t : Terms)
   pub len-st : length st ≡ t .stations
   pub long : length ds ≡ mostStations
   pub scan-few : scan ≤ mostScans
-  pub on-grid : (k : ℕ) → k < t .stations → getD st k 0 ≡ 0 → OnGrid (t .nx) (t .ny) (getD numbers k [])
+  pub on-grid : AcceptedOnGrid t numbers st
 
 -- the difference of a row from a stored field, 0 for one that is not accepted
 unfoldable pub diffOf : List ℤ → (nx ny verdict : ℕ) → List ℤ → ℤ
