@@ -1,27 +1,65 @@
 -- `scans::scan` meets its contract: each of its three parts finds what it needs, and leaves what Scanned says. Assumes nothing.
+use Prim.Native.Nat.{_+_}
 use borrow.Author.Needs.{needs}
-use mathlib.Core.Path.{_∙_}
+use mathlib.Core.Path.{_≡_, _∙_}
+use Rattle.lists.specs.Filled.{Filled}
+use Rattle.scheme.specs.Units.{stored, E}
+use Rattle.request.specs.Tables.{planIn}
+use Rattle.scan_station.specs.Judge.{verdictAt}
+use Rattle.scan_point.specs.Near.{Stations, stationsWith}
+use Rattle.scan_point.specs.Pass.{corrected, backed}
+use Rattle.scans.specs.Scanned.{r2In}
 use Rattle.scans.specs.Ready.{judge-ready, pass-ready, smooth-shaped, smooth-small, scanned}
 use Rattle.scans.proofs.scan.Statement.{statement}
 use Rattle.scans.proofs.scan.Tie as tie
 
+-- what judging leaves
+module _ (c : tie.After-judge) where
+  abbrev s : tie.Start
+  s = c .before .before .before .before .before .before .before
+
+  judged : Filled 0 (verdictAt (s .args .z .now) (s .args .t) (s .args .numbers .now) (s .args .verdict .now) (s .args .m + 1) (E (planIn (s .args .t)) (s .args .m))) 0 (s .args .t .stations) (s .args .verdict .now) (c .judge .last .1 .0)
+  judged = rw (c .before .limit-of .ensures) at (c .judge .ensures .1)
+
+-- and what the correction leaves
+module _ (c : tie.After-correct) where
+  abbrev j : tie.After-judge
+  j = c .before .before .before .before .before .before .before .before
+
+  abbrev all : Stations
+  all = stationsWith (s j .args .t .stations) (s j .args .numbers .now) (j .judge .last .1 .0) (j .judge .last .1 .1 .0)
+
+  values : c .correct .last .0 ≡ stored (s j .args .t .nx) (s j .args .t .ny) (corrected (s j .args .z .now) (s j .args .t .nx) all (r2In (s j .args .t) (s j .args .m)))
+  values = rw (c .before .radius-of .ensures) at (c .correct .ensures .0)
+
+  supports : c .correct .last .1 .0 ≡ stored (s j .args .t .nx) (s j .args .t .ny) (backed (s j .args .support .now) (s j .args .t .nx) all (r2In (s j .args .t) (s j .args .m)) (s j .args .bit))
+  supports = rw (c .before .radius-of .ensures) at (c .correct .ensures .1)
+
+limit-of-requires : tie.Need-limit-of-requires
+limit-of-requires c κs = search needs
+
+cast-judge : tie.Need-cast-judge
+cast-judge c = search needs
+
+add-judge : tie.Need-add-judge
+add-judge c = search needs
+
 judge-requires : tie.Need-judge-requires
-judge-requires c κs = judge-ready (c .before .before .before .before .before .pre)
+judge-requires c κs = judge-ready (c .before .before .before .before .before .before .pre)
+
+radius-of-requires : tie.Need-radius-of-requires
+radius-of-requires c κs = search needs
 
 correct-requires : tie.Need-correct-requires
 correct-requires c κs =
-    let j = c .before .before .before .before .before .before in
-    let s = j .before .before .before .before .before .before in
-    pass-ready (s .pre) (j .judge .ensures .1) (j .judge .ensures .0)
+    let j = c .before .before .before .before .before .before .before in
+    rw (c .radius-of .ensures) (pass-ready (s j .pre) (judged j) (j .judge .ensures .0))
 
 smooth-if-requires : tie.Need-smooth-if-requires
 smooth-if-requires c κs =
     let k = c .before .before .before .before in
-    let j = k .before .before .before .before .before .before .before in
-    let s = j .before .before .before .before .before .before in (
-      smooth-shaped (s .pre) (j .judge .ensures .1) (j .judge .ensures .0) (k .correct .ensures .0),
-      smooth-small (s .pre) (j .judge .ensures .1) (j .judge .ensures .0) (k .correct .ensures .0),
-    )
+    let d = j k .judge .ensures .0 in
+    (smooth-shaped (s (j k) .pre) (judged (j k)) d (values k), smooth-small (s (j k) .pre) (judged (j k)) d (values k))
 
 same-length : tie.Need-same-length
 same-length c = search needs
@@ -34,19 +72,20 @@ same-length-3 c = search needs
 
 returns : tie.Need-returns
 returns c =
-    let m = c .before in
-    let k = m .before .before .before .before .before in
-    let j = k .before .before .before .before .before .before .before in
-    let s = j .before .before .before .before .before .before in (
-      scanned (s .pre) (j .judge .ensures .1) (j .judge .ensures .0) (k .correct .ensures .0) (m .smooth-if .ensures) (k .correct .ensures .1),
-      j .judge .ensures .0 .same-length ∙ s .pre .long,
-    )
+    let k = c .before .before .before .before .before .before in
+    let d = j k .judge .ensures .0 in
+    let p = s (j k) .pre in
+    (scanned p (judged (j k)) d (values k) (c .before .smooth-if .ensures) (supports k), d .same-length ∙ p .long)
 
 pub scan-spec : {M : Type 1} → statement M
 scan-spec =
     tie.close
     (tie.spec
+    limit-of-requires
+    cast-judge
+    add-judge
     judge-requires
+    radius-of-requires
     correct-requires
     smooth-if-requires
     same-length
