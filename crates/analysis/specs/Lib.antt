@@ -1,3 +1,2 @@
--- What the code around the scans computes, tied to document 01's definitions. Proved.
-pub mod Start
-pub mod Whole
+-- A loaded call is settled as document 01 says. Proved.
+pub mod Settled
