@@ -15,7 +15,7 @@ use Rattle.request.specs.declared.Terms.{Terms}
 use Rattle.request.specs.Tables.{stationIn, requestIn}
 use Rattle.request.specs.Loaded.{Termed, held, formed, same-refusal, same-analysis}
 
-module _ (c : Call) {grid support verdict : ℕ} (p : Passed c grid support verdict) {t : Terms} {numbers : List (List ℤ)} {minutes : List (List ℕ)}
+module _ (c : Call) {grid support verdict : ℕ} (p : Passed c grid support verdict) (t : Terms) (numbers : List (List ℤ)) (minutes : List (List ℕ))
     (says : Termed t (c .nx) (c .ny) (length (c .stations .x)) (c .plan) (c .T) (c .A))
     (rows : tab (length (c .stations .x)) (stationIn numbers minutes) ≡ stationsOf (c .stations)) where
   abbrev q : Request
@@ -32,8 +32,8 @@ module _ (c : Call) {grid support verdict : ℕ} (p : Passed c grid support verd
         },
       )
 
-  pub settles : {found left : Analysis} {r : ℕ} → Settles (inOrder (fromSix q)) (analysis q) found r left
+  pub settles : (found : Analysis) {left : Analysis} {r : ℕ} → Settles (inOrder (fromSix q)) (analysis q) found r left
       → Settles (analysisRefusal c grid support verdict) (analysis (asked c)) found r left
-  settles s =
+  settles found s =
       let h = held t c numbers minutes says rows in
       rw (p .rest, ← (same-refusal h), ← (same-analysis h)) s
