@@ -1,6 +1,7 @@
 // The exports of the archive: each hands its arguments on, and promises what the call behind it promises. See include/sosnyavik.h.
 ghost use Rattle.scheme.specs.Units.{asking};
 ghost use Rattle.scheme.specs.Promises.{sixColumns, slices, Analyses, windowAt, tile, Queries, ReadsKind, ReadsValue, Summarises};
+use refusal_shapes::Lengths;
 use scheme::Summary;
 
 #[no_mangle]
@@ -26,26 +27,38 @@ pub extern "C" fn sosnyavik_analyse(
 ) -> u32
     ensures { λ r. ⌜ Analyses (asking nx ny (now (guess .entry)) (sixColumns (now (x .entry)) (now (y .entry)) (now (value .entry)) (now (observed .entry)) (now (from .entry)) (now (until .entry))) count (now (radius .entry)) (now (limit .entry)) smooth time age) (slices (now (grid .entry)) (now (support .entry)) (now (verdict .entry))) r (slices (now (grid .exit)) (now (support .exit)) (now (verdict .exit))) ⌝ }
 {
-    analysis::analyse(
-        nx,
-        ny,
-        guess,
+    let l = Lengths {
+        nx: nx as usize,
+        ny: ny as usize,
+        guess: guess.len(),
+        x: x.len(),
+        y: y.len(),
+        value: value.len(),
+        observed: observed.len(),
+        from: from.len(),
+        until: until.len(),
+        scans: count as usize,
+        radius: radius.len(),
+        limit: limit.len(),
+    };
+    let refused = refusal::of_lengths(l, grid.len(), support.len(), verdict.len());
+    if refused != 0 {
+        return refused;
+    }
+    let mut numbers = [[0i32; 3]; 512];
+    let mut minutes = [[0u32; 3]; 512];
+    request::load(
+        &mut numbers,
+        &mut minutes,
         x,
         y,
         value,
         observed,
         from,
         until,
-        count,
-        radius,
-        limit,
-        smooth,
-        time,
-        age,
-        grid,
-        support,
-        verdict,
-    )
+    );
+    let t = request::terms_of(nx, ny, x.len(), count, radius, limit, smooth, time, age);
+    analysis::settled(t, guess, &numbers, &minutes, grid, support, verdict)
 }
 
 #[no_mangle]
