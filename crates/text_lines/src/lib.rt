@@ -1,12 +1,15 @@
 // Lines of the request text (document 01), one at a time: each at a place of the text.
 ghost use mathlib.Core.Path.{_≡_};
+ghost use Prim.Native.Nat.{_<_};
 ghost use lib.ListN.{length, drop};
 ghost use mathlib.Core.List.{[], _∷_};
+ghost use Rattle.scheme.specs.Units.{mostStations};
 ghost use Rattle.scheme.specs.Text.Reader.{_before_};
-ghost use Rattle.scheme.specs.Text.Pieces.{word, count, signed, mark, values};
-ghost use Rattle.scheme.specs.Text.Lines.{number, gridLine, scanLine, rowLine, stationLine, observation, end};
+ghost use Rattle.scheme.specs.Text.Pieces.{word, comma, lineFeed, count, unsigned, signed, mark, values};
+ghost use Rattle.scheme.specs.Text.Lines.{number, gridLine, scanLine, rowLine, observation, end};
 ghost use Rattle.text_pieces.specs.Told.{unsignedTold, signedTold, Within};
-ghost use Rattle.text_lines.specs.Told.{Sizes, entryTold, stationTold, valuesTold};
+ghost use Rattle.text_lines.specs.Station.{stationNumbers, stationMinutes, StationIs};
+ghost use Rattle.text_lines.specs.Told.{Sizes, entryTold, numbersTold, minutesTold, valuesTold};
 use text_pieces::SignedRead;
 use text_pieces::UnsignedRead;
 use text_pieces::WordRead;
@@ -28,17 +31,14 @@ pub enum EntryRead {
     NotInForm,
 }
 
-pub struct Row {
-    pub x: i32,
-    pub y: i32,
-    pub value: i32,
-    pub observed: u32,
-    pub from: u32,
-    pub until: u32,
+// What a station's line says, in two parts: x, y and value; observed, from and until.
+enum NumbersRead {
+    Value(i32, i32, i32, usize),
+    NotInForm,
 }
 
-pub enum StationRead {
-    Value(Row, usize),
+enum MinutesRead {
+    Value(u32, u32, u32, usize),
     NotInForm,
 }
 
@@ -75,24 +75,26 @@ pub fn grid_line(s: &[u8], at: usize) -> SizeRead
     SizeRead::Value(nx, ny, next)
 }
 
+// A value of a grid row that has so many after it; of a pair or a station, that has some after it or none.
+fn cell_at(s: &[u8], at: usize, more: usize) -> SignedRead
+    ensures { λ r. ⌜ (signed before word (mark more ∷ [])) (drop at (now (s .entry))) ≡ signedTold (now (s .entry)) r ⌝ }
+{
+    if more == 0 {
+        return text_pieces::signed_before(s, text_pieces::signed_at(s, at), b"\n");
+    }
+    text_pieces::signed_before(s, text_pieces::signed_at(s, at), b",")
+}
+
 pub fn scan_line(s: &[u8], at: usize) -> EntryRead
     ensures { λ r. ⌜ scanLine (drop at (now (s .entry))) ≡ entryTold (now (s .entry)) r ⌝ }
 {
     let WordRead::At(p) = text_pieces::word_at(s, at, b"scan=") else {
         return EntryRead::NotInForm;
     };
-    let SignedRead::Value(radius, q) = text_pieces::signed_before(
-        s,
-        text_pieces::signed_at(s, p),
-        b",",
-    ) else {
+    let SignedRead::Value(radius, q) = cell_at(s, p, 1) else {
         return EntryRead::NotInForm;
     };
-    let SignedRead::Value(limit, next) = text_pieces::signed_before(
-        s,
-        text_pieces::signed_at(s, q),
-        b"\n",
-    ) else {
+    let SignedRead::Value(limit, next) = cell_at(s, q, 0) else {
         return EntryRead::NotInForm;
     };
     EntryRead::Value(radius, limit, next)
@@ -118,61 +120,69 @@ fn end_at(s: &[u8], at: usize) -> UnsignedRead
     }
 }
 
-pub fn station_line(s: &[u8], at: usize) -> StationRead
-    ensures { λ r. ⌜ stationLine (drop at (now (s .entry))) ≡ stationTold (now (s .entry)) r ⌝ }
+fn minute_at(s: &[u8], at: usize) -> UnsignedRead
+    ensures { λ r. ⌜ (unsigned before comma) (drop at (now (s .entry))) ≡ unsignedTold (now (s .entry)) r ⌝ }
 {
-    let WordRead::At(a) = text_pieces::word_at(s, at, b"st=") else {
-        return StationRead::NotInForm;
-    };
-    let SignedRead::Value(x, b) = text_pieces::signed_before(s, text_pieces::signed_at(s, a), b",")
-    else {
-        return StationRead::NotInForm;
-    };
-    let SignedRead::Value(y, d) = text_pieces::signed_before(s, text_pieces::signed_at(s, b), b",")
-    else {
-        return StationRead::NotInForm;
-    };
-    let SignedRead::Value(value, e) = text_pieces::signed_before(s, observation_at(s, d), b",")
-    else {
-        return StationRead::NotInForm;
-    };
-    let UnsignedRead::Value(observed, f) = text_pieces::unsigned_before(
-        s,
-        text_pieces::count_at(s, e, 0, 4294967295),
-        b",",
-    ) else {
-        return StationRead::NotInForm;
-    };
-    let UnsignedRead::Value(from, g) = text_pieces::unsigned_before(
-        s,
-        text_pieces::count_at(s, f, 0, 4294967295),
-        b",",
-    ) else {
-        return StationRead::NotInForm;
-    };
-    let UnsignedRead::Value(until, next) = text_pieces::unsigned_before(s, end_at(s, g), b"\n")
-    else {
-        return StationRead::NotInForm;
-    };
-    let row = Row {
-        x,
-        y,
-        value,
-        observed,
-        from,
-        until,
-    };
-    StationRead::Value(row, next)
+    text_pieces::unsigned_before(s, text_pieces::count_at(s, at, 0, 4294967295), b",")
 }
 
-// A value of a grid row that has so many after it.
-fn cell_at(s: &[u8], at: usize, more: usize) -> SignedRead
-    ensures { λ r. ⌜ (signed before word (mark more ∷ [])) (drop at (now (s .entry))) ≡ signedTold (now (s .entry)) r ⌝ }
+fn numbers_at(s: &[u8], at: usize) -> NumbersRead
+    ensures { λ r. ⌜ stationNumbers (drop at (now (s .entry))) ≡ numbersTold (now (s .entry)) r ⌝ }
 {
-    if more == 0 {
-        return text_pieces::signed_before(s, text_pieces::signed_at(s, at), b"\n");
-    }
-    text_pieces::signed_before(s, text_pieces::signed_at(s, at), b",")
+    let WordRead::At(p) = text_pieces::word_at(s, at, b"st=") else {
+        return NumbersRead::NotInForm;
+    };
+    let SignedRead::Value(x, q) = cell_at(s, p, 1) else {
+        return NumbersRead::NotInForm;
+    };
+    let SignedRead::Value(y, u) = cell_at(s, q, 1) else {
+        return NumbersRead::NotInForm;
+    };
+    let SignedRead::Value(value, next) = text_pieces::signed_before(s, observation_at(s, u), b",")
+    else {
+        return NumbersRead::NotInForm;
+    };
+    NumbersRead::Value(x, y, value, next)
+}
+
+fn minutes_at(s: &[u8], at: usize) -> MinutesRead
+    ensures { λ r. ⌜ stationMinutes (drop at (now (s .entry))) ≡ minutesTold (now (s .entry)) r ⌝ }
+{
+    let UnsignedRead::Value(observed, p) = minute_at(s, at) else {
+        return MinutesRead::NotInForm;
+    };
+    let UnsignedRead::Value(from, q) = minute_at(s, p) else {
+        return MinutesRead::NotInForm;
+    };
+    let UnsignedRead::Value(until, next) = text_pieces::unsigned_before(s, end_at(s, q), b"\n")
+    else {
+        return MinutesRead::NotInForm;
+    };
+    MinutesRead::Value(observed, from, until, next)
+}
+
+// One station, into row k of the two tables.
+pub fn station_line(
+    s: &[u8],
+    at: usize,
+    k: usize,
+    numbers: &mut [[i32; 3]; 512],
+    minutes: &mut [[u32; 3]; 512],
+) -> WordRead
+    requires { ⌜ (k < mostStations) × (length (now numbers) ≡ mostStations) × (length (now minutes) ≡ mostStations) ⌝ }
+    ensures { λ r. ⌜ StationIs (now (s .entry)) at k (now (numbers .entry)) (now (minutes .entry)) (now (numbers .exit)) (now (minutes .exit)) r ⌝ }
+{
+    let NumbersRead::Value(x, y, value, p) = numbers_at(s, at) else {
+        return WordRead::NotInForm;
+    };
+    let MinutesRead::Value(observed, from, until, next) = minutes_at(s, p) else {
+        return WordRead::NotInForm;
+    };
+    let row = [x, y, value];
+    numbers[k] = row;
+    let row = [observed, from, until];
+    minutes[k] = row;
+    WordRead::At(next)
 }
 
 // As many values as z is long, into z.
