@@ -30,14 +30,19 @@ stationMinutes = do
   until ← end before lineFeed
   gives (observed ∷ from ∷ until ∷ [])
 
--- what row k of the tables says, if a station was read into it
-abbrev pub stationTold : List ℕ → Station → WordRead → Parsed Station
-stationTold s t (At next) = reads t (drop next s)
-stationTold s t NotInForm = fails tt
+-- what was read into row k
+abbrev pub rowTold : {A : Type 0} → List ℕ → A → WordRead → Parsed A
+rowTold s row (At next) = reads row (drop next s)
+rowTold s row NotInForm = fails tt
 
--- a station that was read into row k: the rows before it stand
+-- a row that was read, and the rows before it stand
+pub record RowIs {A : Type 0} (piece : Piece (List A)) (s : List ℕ) (at k : ℕ) (t₀ t : List (List A)) (r : WordRead) : Type 0 where
+  pub said : piece (drop at s) ≡ rowTold s (getD t k []) r
+  pub earlier : (i : ℕ) → i < k → getD t i [] ≡ getD t₀ i []
+  pub long : length t ≡ mostStations
+
 pub record StationIs (s : List ℕ) (at k : ℕ) (n₀ : List (List ℤ)) (m₀ : List (List ℕ)) (n : List (List ℤ)) (m : List (List ℕ)) (r : WordRead) : Type 0 where
-  pub said : stationLine (drop at s) ≡ stationTold s (stationIn n m k) r
+  pub said : stationLine (drop at s) ≡ rowTold s (stationIn n m k) r
   pub earlier : (i : ℕ) → i < k → stationIn n m i ≡ stationIn n₀ m₀ i
   pub numbers-long : length n ≡ mostStations
   pub minutes-long : length m ≡ mostStations
@@ -61,26 +66,39 @@ one-after-the-other bs =
     regroup (word (ascii "st=") bs) _ _ _ (λ key l. regroup ((signed before comma) l) _ _ _ (λ x l. regroup ((signed before comma) l) _ _ _ (λ y l. regroup ((observation before comma) l) _ _ _
     (λ value l. regroup ((unsigned before comma) l) _ _ _ (λ observed l. regroup ((unsigned before comma) l) _ _ _ (λ from l. regroup ((end before lineFeed) l) _ _ _ (λ until l. refl)))))))
 
--- ---- a station that is read, over plain values
+-- ---- what is read, over plain values
 
-module _ (s : List ℕ) (at k : ℕ) (n : List (List ℤ)) (m : List (List ℕ)) (numbers-long : length n ≡ mostStations) (minutes-long : length m ≡ mostStations) where
-  -- nothing is stored
-  unread : stationLine (drop at s) ≡ fails tt → StationIs s at k n m n m NotInForm
-  unread e = record { said = e; earlier = λ i h. refl; numbers-long = numbers-long; minutes-long = minutes-long }
+module _ {A : Type 0} (piece : Piece (List A)) (s : List ℕ) (at k : ℕ) (t : List (List A)) (long : length t ≡ mostStations) where
+  pub no-row : piece (drop at s) ≡ fails tt → RowIs piece s at k t t NotInForm
+  no-row e = record { said = e; earlier = λ i h. refl; long = long }
 
-  pub no-numbers : stationNumbers (drop at s) ≡ fails tt → StationIs s at k n m n m NotInForm
-  no-numbers e = unread (sym (one-after-the-other (drop at s)) ∙ rw e)
+  pub row-read : (row : List A) (next : ℕ) → k < mostStations → piece (drop at s) ≡ reads row (drop next s) → RowIs piece s at k t (set t k row) (At next)
+  row-read row next h e =
+      record {
+        said = rw (e, getD-set-same t k row [] (omega arith));
+        earlier = λ i b. getD-set-other t k i row [] (λ q. omega arith);
+        long = length-set t k row ∙ long;
+      }
 
-  module _ (p : ℕ) (row : List ℤ) (first : stationNumbers (drop at s) ≡ reads row (drop p s)) where
-    pub no-minutes : stationMinutes (drop p s) ≡ fails tt → StationIs s at k n m n m NotInForm
-    no-minutes e = unread (sym (one-after-the-other (drop at s)) ∙ rw (first, e))
+module _ (s : List ℕ) (at k : ℕ) (n₀ n : List (List ℤ)) (m₀ : List (List ℕ)) (r : WordRead) (first : RowIs stationNumbers s at k n₀ n r) where
+  pub no-numbers : r ≡ NotInForm → length m₀ ≡ mostStations → StationIs s at k n₀ m₀ n m₀ NotInForm
+  no-numbers e long =
+      record {
+        said = sym (one-after-the-other (drop at s)) ∙ rw (first .said, e);
+        earlier = λ i h. rw (first .earlier i h);
+        numbers-long = first .long;
+        minutes-long = long;
+      }
 
-    pub station-read : (next : ℕ) (row' : List ℕ) → k < mostStations → stationMinutes (drop p s) ≡ reads row' (drop next s)
-        → StationIs s at k n m (set n k row) (set m k row') (At next)
-    station-read next row' h e =
-        record {
-          said = sym (one-after-the-other (drop at s)) ∙ rw (first, e, getD-set-same n k row [] (omega arith), getD-set-same m k row' [] (omega arith));
-          earlier = λ i b. let ne : i ≡ k → ⊥ = λ q. omega arith in rw (getD-set-other n k i row [] ne, getD-set-other m k i row' [] ne);
-          numbers-long = length-set n k row ∙ numbers-long;
-          minutes-long = length-set m k row' ∙ minutes-long;
-        }
+  pub station-is : (p : ℕ) (m : List (List ℕ)) (end : WordRead) → r ≡ At p → RowIs stationMinutes s p k m₀ m end → StationIs s at k n₀ m₀ n m end
+  station-is p m end e second =
+      record {
+        said = sym (one-after-the-other (drop at s)) ∙ rw (first .said, e, second .said) (last end);
+        earlier = λ i h. rw (first .earlier i h, second .earlier i h);
+        numbers-long = first .long;
+        minutes-long = second .long;
+      }
+    where
+      last : (w : WordRead) → onward (rowTold s (getD m k []) w) (λ minutes. gives (stationOf (getD n k []) minutes)) ≡ rowTold s (stationIn n m k) w
+      last (At next) = refl
+      last NotInForm = refl

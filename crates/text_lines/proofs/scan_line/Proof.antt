@@ -29,7 +29,7 @@ module _ (c : tie.After-radius) where
   after-p = c .before .before .before .before
 
   radius-read : (signed before comma) (drop (after-p .p .given .0 .0) (text after-p)) ≡ reads (c .radius .given .0 .0) (drop (c .radius .given .0 .1 .0) (text after-p))
-  radius-read = c .before .before .cell-at .ensures ∙ ap (signedTold (text after-p)) (c .radius .given .1)
+  radius-read = c .before .before .signed-in-line .ensures ∙ ap (signedTold (text after-p)) (c .radius .given .1)
 
 slice-aggregate-word-at : tie.Need-slice-aggregate-word-at
 slice-aggregate-word-at c = search needs
@@ -47,8 +47,8 @@ returns : tie.Need-returns
 unfolding scanLine
 returns c = rw (c .before .before .word-at .ensures ∙ ap (wordTold (c .before .before .before .before .before .args .s .now)) (c .enum-told .given .1))
 
-cell-at-requires : tie.Need-cell-at-requires
-cell-at-requires c κs = search needs
+signed-in-line-requires : tie.Need-signed-in-line-requires
+signed-in-line-requires c κs = search needs
 
 enum-known-radius : tie.Need-enum-known-radius
 enum-known-radius c = search needs
@@ -58,10 +58,10 @@ enum-told-2 c = search needs
 
 returns-2 : tie.Need-returns-2
 unfolding scanLine
-returns-2 c = let m = c .before .before .before .before in rw (key-read m, c .before .before .cell-at .ensures ∙ ap (signedTold (text m)) (c .enum-told2 .given .1))
+returns-2 c = let m = c .before .before .before .before in rw (key-read m, c .before .before .signed-in-line .ensures ∙ ap (signedTold (text m)) (c .enum-told2 .given .1))
 
-cell-at-requires-2 : tie.Need-cell-at-requires-2
-cell-at-requires-2 c κs = search needs
+signed-in-line-requires-2 : tie.Need-signed-in-line-requires-2
+signed-in-line-requires-2 c κs = search needs
 
 enum-known-limit : tie.Need-enum-known-limit
 enum-known-limit c = search needs
@@ -71,7 +71,7 @@ enum-told-3 c = search needs
 
 returns-3 : tie.Need-returns-3
 unfolding scanLine
-returns-3 c = let m = c .before .before .before .before in rw (key-read (after-p m), radius-read m, c .before .before .cell-at2 .ensures ∙ ap (signedTold (text (after-p m))) (c .enum-told3 .given .1))
+returns-3 c = let m = c .before .before .before .before in rw (key-read (after-p m), radius-read m, c .before .before .signed-in-line2 .ensures ∙ ap (signedTold (text (after-p m))) (c .enum-told3 .given .1))
 
 returns-4 : tie.Need-returns-4
 unfolding scanLine
@@ -80,7 +80,7 @@ returns-4 c =
     let k = m .before .before .before .before in
     let r : SFits w32 (k .radius .given .0 .0) = record { sfits = c .before .before .before .before .known-told2 .given .0 .1 } in
     let l : SFits w32 (m .limit .given .0 .0) = record { sfits = c .known-told3 .given .0 .1 } in
-    rw (key-read (after-p k), radius-read k, m .before .before .cell-at2 .ensures ∙ ap (signedTold (text (after-p k))) (m .limit .given .1), toZ-ofZ r, toZ-ofZ l)
+    rw (key-read (after-p k), radius-read k, m .before .before .signed-in-line2 .ensures ∙ ap (signedTold (text (after-p k))) (m .limit .given .1), toZ-ofZ r, toZ-ofZ l)
 
 pub scan-line-spec : {M : Type 1} → statement M
 scan-line-spec =
@@ -91,11 +91,11 @@ scan-line-spec =
     enum-known-p
     enum-told
     returns
-    cell-at-requires
+    signed-in-line-requires
     enum-known-radius
     enum-told-2
     returns-2
-    cell-at-requires-2
+    signed-in-line-requires-2
     enum-known-limit
     enum-told-3
     returns-3

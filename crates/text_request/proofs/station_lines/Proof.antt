@@ -10,7 +10,7 @@ use Rattle.scheme.specs.Units.{mostStations, Station}
 use Rattle.scheme.specs.Text.Lines.{stationLine}
 use Rattle.scheme.specs.Text.Order.{Text, lines}
 use Rattle.request.specs.Tables.{stationIn}
-use Rattle.text_lines.specs.Station.{stationTold}
+use Rattle.text_lines.specs.Station.{rowTold}
 use Rattle.text_request.specs.Turns.{Reached, begin, turn, stop, done, lines-more, lines-stop, lines-none}
 use Rattle.text_request.proofs.station_lines.Statement.{statement}
 use Rattle.text_request.proofs.station_lines.Tie as tie
@@ -50,7 +50,7 @@ returns c =
     let r = c .before .before .station-line .ensures in
     record {
       said = stop stations (a .s .now) (drop (a .at) (a .s .now)) (a .n) (a .line) (l .loop .i) (l .loop .p) _ (omega arith) (l .loop .inv .3)
-          (lines-stop stationLine (drop (l .loop .p) (a .s .now)) (r .said ∙ ap (stationTold (a .s .now) _) (c .enum-told .given .1)));
+          (lines-stop stationLine (drop (l .loop .p) (a .s .now)) (r .said ∙ ap (rowTold (a .s .now) _) (c .enum-told .given .1)));
       numbers-long = r .numbers-long;
       minutes-long = r .minutes-long;
     }
@@ -72,7 +72,7 @@ loop-again c =
       r .numbers-long,
       r .minutes-long,
       turn stations (a .s .now) (drop (a .at) (a .s .now)) (a .n) (a .line) (l .loop .i) (l .loop .p) (tab (l .loop .i) (stationIn (l .loop .numbers) (l .loop .minutes))) (omega arith) (l .loop .inv .3) (v .0 .0) _ _
-          (lines-more stationLine (drop (l .loop .p) (a .s .now)) (drop (v .0 .0) (a .s .now)) _ (r .said ∙ ap (stationTold (a .s .now) _) (v .1)))
+          (lines-more stationLine (drop (l .loop .p) (a .s .now)) (drop (v .0 .0) (a .s .now)) _ (r .said ∙ ap (rowTold (a .s .now) _) (v .1)))
           (tab-grows (l .loop .i) (stationIn (l .loop .numbers) (l .loop .minutes)) _ _ (r .earlier) refl),
     )
 
