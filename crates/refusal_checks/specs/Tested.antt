@@ -4,53 +4,24 @@ use native.Mathlib.Omega.{arith}
 use native.Mathlib.Nat.{mul-le-mul, mul-le-mul-right}
 use mathlib.Core.Path.{_≡_, refl, sym, _∙_}
 use mathlib.Core.Logic.{_⊎_, inl, inr}
-use mathlib.Core.Bool.{Bool, true, false, not, _&&_}
-use borrow.Author.Tests.{lt-ltb, le-ltb, lt-leb, le-leb, eq-eqb, ne-eqb}
+use mathlib.Core.Bool.{Bool, true, _&&_}
+use borrow.Author.Tests.{lt-leb, le-leb, eq-eqb, ne-eqb}
 use mathlib.Core.List.{List}
-use lib.Dec.{leb, ltb, eqb}
+use lib.Dec.{leb, eqb}
 use lib.ListN.{length, getD}
 use lib.IntN.{ℤ, pos, negsuc}
-use lib.Signed.{ltZ, leZ}
+use lib.Signed.{ltZ}
 use mir.Syntax.{w32}
 use mir.Val.{SFits, ofZ}
 use Rattle.lists.specs.Tests.{lt-or-le}
-use Rattle.lists.specs.First.{first, firstIn, ended, in-places, in-table}
-use Rattle.scheme.specs.Units.{amongℤ, within, mostValue, isMissing, stationAt, stationsOf, Plan}
-use Rattle.scheme.specs.Refusals.{rising, badGuess, badStation}
-use Rattle.scheme.specs.Promises.{sixColumns}
+use Rattle.lists.specs.First.{first, firstIn, ended, in-places}
+use Rattle.scheme.specs.Units.{amongℤ, within, mostValue, isMissing, Plan}
+use Rattle.scheme.specs.Refusals.{rising, badGuess}
 use Rattle.scheme.specs.Most.{mostPoints}
 use Rattle.scheme.specs.Accepted.{Shaped}
 
--- a row of the station list; when it was observed is not tested
-unfoldable pub badRow : (x y value : ℤ) (from until : ℕ) → Bool
-badRow x y value from until = badStation (record { x = x; y = y; value = value; observed = 0; from = from; until = until })
+-- ---- the range of values, and of positions
 
--- ---- a range
-
-not-not : (b : Bool) → not (not b) ≡ b
-not-not true = refl
-not-not false = refl
-
-most-is-not-less : (a b : ℕ) → leb a b ≡ not (ltb b a)
-most-is-not-less a b = go (lt-or-le b a)
-  where
-    go : (b < a) ⊎ (a ≤ b) → leb a b ≡ not (ltb b a)
-    go (inl h) = rw (lt-leb a b h, lt-ltb b a h)
-    go (inr h) = rw (le-leb a b h, le-ltb b a h)
-
-at-most : (a b : ℤ) → leZ a b ≡ not (ltZ b a)
-at-most (pos a) (pos b) = most-is-not-less a b
-at-most (pos a) (negsuc b) = refl
-at-most (negsuc a) (pos b) = refl
-at-most (negsuc a) (negsuc b) = most-is-not-less b a
-
-pub below-range : (low high v : ℤ) → ltZ v low ≡ true → true ≡ not (amongℤ low high v)
-below-range low high v e = rw (at-most low v, e)
-
-pub from-range : (low high v : ℤ) → ltZ v low ≡ false → ltZ high v ≡ not (amongℤ low high v)
-from-range low high v e = rw (at-most low v, e, at-most v high) (sym (not-not (ltZ high v)))
-
--- the range of values, and of positions
 pub value-range : (v : ℤ) → amongℤ (negsuc (mostValue - 1)) (pos mostValue) v ≡ within mostValue v
 value-range (pos n) = refl
 value-range (negsuc n) = go (lt-or-le n mostValue)
@@ -88,15 +59,6 @@ guessBad z k = badGuess (getD z k (pos 0))
 
 pub of-guess : (z : List ℤ) (r : ℕ) → ended (length z) r ≡ first (length z) (guessBad z) → ended (length z) r ≡ firstIn badGuess z
 of-guess z r h = h ∙ sym (in-places badGuess (pos 0) z)
-
--- the columns that are tested
-abbrev pub rowBad : (xs ys vs : List ℤ) (fs us : List ℕ) → ℕ → Bool
-rowBad xs ys vs fs us k = badRow (getD xs k (pos 0)) (getD ys k (pos 0)) (getD vs k (pos 0)) (getD fs k 0) (getD us k 0)
-
-pub of-columns : (xs ys vs : List ℤ) (os fs us : List ℕ) (r : ℕ) → ended (length xs) r ≡ first (length xs) (rowBad xs ys vs fs us)
-    → ended (length xs) r ≡ firstIn badStation (stationsOf (sixColumns xs ys vs os fs us))
-unfolding badRow badStation stationAt stationsOf
-of-columns xs ys vs os fs us r h = h ∙ sym (in-table badStation (length xs) (stationAt (sixColumns xs ys vs os fs us)))
 
 -- ---- the points of a grid
 

@@ -48,7 +48,7 @@ pub same-shape : {nx ny n : ℕ} → Shaped nx ny n → (m : ℕ) → m ≡ nx *
 same-shape h m e =
     record { two-columns = h .two-columns; few-columns = h .few-columns; two-rows = h .two-rows; few-rows = h .few-rows; whole = e }
 
-side : (n : ℕ) → not (among leastSide mostSide n) ≡ false → (2 ≤ n) × (n ≤ 64)
+pub side : (n : ℕ) → not (among leastSide mostSide n) ≡ false → (2 ≤ n) × (n ≤ 64)
 side n e = let (p, r) = and-true _ _ (not-false _ e) in (leb-true leastSide n p, leb-true n mostSide r)
 
 pub shaped : (nx ny len : ℕ) → badShape nx ny len ≡ false → Shaped nx ny len
@@ -297,7 +297,7 @@ windowRows c w grid support =
     ∷ fromFive (asked c)
 
 -- results of the right length
-long : (points grid support : ℕ) → badLengths points grid support ≡ false → (grid ≡ points) × (support ≡ points)
+pub long : (points grid support : ℕ) → badLengths points grid support ≡ false → (grid ≡ points) × (support ≡ points)
 unfolding badLengths
 long points grid support e = let (g, s) = or-false _ _ e in (same _ _ g, same _ _ s)
 
