@@ -3,35 +3,27 @@ use Prim.Native.Nat.{ℕ, zero, suc, _+_, _*_, _/_, _%_, _^_, _≤_, _<_}
 use native.Mathlib.Omega.{arith}
 use native.Mathlib.Nat.{mul-comm}
 use mathlib.Core.Path.{_≡_, refl, sym, ap, subst, _∙_}
-use mathlib.Core.Bool.{Bool, true, false}
 use mathlib.Core.List.{List, [], _∷_, _++_}
-use lib.ListN.{length, drop, length-append}
+use borrow.Author.Tests.{le-leb, le-ltb}
+use lib.ListN.{length, drop, length-append, length-map}
 use lib.Seq.{sets-eq}
 use Rattle.lists.specs.First.{Found, nowhere, at}
 use Rattle.lists.specs.Members.{All, none, more}
-use Rattle.scheme.specs.Units.{Request, Call, asked}
-use Rattle.scheme.specs.Refusals.{Refusal, accepted, refused, numberOf, placeOf, asOne, unlessRefused, inOrder, refusedIf, refusedAt, fromFive, analysisRefusal}
+use Rattle.scheme.specs.Units.{Station, mostScans, Request}
+use Rattle.scheme.specs.Refusals.{Refusal, accepted, refused, numberOf, placeOf, asOne, unlessRefused, inOrder, refusedIf, refusedAt, badScans, fromFive}
 use Rattle.scheme.specs.Scan.{Analysis, analysis}
-use Rattle.scheme.specs.Text.{firstTwo, analysisText, replyText}
+use Rattle.scheme.specs.Text.{mostBytes, firstTwo, analysisText, replyText}
 use Rattle.scheme.specs.Text.Pieces.{ascii}
 use Rattle.scheme.specs.Text.Printed.{decimal, keyed}
-use Rattle.scheme.specs.Promises.{Analyses, putFirst, Stands}
+use Rattle.scheme.specs.Promises.{Settles, putFirst, Stands}
 use Rattle.scheme.specs.OneOutcome.{both}
-use Rattle.scheme.specs.Accepted.{Shaped, Equal}
-use Rattle.scheme.specs.Calls.{refused-as-asked}
+use Rattle.scheme.specs.Accepted.{fromSix, Formed, formed-sound, Fits}
+use Rattle.scheme.specs.Calls.{callFor, asks, refused-as-asked, equal-columns}
 use Rattle.scheme.specs.Places.{Tells, analysis-tells-refusal-and-place}
 use Rattle.scheme.specs.Decimals.{decimal-length}
-use Rattle.scheme.specs.AnswerSize.{accepted-answer-is-short}
+use Rattle.scheme.specs.AnswerSize.{sound-answer-is-short}
 use Rattle.text_print.specs.Written.{Written}
 use Rattle.text_print.specs.Rows.{keyed-one}
-
--- a call of the right shape, with equal columns and results as long as the grid and the station list
-pub record Measured (c : Call) (grid support verdict : ℕ) : Type 0 where
-  pub shape : Shaped (c .nx) (c .ny) (length (c .firstGuess))
-  pub equal : Equal (c .stations)
-  pub grid-long : grid ≡ c .ny * c .nx
-  pub support-long : support ≡ c .ny * c .nx
-  pub verdict-long : verdict ≡ length (c .stations .x)
 
 -- what an analysis answered, as text: a refusal, or what it left
 abbrev pub toldText : (refused nx ny : ℕ) → Analysis → List ℕ
@@ -91,20 +83,13 @@ numbered none = tt
 numbered (more {a = accepted} h r) = numbered r
 numbered (more {a = refused number place} h r) = h
 
-number-if : (number : ℕ) (bad : Bool) → 1 ≤ number → Numbered (refusedIf number bad)
-unfolding refusedIf
-number-if number true h = h
-number-if number false h = tt
-
 number-at : (number : ℕ) (f : Found) → 1 ≤ number → Numbered (refusedAt number f)
 unfolding refusedAt
 number-at number nowhere h = tt
 number-at number (at k) h = h
 
-refusal-numbered : (q : Request) → Numbered (inOrder (fromFive q))
-unfolding fromFive
-refusal-numbered q =
-    numbered (more (number-if 5 _ (omega arith)) (more (number-at 6 _ (omega arith)) (more (number-at 7 _ (omega arith)) (more (number-at 8 _ (omega arith)) none))))
+refusal-numbered : (q : Request) → Numbered (inOrder (fromSix q))
+refusal-numbered q = numbered (more (number-at 6 _ (omega arith)) (more (number-at 7 _ (omega arith)) (more (number-at 8 _ (omega arith)) none)))
 
 none-if-zero : (f : Refusal) → Numbered f → asOne f ≡ 0 → f ≡ accepted
 none-if-zero accepted h e = refl
@@ -116,56 +101,70 @@ refused-text : {A : Type 0} (f : Refusal) (result other : A) → (asOne f ≡ 0 
 refused-text accepted result other some = absurd (some refl)
 refused-text (refused number place) result other some = refl
 
-module _ (c : Call) (found left : Analysis) (r : ℕ) (m : Measured c (length (found .grid)) (length (found .support)) (length (found .verdict)))
-    (p : Analyses c found r left) where
-  -- the refusal of the request, which is that of the call
+module _ (q : Request) (formed : Formed q) where
+  -- row 5 accepts
+  pub five-accepts : inOrder (fromFive q) ≡ inOrder (fromSix q)
+  unfolding fromFive inOrder refusedIf badScans
+  five-accepts =
+      rw (
+        le-leb 1 (q .plan .scans) (formed .scans-some),
+        le-leb (q .plan .scans) mostScans (formed .scans-few),
+        le-ltb (length (q .plan .radius)) (q .plan .scans) (formed .radii),
+        le-ltb (length (q .plan .limit)) (q .plan .scans) (formed .limits),
+      )
+
   abbrev f : Refusal
-  f = inOrder (fromFive (asked c))
+  f = inOrder (fromSix q)
 
-  same : analysisRefusal c (length (found .grid)) (length (found .support)) (length (found .verdict)) ≡ f
-  same =
-      let e = mul-comm (c .ny) (c .nx) in
-      refused-as-asked c _ _ _ (m .shape) (m .equal) (m .grid-long ∙ e) (m .support-long ∙ e) (m .verdict-long)
-
-  coded : r ≡ asOne f
-  coded = ap (λ (o : ℕ × Analysis). o .0) p ∙ ap asOne same
-
+  -- the one number tells refusal and place, as that of the call does
   tells : Tells f
-  tells = subst Tells same (analysis-tells-refusal-and-place c _ _ _)
+  tells =
+      subst Tells
+      (refused-as-asked (callFor q) (q .nx * q .ny) (q .nx * q .ny) (length (q .stations)) (formed .shape) (equal-columns (q .stations) (formed .few-stations)) refl refl
+      (sym (length-map (q .stations) (λ (s : Station). s .x)))
+      ∙ ap (λ (p : Request). inOrder (fromFive p)) (asks q)
+      ∙ five-accepts)
+      (analysis-tells-refusal-and-place (callFor q) (q .nx * q .ny) (q .nx * q .ny) (length (q .stations)))
 
-  refused-reply : (r ≡ 0 → ⊥) → replyText (asked c) ≡ firstTwo (r / 65536) (r % 65536)
-  unfolding replyText
-  refused-reply some =
-      refused-text f (analysisText (c .nx) (c .ny) (analysis (asked c))) (firstTwo (numberOf f) (placeOf f)) (λ e. some (coded ∙ e)) ∙ rw (coded, tells .0, tells .1)
+  module _ (found left : Analysis) (r : ℕ) (fits : Fits q (length (found .grid)) (length (found .support)) (length (found .verdict)))
+      (p : Settles f (analysis q) found r left) where
+    coded : r ≡ asOne f
+    coded = ap (λ (o : ℕ × Analysis). o .0) p
 
-  module _ (zero : r ≡ 0) where
-    is-accepted : f ≡ accepted
-    is-accepted = none-if-zero f (refusal-numbered (asked c)) (sym coded ∙ zero)
-
-    is-analysis : left ≡ analysis (asked c)
-    is-analysis =
-        ap (λ (o : ℕ × Analysis). o .1) p ∙ ap (λ (g : Refusal). unlessRefused g (analysis (asked c)) found) (same ∙ is-accepted)
-
-    accepted-reply : replyText (asked c) ≡ analysisText (c .nx) (c .ny) left
+    refused-reply : (r ≡ 0 → ⊥) → replyText q ≡ firstTwo (r / 65536) (r % 65536)
     unfolding replyText
-    accepted-reply = rw (is-accepted, is-analysis)
+    refused-reply some =
+        ap (λ (g : Refusal). unlessRefused g (analysisText (q .nx) (q .ny) (analysis q)) (firstTwo (numberOf g) (placeOf g))) five-accepts
+        ∙ refused-text f (analysisText (q .nx) (q .ny) (analysis q)) (firstTwo (numberOf f) (placeOf f)) (λ e. some (coded ∙ e)) ∙ rw (coded, tells .0, tells .1)
 
-    accepted-short : length (analysisText (c .nx) (c .ny) left) < 56000
-    accepted-short = rw is-analysis (accepted-answer-is-short c _ _ _ (same ∙ is-accepted))
+    module _ (zero : r ≡ 0) where
+      is-accepted : f ≡ accepted
+      is-accepted = none-if-zero f (refusal-numbered q) (sym coded ∙ zero)
 
-  pub reply-told : replyText (asked c) ≡ toldText r (c .nx) (c .ny) left
-  reply-told = go r refl
-    where
-      go : (m : ℕ) → r ≡ m → replyText (asked c) ≡ toldText r (c .nx) (c .ny) left
-      go zero e = accepted-reply e ∙ sym (told-all r (c .nx) (c .ny) left e)
-      go (suc m) e = let some : r ≡ 0 → ⊥ = λ z. omega arith in refused-reply some ∙ sym (told-refused r (c .nx) (c .ny) left some)
+      is-analysis : left ≡ analysis q
+      is-analysis = ap (λ (o : ℕ × Analysis). o .1) p ∙ ap (λ (g : Refusal). unlessRefused g (analysis q) found) is-accepted
 
-  pub tellable : (room : ℕ) → room ≡ 65536 → length (left .grid) ≡ length (found .grid) → length (left .support) ≡ length (found .support) → Tellable r (c .nx) (c .ny) left room
-  tellable room long g s =
-      record {
-        two = omega arith;
-        columns = λ zero. omega (arith, m .shape .two-columns);
-        grid = sym (g ∙ m .grid-long);
-        support = sym (s ∙ m .support-long);
-        all = λ zero. omega (arith, accepted-short zero);
-      }
+      accepted-reply : replyText q ≡ analysisText (q .nx) (q .ny) left
+      unfolding replyText
+      accepted-reply = rw (five-accepts ∙ is-accepted, is-analysis)
+
+      accepted-short : length (analysisText (q .nx) (q .ny) left) < 56000
+      accepted-short = rw is-analysis (sound-answer-is-short q (formed-sound q formed is-accepted))
+
+    pub reply-told : replyText q ≡ toldText r (q .nx) (q .ny) left
+    reply-told = go r refl
+      where
+        go : (m : ℕ) → r ≡ m → replyText q ≡ toldText r (q .nx) (q .ny) left
+        go zero e = accepted-reply e ∙ sym (told-all r (q .nx) (q .ny) left e)
+        go (suc m) e = let some : r ≡ 0 → ⊥ = λ z. omega arith in refused-reply some ∙ sym (told-refused r (q .nx) (q .ny) left some)
+
+    pub tellable : (room : ℕ) → room ≡ mostBytes → length (left .grid) ≡ length (found .grid) → length (left .support) ≡ length (found .support) → Tellable r (q .nx) (q .ny) left room
+    tellable room long g s =
+        let e = mul-comm (q .nx) (q .ny) in
+        record {
+          two = omega arith;
+          columns = λ zero. omega (arith, formed .shape .two-columns);
+          grid = sym (g ∙ fits .grid-long ∙ e);
+          support = sym (s ∙ fits .support-long ∙ e);
+          all = λ zero. omega (arith, accepted-short zero);
+        }

@@ -1,10 +1,12 @@
 // The answer to a request (document 01): its refusal, or its analysis, as text.
 ghost use mathlib.Core.Path.{_≡_};
 ghost use lib.ListN.{length};
-ghost use Rattle.scheme.specs.Units.{asked, asking};
-ghost use Rattle.scheme.specs.Promises.{sixColumns, slices, Stands};
-ghost use Rattle.scheme.specs.Text.{replyText};
-ghost use Rattle.text_answer.specs.Report.{Measured, toldText, Tellable};
+ghost use Rattle.scheme.specs.Promises.{slices, Stands};
+ghost use Rattle.scheme.specs.Text.{mostBytes, replyText};
+ghost use Rattle.scheme.specs.Accepted.{Formed, Fits};
+ghost use Rattle.request.specs.Tables.{requestIn};
+ghost use Rattle.text_answer.specs.Report.{toldText, Tellable};
+use request::Terms;
 
 // What the analysis answered, at the start of out; how many bytes it has.
 fn tell(
@@ -26,57 +28,19 @@ fn tell(
 }
 
 // The answer to a request, at the start of out; how many bytes it has. The analysis goes into grid, support and verdict.
-pub fn analysed(
-    nx: u32,
-    ny: u32,
+pub fn answered(
+    t: Terms,
     guess: &[i32],
-    x: &[i32],
-    y: &[i32],
-    value: &[i32],
-    observed: &[u32],
-    from: &[u32],
-    until: &[u32],
-    count: u32,
-    radius: &[i32],
-    limit: &[i32],
-    smooth: bool,
-    time: u32,
-    age: u32,
+    numbers: &[[i32; 3]; 512],
+    minutes: &[[u32; 3]; 512],
     grid: &mut [i32],
     support: &mut [u8],
     verdict: &mut [u8],
     out: &mut [u8],
 ) -> usize
-    requires { ⌜ Measured (asking nx ny (now guess) (sixColumns (now x) (now y) (now value) (now observed) (now from) (now until)) count (now radius) (now limit) smooth time age) (length (now grid)) (length (now support)) (length (now verdict)) × (length (now out) ≡ 65536) ⌝ }
-    ensures { λ r. ⌜ Stands (replyText (asked (asking nx ny (now (guess .entry)) (sixColumns (now (x .entry)) (now (y .entry)) (now (value .entry)) (now (observed .entry)) (now (from .entry)) (now (until .entry))) count (now (radius .entry)) (now (limit .entry)) smooth time age))) (now (out .entry)) r (now (out .exit)) ⌝ }
+    requires { ⌜ Formed (requestIn t (now guess) (now numbers) (now minutes)) × Fits (requestIn t (now guess) (now numbers) (now minutes)) (length (now grid)) (length (now support)) (length (now verdict)) × (length (now out) ≡ mostBytes) ⌝ }
+    ensures { λ r. ⌜ Stands (replyText (requestIn t (now (guess .entry)) (now (numbers .entry)) (now (minutes .entry)))) (now (out .entry)) r (now (out .exit)) ⌝ }
 {
-    let refused = analysis::analyse(
-        nx,
-        ny,
-        guess,
-        x,
-        y,
-        value,
-        observed,
-        from,
-        until,
-        count,
-        radius,
-        limit,
-        smooth,
-        time,
-        age,
-        grid,
-        support,
-        verdict,
-    );
-    tell(
-        refused,
-        nx as usize,
-        ny as usize,
-        grid,
-        support,
-        verdict,
-        out,
-    )
+    let refused = analysis::settled(t, guess, numbers, minutes, grid, support, verdict);
+    tell(refused, t.nx, t.ny, grid, support, verdict, out)
 }

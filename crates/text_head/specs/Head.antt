@@ -34,7 +34,8 @@ pub record Limits (h : Head) : Type 0 where
   pub few-columns : h .nx ≤ mostSide
   pub two-rows : leastSide ≤ h .ny
   pub few-rows : h .ny ≤ mostSide
-  pub scans : h .scans ≤ mostScans
+  pub scans-some : 1 ≤ h .scans
+  pub scans-few : h .scans ≤ mostScans
   pub line : h .line ≤ 6
 
 pub record HeadIs (s : List ℕ) (h : Head) : Type 0 where

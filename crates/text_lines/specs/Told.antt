@@ -4,7 +4,7 @@ use mathlib.Core.Path.{_≡_}
 use mathlib.Core.List.{List}
 use lib.ListN.{drop}
 use lib.IntN.{ℤ}
-use Rattle.scheme.specs.Units.{leastSide, mostSide, Station}
+use Rattle.scheme.specs.Units.{leastSide, mostSide}
 use Rattle.scheme.specs.Text.Reader.{fails, reads}
 use Rattle.scheme.specs.Text.Lines.{Size, Entry}
 use Rattle.text_pieces.specs.Told.{Parsed}
@@ -14,9 +14,6 @@ use Rattle.text_lines.specs.declared.SizeRead.{SizeRead}
 use Rattle.text_lines.specs.declared.SizeRead.the-variants.{Value as SizeValue, NotInForm as NotSize}
 use Rattle.text_lines.specs.declared.EntryRead.{EntryRead}
 use Rattle.text_lines.specs.declared.EntryRead.the-variants.{Value as EntryValue, NotInForm as NotEntry}
-use Rattle.text_lines.specs.declared.Row.{Row}
-use Rattle.text_lines.specs.declared.StationRead.{StationRead}
-use Rattle.text_lines.specs.declared.StationRead.the-variants.{Value as StationValue, NotInForm as NotStation}
 
 -- a size that was read, which lies in its range
 pub record SizeIs (s : List ℕ) (p : Parsed Size) (nx ny next : ℕ) : Type 0 where
@@ -33,13 +30,6 @@ Sizes s p NotSize = p ≡ fails tt
 abbrev pub entryTold : List ℕ → EntryRead → Parsed Entry
 entryTold s (EntryValue radius limit next) = reads (record { radius = radius; limit = limit }) (drop next s)
 entryTold s NotEntry = fails tt
-
-abbrev pub stationOf : Row → Station
-stationOf r = record { x = r .x; y = r .y; value = r .value; observed = r .observed; from = r .from; until = r .until }
-
-abbrev pub stationTold : List ℕ → StationRead → Parsed Station
-stationTold s (StationValue row next) = reads (stationOf row) (drop next s)
-stationTold s NotStation = fails tt
 
 -- values that were read into z
 abbrev pub valuesTold : List ℕ → List ℤ → WordRead → Parsed (List ℤ)

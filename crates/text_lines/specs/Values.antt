@@ -1,5 +1,5 @@
 -- A turn of the loop over the values of a row, over plain values: what is read so far, before what the definition still reads from here, is the whole.
-use Prim.Native.Nat.{ℕ, suc, _+_, _-_, _≤_, _<_}
+use Prim.Native.Nat.{ℕ, zero, suc, _+_, _-_, _≤_, _<_}
 use native.Mathlib.Omega.{arith}
 use native.Mathlib.Numerals.{add-one}
 use mathlib.Core.Path.{_≡_, refl, sym, ap, _∙_}
@@ -14,6 +14,10 @@ use Rattle.text_pieces.specs.Told.{Parsed}
 -- a value that has so many after it
 abbrev pub cell : ℕ → Piece ℤ
 cell more = signed before word (mark more ∷ [])
+
+pub some-left : (more : ℕ) → (more ≡ 0 → ⊥) → mark more ≡ 44
+some-left zero h = absurd (h refl)
+some-left (suc more) h = refl
 
 -- values that were read before others
 abbrev pub prefixed : List ℤ → Parsed (List ℤ) → Parsed (List ℤ)

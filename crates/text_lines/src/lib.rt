@@ -1,12 +1,15 @@
 // Lines of the request text (document 01), one at a time: each at a place of the text.
 ghost use mathlib.Core.Path.{_≡_};
+ghost use Prim.Native.Nat.{_<_};
 ghost use lib.ListN.{length, drop};
 ghost use mathlib.Core.List.{[], _∷_};
+ghost use Rattle.scheme.specs.Units.{mostStations};
 ghost use Rattle.scheme.specs.Text.Reader.{_before_};
 ghost use Rattle.scheme.specs.Text.Pieces.{word, count, signed, mark, values};
-ghost use Rattle.scheme.specs.Text.Lines.{number, gridLine, scanLine, rowLine, stationLine, observation, end};
+ghost use Rattle.scheme.specs.Text.Lines.{number, gridLine, scanLine, rowLine, observation, end};
 ghost use Rattle.text_pieces.specs.Told.{unsignedTold, signedTold, Within};
-ghost use Rattle.text_lines.specs.Told.{Sizes, entryTold, stationTold, valuesTold};
+ghost use Rattle.text_lines.specs.Station.{stationNumbers, stationMinutes, RowIs, StationIs};
+ghost use Rattle.text_lines.specs.Told.{Sizes, entryTold, valuesTold};
 use text_pieces::SignedRead;
 use text_pieces::UnsignedRead;
 use text_pieces::WordRead;
@@ -28,19 +31,29 @@ pub enum EntryRead {
     NotInForm,
 }
 
-pub struct Row {
-    pub x: i32,
-    pub y: i32,
-    pub value: i32,
-    pub observed: u32,
-    pub from: u32,
-    pub until: u32,
+// ---- a number that has so many after it in its line: a comma follows, or the line feed
+
+fn count_in_line(s: &[u8], at: usize, low: u32, high: u32, more: usize) -> UnsignedRead
+    ensures { λ r. ⌜ ((count low high before word (mark more ∷ [])) (drop at (now (s .entry))) ≡ unsignedTold (now (s .entry)) r) × Within low high r ⌝ }
+{
+    let n = text_pieces::count_at(s, at, low, high);
+    if more == 0 {
+        return text_pieces::unsigned_before(s, n, b"\n");
+    }
+    text_pieces::unsigned_before(s, n, b",")
 }
 
-pub enum StationRead {
-    Value(Row, usize),
-    NotInForm,
+fn signed_in_line(s: &[u8], at: usize, more: usize) -> SignedRead
+    ensures { λ r. ⌜ (signed before word (mark more ∷ [])) (drop at (now (s .entry))) ≡ signedTold (now (s .entry)) r ⌝ }
+{
+    let v = text_pieces::signed_at(s, at);
+    if more == 0 {
+        return text_pieces::signed_before(s, v, b"\n");
+    }
+    text_pieces::signed_before(s, v, b",")
 }
+
+// ---- lines
 
 // A line that says one number, in low..high.
 pub fn number_line(s: &[u8], at: usize, key: &[u8], low: u32, high: u32) -> UnsignedRead
@@ -49,7 +62,7 @@ pub fn number_line(s: &[u8], at: usize, key: &[u8], low: u32, high: u32) -> Unsi
     let WordRead::At(p) = text_pieces::word_at(s, at, key) else {
         return UnsignedRead::NotInForm;
     };
-    text_pieces::unsigned_before(s, text_pieces::count_at(s, p, low, high), b"\n")
+    count_in_line(s, p, low, high, 0)
 }
 
 pub fn grid_line(s: &[u8], at: usize) -> SizeRead
@@ -58,18 +71,10 @@ pub fn grid_line(s: &[u8], at: usize) -> SizeRead
     let WordRead::At(p) = text_pieces::word_at(s, at, b"grid=") else {
         return SizeRead::NotInForm;
     };
-    let UnsignedRead::Value(nx, q) = text_pieces::unsigned_before(
-        s,
-        text_pieces::count_at(s, p, 2, 64),
-        b",",
-    ) else {
+    let UnsignedRead::Value(nx, q) = count_in_line(s, p, 2, 64, 1) else {
         return SizeRead::NotInForm;
     };
-    let UnsignedRead::Value(ny, next) = text_pieces::unsigned_before(
-        s,
-        text_pieces::count_at(s, q, 2, 64),
-        b"\n",
-    ) else {
+    let UnsignedRead::Value(ny, next) = count_in_line(s, q, 2, 64, 0) else {
         return SizeRead::NotInForm;
     };
     SizeRead::Value(nx, ny, next)
@@ -81,18 +86,10 @@ pub fn scan_line(s: &[u8], at: usize) -> EntryRead
     let WordRead::At(p) = text_pieces::word_at(s, at, b"scan=") else {
         return EntryRead::NotInForm;
     };
-    let SignedRead::Value(radius, q) = text_pieces::signed_before(
-        s,
-        text_pieces::signed_at(s, p),
-        b",",
-    ) else {
+    let SignedRead::Value(radius, q) = signed_in_line(s, p, 1) else {
         return EntryRead::NotInForm;
     };
-    let SignedRead::Value(limit, next) = text_pieces::signed_before(
-        s,
-        text_pieces::signed_at(s, q),
-        b"\n",
-    ) else {
+    let SignedRead::Value(limit, next) = signed_in_line(s, q, 0) else {
         return EntryRead::NotInForm;
     };
     EntryRead::Value(radius, limit, next)
@@ -118,61 +115,64 @@ fn end_at(s: &[u8], at: usize) -> UnsignedRead
     }
 }
 
-pub fn station_line(s: &[u8], at: usize) -> StationRead
-    ensures { λ r. ⌜ stationLine (drop at (now (s .entry))) ≡ stationTold (now (s .entry)) r ⌝ }
+// x, y and value of a station, into row k.
+fn numbers_at(s: &[u8], at: usize, k: usize, numbers: &mut [[i32; 3]; 512]) -> WordRead
+    requires { ⌜ (k < mostStations) × (length (now numbers) ≡ mostStations) ⌝ }
+    ensures { λ r. ⌜ RowIs stationNumbers (now (s .entry)) at k (now (numbers .entry)) (now (numbers .exit)) r ⌝ }
 {
-    let WordRead::At(a) = text_pieces::word_at(s, at, b"st=") else {
-        return StationRead::NotInForm;
+    let WordRead::At(p) = text_pieces::word_at(s, at, b"st=") else {
+        return WordRead::NotInForm;
     };
-    let SignedRead::Value(x, b) = text_pieces::signed_before(s, text_pieces::signed_at(s, a), b",")
+    let SignedRead::Value(x, q) = signed_in_line(s, p, 1) else {
+        return WordRead::NotInForm;
+    };
+    let SignedRead::Value(y, u) = signed_in_line(s, q, 1) else {
+        return WordRead::NotInForm;
+    };
+    let SignedRead::Value(value, next) = text_pieces::signed_before(s, observation_at(s, u), b",")
     else {
-        return StationRead::NotInForm;
+        return WordRead::NotInForm;
     };
-    let SignedRead::Value(y, d) = text_pieces::signed_before(s, text_pieces::signed_at(s, b), b",")
-    else {
-        return StationRead::NotInForm;
-    };
-    let SignedRead::Value(value, e) = text_pieces::signed_before(s, observation_at(s, d), b",")
-    else {
-        return StationRead::NotInForm;
-    };
-    let UnsignedRead::Value(observed, f) = text_pieces::unsigned_before(
-        s,
-        text_pieces::count_at(s, e, 0, 4294967295),
-        b",",
-    ) else {
-        return StationRead::NotInForm;
-    };
-    let UnsignedRead::Value(from, g) = text_pieces::unsigned_before(
-        s,
-        text_pieces::count_at(s, f, 0, 4294967295),
-        b",",
-    ) else {
-        return StationRead::NotInForm;
-    };
-    let UnsignedRead::Value(until, next) = text_pieces::unsigned_before(s, end_at(s, g), b"\n")
-    else {
-        return StationRead::NotInForm;
-    };
-    let row = Row {
-        x,
-        y,
-        value,
-        observed,
-        from,
-        until,
-    };
-    StationRead::Value(row, next)
+    let row = [x, y, value];
+    numbers[k] = row;
+    WordRead::At(next)
 }
 
-// A value of a grid row that has so many after it.
-fn cell_at(s: &[u8], at: usize, more: usize) -> SignedRead
-    ensures { λ r. ⌜ (signed before word (mark more ∷ [])) (drop at (now (s .entry))) ≡ signedTold (now (s .entry)) r ⌝ }
+// Its observed, from and until.
+fn minutes_at(s: &[u8], at: usize, k: usize, minutes: &mut [[u32; 3]; 512]) -> WordRead
+    requires { ⌜ (k < mostStations) × (length (now minutes) ≡ mostStations) ⌝ }
+    ensures { λ r. ⌜ RowIs stationMinutes (now (s .entry)) at k (now (minutes .entry)) (now (minutes .exit)) r ⌝ }
 {
-    if more == 0 {
-        return text_pieces::signed_before(s, text_pieces::signed_at(s, at), b"\n");
-    }
-    text_pieces::signed_before(s, text_pieces::signed_at(s, at), b",")
+    let UnsignedRead::Value(observed, p) = count_in_line(s, at, 0, 4294967295, 1) else {
+        return WordRead::NotInForm;
+    };
+    let UnsignedRead::Value(from, q) = count_in_line(s, p, 0, 4294967295, 1) else {
+        return WordRead::NotInForm;
+    };
+    let UnsignedRead::Value(until, next) = text_pieces::unsigned_before(s, end_at(s, q), b"\n")
+    else {
+        return WordRead::NotInForm;
+    };
+    let row = [observed, from, until];
+    minutes[k] = row;
+    WordRead::At(next)
+}
+
+// One station, into row k of the two tables.
+pub fn station_line(
+    s: &[u8],
+    at: usize,
+    k: usize,
+    numbers: &mut [[i32; 3]; 512],
+    minutes: &mut [[u32; 3]; 512],
+) -> WordRead
+    requires { ⌜ (k < mostStations) × (length (now numbers) ≡ mostStations) × (length (now minutes) ≡ mostStations) ⌝ }
+    ensures { λ r. ⌜ StationIs (now (s .entry)) at k (now (numbers .entry)) (now (minutes .entry)) (now (numbers .exit)) (now (minutes .exit)) r ⌝ }
+{
+    let WordRead::At(p) = numbers_at(s, at, k, numbers) else {
+        return WordRead::NotInForm;
+    };
+    minutes_at(s, p, k, minutes)
 }
 
 // As many values as z is long, into z.
@@ -182,7 +182,7 @@ fn values_at(s: &[u8], at: usize, z: &mut [i32]) -> WordRead
     let mut p = at;
     let mut i: usize = 0;
     while i < z.len() {
-        let SignedRead::Value(v, next) = cell_at(s, p, z.len() - 1 - i) else {
+        let SignedRead::Value(v, next) = signed_in_line(s, p, z.len() - 1 - i) else {
             return WordRead::NotInForm;
         };
         z[i] = v;

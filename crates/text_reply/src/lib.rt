@@ -1,60 +1,104 @@
-// The answer to any text (document 01): the text is read into columns, and these are analysed.
+// The answer to any text (document 01): the text is read into terms and tables, and these are analysed.
 ghost use mathlib.Core.Path.{_≡_};
 ghost use lib.ListN.{length};
-ghost use Rattle.scheme.specs.Text.{inForm};
-ghost use Rattle.scheme.specs.Promises.{sixColumns, Stands, Replies};
-ghost use Rattle.text_request.specs.Whole.{Lent, Fits, requestTold};
+ghost use Rattle.scheme.specs.Units.{mostScans};
+ghost use Rattle.scheme.specs.Most.{mostPoints};
+ghost use Rattle.scheme.specs.Text.{mostBytes, requestLines, replyText, inForm};
+ghost use Rattle.scheme.specs.Promises.{Stands, Replies};
+ghost use Rattle.scheme.specs.Accepted.{Formed};
+ghost use Rattle.request.specs.Tables.{requestIn};
+ghost use Rattle.text_request.specs.Whole.{Fits, requestTold};
+ghost use Rattle.text_reply.specs.Reply.{termsRead};
+use request::Terms;
+use text_head::Head;
 use text_request::RequestRead;
 
-// The answer to what was read, at the start of out; how many bytes it has. A request's columns are the fronts of those that were lent.
+// The answer to a request, at the start of out; how many bytes it has. Here is room for the result.
 fn reply_to(
-    read: RequestRead,
+    t: Terms,
     guess: &[i32],
-    radius: &[i32],
-    limit: &[i32],
-    x: &[i32],
-    y: &[i32],
-    value: &[i32],
-    observed: &[u32],
-    from: &[u32],
-    until: &[u32],
+    numbers: &[[i32; 3]; 512],
+    minutes: &[[u32; 3]; 512],
     out: &mut [u8],
 ) -> usize
-    requires { ⌜ Fits read × Lent (now guess) (now radius) (now limit) (sixColumns (now x) (now y) (now value) (now observed) (now from) (now until)) × (length (now out) ≡ 65536) ⌝ }
-    ensures { λ r. ⌜ Stands (inForm (requestTold (now (guess .entry)) (now (radius .entry)) (now (limit .entry)) (sixColumns (now (x .entry)) (now (y .entry)) (now (value .entry)) (now (observed .entry)) (now (from .entry)) (now (until .entry))) read)) (now (out .entry)) r (now (out .exit)) ⌝ }
+    requires { ⌜ Formed (requestIn t (now guess) (now numbers) (now minutes)) × (length (now out) ≡ mostBytes) ⌝ }
+    ensures { λ r. ⌜ Stands (replyText (requestIn t (now (guess .entry)) (now (numbers .entry)) (now (minutes .entry)))) (now (out .entry)) r (now (out .exit)) ⌝ }
+{
+    let points = t.nx * t.ny;
+    let mut grid = [0i32; 4096];
+    let mut support = [0u8; 4096];
+    let mut verdict = [0u8; 512];
+    text_answer::answered(
+        t,
+        guess,
+        numbers,
+        minutes,
+        &mut grid[..points],
+        &mut support[..points],
+        &mut verdict[..t.stations],
+        out,
+    )
+}
+
+// What was read, as terms.
+fn terms_read(h: Head, stations: u32, radius: [i32; 6], limit: [i32; 6]) -> Terms
+    ensures { λ t. ⌜ t ≡ termsRead h stations radius limit ⌝ }
+{
+    Terms {
+        nx: h.nx as usize,
+        ny: h.ny as usize,
+        stations: stations as usize,
+        scans: h.scans as usize,
+        radius,
+        limit,
+        smooth: h.smooth,
+        time: h.time,
+        age: h.age,
+    }
+}
+
+// The answer to what was read. A request's first guess is the front of what was lent.
+fn reply_to_read(
+    read: RequestRead,
+    guess: &[i32],
+    radius: [i32; 6],
+    limit: [i32; 6],
+    numbers: &[[i32; 3]; 512],
+    minutes: &[[u32; 3]; 512],
+    out: &mut [u8],
+) -> usize
+    requires { ⌜ Fits read × (length (now guess) ≡ mostPoints) × (length radius ≡ mostScans) × (length limit ≡ mostScans) × (length (now out) ≡ mostBytes) ⌝ }
+    ensures { λ r. ⌜ Stands (inForm (requestTold (now (guess .entry)) radius limit (now (numbers .entry)) (now (minutes .entry)) read)) (now (out .entry)) r (now (out .exit)) ⌝ }
 {
     match read {
         RequestRead::NotInForm(line) => text_print::first_two(out, 0, 9, line),
-        RequestRead::Value(q) => {
-            let points = (q.ny as usize) * (q.nx as usize);
-            let n = q.stations as usize;
-            let scans = q.scans as usize;
-            let mut grid = [0i32; 4096];
-            let mut support = [0u8; 4096];
-            let mut verdict = [0u8; 512];
-            text_answer::analysed(
-                q.nx,
-                q.ny,
-                &guess[..points],
-                &x[..n],
-                &y[..n],
-                &value[..n],
-                &observed[..n],
-                &from[..n],
-                &until[..n],
-                q.scans,
-                &radius[..scans],
-                &limit[..scans],
-                q.smooth,
-                q.time,
-                q.age,
-                &mut grid[..points],
-                &mut support[..points],
-                &mut verdict[..n],
-                out,
-            )
+        RequestRead::Value(h, stations, _) => {
+            let points = (h.ny as usize) * (h.nx as usize);
+            let t = terms_read(h, stations, radius, limit);
+            reply_to(t, &guess[..points], numbers, minutes, out)
         }
     }
+}
+
+// The answer to a text that is not too long. Here is room for the request.
+fn reply_to_text(text: &[u8], out: &mut [u8]) -> usize
+    requires { ⌜ length (now out) ≡ mostBytes ⌝ }
+    ensures { λ r. ⌜ Stands (inForm (requestLines (1, now (text .entry)))) (now (out .entry)) r (now (out .exit)) ⌝ }
+{
+    let mut guess = [0i32; 4096];
+    let mut radius = [0i32; 6];
+    let mut limit = [0i32; 6];
+    let mut numbers = [[0i32; 3]; 512];
+    let mut minutes = [[0u32; 3]; 512];
+    let read = text_request::read_request(
+        text,
+        &mut guess,
+        &mut radius,
+        &mut limit,
+        &mut numbers,
+        &mut minutes,
+    );
+    reply_to_read(read, &guess, radius, limit, &numbers, &minutes, out)
 }
 
 // The answer to any text, at the start of out; how many bytes it has.
@@ -64,38 +108,5 @@ pub fn reply(text: &[u8], out: &mut [u8; 65536]) -> usize
     if 65536 < text.len() {
         return text_print::first_two(out, 0, 10, 0);
     }
-    let mut guess = [0i32; 4096];
-    let mut radius = [0i32; 6];
-    let mut limit = [0i32; 6];
-    let mut x = [0i32; 512];
-    let mut y = [0i32; 512];
-    let mut value = [0i32; 512];
-    let mut observed = [0u32; 512];
-    let mut from = [0u32; 512];
-    let mut until = [0u32; 512];
-    let read = text_request::read_request(
-        text,
-        &mut guess,
-        &mut radius,
-        &mut limit,
-        &mut x,
-        &mut y,
-        &mut value,
-        &mut observed,
-        &mut from,
-        &mut until,
-    );
-    reply_to(
-        read,
-        &guess,
-        &radius,
-        &limit,
-        &x,
-        &y,
-        &value,
-        &observed,
-        &from,
-        &until,
-        out,
-    )
+    reply_to_text(text, out)
 }

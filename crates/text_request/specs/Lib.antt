@@ -1,4 +1,3 @@
 pub mod Told
 pub mod Turns
-pub mod Columns
 pub mod Whole

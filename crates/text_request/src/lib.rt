@@ -1,20 +1,17 @@
-// The request text (document 01): its lines in their order, read into the caller's columns, or the first line not in form.
+// The request text (document 01): its lines in their order, read into the caller's tables, or the first line not in form.
 ghost use mathlib.Core.Path.{_≡_};
 ghost use Prim.Native.Nat.{_+_, _*_, _≤_, _<_, _^_};
 ghost use lib.ListN.{length, take, drop};
-ghost use Rattle.lists.specs.Tab.{tab};
-ghost use Rattle.scheme.specs.Units.{stationAt, mostScans};
+ghost use Rattle.scheme.specs.Units.{mostScans, mostStations};
 ghost use Rattle.scheme.specs.Most.{mostPoints};
-ghost use Rattle.scheme.specs.Text.{requestLines};
-ghost use Rattle.scheme.specs.Text.Lines.{scanLine, rowLine, stationLine};
-ghost use Rattle.scheme.specs.Text.Order.{lines, rows};
-ghost use Rattle.scheme.specs.Promises.{sixColumns};
-ghost use Rattle.text_request.specs.Told.{linesTold, entryAt};
-ghost use Rattle.scheme.specs.Calls.{Room};
-ghost use Rattle.text_request.specs.Whole.{Limited, Lent, Plans, Guesses, notCounted, Counts, Asks, requestTold, Fits};
+ghost use Rattle.scheme.specs.Text.Lines.{rowLine};
+ghost use Rattle.scheme.specs.Text.Order.{rows};
+ghost use Rattle.text_head.specs.Head.{Limits};
+ghost use Rattle.text_request.specs.Told.{linesTold, ScansAre, StationRows};
+ghost use Rattle.text_request.specs.Whole.{GridIs, StationsAre, BodyIs, RequestIs};
+use text_head::Head;
 use text_head::HeadRead;
 use text_lines::EntryRead;
-use text_lines::StationRead;
 use text_pieces::UnsignedRead;
 use text_pieces::WordRead;
 
@@ -24,43 +21,30 @@ enum LinesRead {
     NotInForm(u32),
 }
 
-// How many stations follow, the number of the first one's line, and its place. Where a line is not in form: its number, and no station.
-struct Counted {
-    found: bool,
-    count: u32,
-    line: u32,
-    next: usize,
-}
-
-// What the caller's columns do not hold of a request, with the number of the line after the last; or the first line not in form.
-pub struct Asked {
-    pub nx: u32,
-    pub ny: u32,
-    pub time: u32,
-    pub age: u32,
-    pub smooth: bool,
-    pub scans: u32,
-    pub stations: u32,
-    pub line: u32,
-}
-
-pub enum RequestRead {
-    Value(Asked),
+// How many stations there are, and the number of the line after the last; or the first line not in form.
+enum StationsRead {
+    Value(u32, u32),
     NotInForm(u32),
 }
 
-// ---- lines of a kind, the first of which is line number line, into the front of the caller's columns
+// What the head says, how many stations there are, and the number of the line after the last; or the first line not in form.
+pub enum RequestRead {
+    Value(Head, u32, u32),
+    NotInForm(u32),
+}
+
+// ---- lines of a kind, the first of which is line number line, into the front of what the caller lends
 
 fn scan_lines(
     s: &[u8],
     at: usize,
     line: u32,
     n: usize,
-    radius: &mut [i32],
-    limit: &mut [i32],
+    radius: &mut [i32; 6],
+    limit: &mut [i32; 6],
 ) -> LinesRead
-    requires { ⌜ (line + n < 2 ^ 32) × (n ≤ length (now radius)) × (n ≤ length (now limit)) ⌝ }
-    ensures { λ r. ⌜ lines n scanLine (line, drop at (now (s .entry))) ≡ linesTold (now (s .entry)) (tab n (entryAt (now (radius .exit)) (now (limit .exit)))) (line + n) r ⌝ }
+    requires { ⌜ (line + n < 2 ^ 32) × (n ≤ mostScans) × (length (now radius) ≡ mostScans) × (length (now limit) ≡ mostScans) ⌝ }
+    ensures { λ r. ⌜ ScansAre (now (s .entry)) at line n (now (radius .exit)) (now (limit .exit)) r ⌝ }
 {
     let mut p = at;
     let mut i: usize = 0;
@@ -99,169 +83,105 @@ fn station_lines(
     at: usize,
     line: u32,
     n: usize,
-    x: &mut [i32],
-    y: &mut [i32],
-    value: &mut [i32],
-    observed: &mut [u32],
-    from: &mut [u32],
-    until: &mut [u32],
+    numbers: &mut [[i32; 3]; 512],
+    minutes: &mut [[u32; 3]; 512],
 ) -> LinesRead
-    requires { ⌜ (line + n < 2 ^ 32) × Room n (sixColumns (now x) (now y) (now value) (now observed) (now from) (now until)) ⌝ }
-    ensures { λ r. ⌜ lines n stationLine (line, drop at (now (s .entry))) ≡ linesTold (now (s .entry)) (tab n (stationAt (sixColumns (now (x .exit)) (now (y .exit)) (now (value .exit)) (now (observed .exit)) (now (from .exit)) (now (until .exit))))) (line + n) r ⌝ }
+    requires { ⌜ (line + n < 2 ^ 32) × (n ≤ mostStations) × (length (now numbers) ≡ mostStations) × (length (now minutes) ≡ mostStations) ⌝ }
+    ensures { λ r. ⌜ StationRows (now (s .entry)) at line n (now (numbers .exit)) (now (minutes .exit)) r ⌝ }
 {
     let mut p = at;
     let mut i: usize = 0;
     while i < n {
-        let StationRead::Value(row, next) = text_lines::station_line(s, p) else {
+        let WordRead::At(next) = text_lines::station_line(s, p, i, numbers, minutes) else {
             return LinesRead::NotInForm(line + i as u32);
         };
-        let row_x = row.x;
-        let row_y = row.y;
-        let row_value = row.value;
-        x[i] = row_x;
-        y[i] = row_y;
-        value[i] = row_value;
-        observed[i] = row.observed;
-        from[i] = row.from;
-        until[i] = row.until;
         p = next;
         i += 1;
     }
     LinesRead::Next(p)
 }
 
-// ---- the whole request: each part after those before it, unless one of these was not in form
+// ---- the whole request: each part where the one before ended
 
-// The scans.
-fn plan_lines(s: &[u8], h: HeadRead, radius: &mut [i32], limit: &mut [i32]) -> LinesRead
-    requires { ⌜ Limited h × (mostScans ≤ length (now radius)) × (mostScans ≤ length (now limit)) ⌝ }
-    ensures { λ r. ⌜ Plans (now (s .entry)) (now (radius .exit)) (now (limit .exit)) h r ⌝ }
+// The scans and the first guess.
+fn grid_lines(
+    s: &[u8],
+    h: Head,
+    guess: &mut [i32],
+    radius: &mut [i32; 6],
+    limit: &mut [i32; 6],
+) -> LinesRead
+    requires { ⌜ Limits h × (length (now guess) ≡ mostPoints) × (length (now radius) ≡ mostScans) × (length (now limit) ≡ mostScans) ⌝ }
+    ensures { λ r. ⌜ GridIs (now (s .entry)) h (now (guess .exit)) (now (radius .exit)) (now (limit .exit)) r ⌝ }
 {
-    match h {
-        HeadRead::NotInForm(k) => LinesRead::NotInForm(k),
-        HeadRead::Value(v) => scan_lines(s, v.next, v.line, v.scans as usize, radius, limit),
-    }
-}
-
-// The first guess.
-fn guess_lines(s: &[u8], h: HeadRead, plan: LinesRead, guess: &mut [i32]) -> LinesRead
-    requires { ⌜ Limited h × (mostPoints ≤ length (now guess)) ⌝ }
-    ensures { λ r. ⌜ Guesses (now (s .entry)) (now (guess .exit)) h plan r ⌝ }
-{
-    match h {
-        HeadRead::NotInForm(k) => LinesRead::NotInForm(k),
-        HeadRead::Value(v) => match plan {
-            LinesRead::NotInForm(k) => LinesRead::NotInForm(k),
-            LinesRead::Next(p) => {
-                row_lines(s, p, v.line + v.scans, v.nx as usize, v.ny as usize, guess)
-            }
-        },
-    }
-}
-
-// A line that is not in form.
-fn no_station(line: u32) -> Counted
-    ensures { λ r. ⌜ r ≡ notCounted line ⌝ }
-{
-    Counted {
-        found: false,
-        count: 0,
-        line,
-        next: 0,
-    }
-}
-
-// How many stations there are.
-fn count_line(s: &[u8], h: HeadRead, rows: LinesRead) -> Counted
-    requires { ⌜ Limited h ⌝ }
-    ensures { λ r. ⌜ Counts (now (s .entry)) h rows r ⌝ }
-{
-    match h {
-        HeadRead::NotInForm(k) => no_station(k),
-        HeadRead::Value(v) => match rows {
-            LinesRead::NotInForm(k) => no_station(k),
-            LinesRead::Next(p) => {
-                let line = v.line + v.scans + v.ny;
-                match text_lines::number_line(s, p, b"stations=", 0, 512) {
-                    UnsignedRead::NotInForm => no_station(line),
-                    UnsignedRead::Value(count, next) => {
-                        Counted {
-                            found: true,
-                            count,
-                            line: line + 1,
-                            next,
-                        }
-                    }
-                }
-            }
-        },
-    }
-}
-
-// What all lines say, if nothing follows the stations.
-fn finished(s: &[u8], h: HeadRead, c: Counted, end: LinesRead) -> RequestRead
-    requires { ⌜ c .line + c .count < 2 ^ 32 ⌝ }
-    ensures { λ r. ⌜ Asks (now (s .entry)) h c end r ⌝ }
-{
-    match h {
-        HeadRead::NotInForm(k) => RequestRead::NotInForm(k),
-        HeadRead::Value(v) => {
-            if !c.found {
-                return RequestRead::NotInForm(c.line);
-            }
-            match end {
-                LinesRead::NotInForm(k) => RequestRead::NotInForm(k),
-                LinesRead::Next(next) => {
-                    if next < s.len() {
-                        return RequestRead::NotInForm(c.line + c.count);
-                    }
-                    let all = Asked {
-                        nx: v.nx,
-                        ny: v.ny,
-                        time: v.time,
-                        age: v.age,
-                        smooth: v.smooth,
-                        scans: v.scans,
-                        stations: c.count,
-                        line: c.line + c.count,
-                    };
-                    RequestRead::Value(all)
-                }
-            }
+    match scan_lines(s, h.next, h.line, h.scans as usize, radius, limit) {
+        LinesRead::NotInForm(k) => LinesRead::NotInForm(k),
+        LinesRead::Next(p) => {
+            row_lines(s, p, h.line + h.scans, h.nx as usize, h.ny as usize, guess)
         }
+    }
+}
+
+// The stations, whose count is line number line, and nothing after them.
+fn stations_at(
+    s: &[u8],
+    at: usize,
+    line: u32,
+    numbers: &mut [[i32; 3]; 512],
+    minutes: &mut [[u32; 3]; 512],
+) -> StationsRead
+    requires { ⌜ (line + 513 < 2 ^ 32) × (length (now numbers) ≡ mostStations) × (length (now minutes) ≡ mostStations) ⌝ }
+    ensures { λ r. ⌜ StationsAre (now (s .entry)) at line (now (numbers .exit)) (now (minutes .exit)) r ⌝ }
+{
+    let UnsignedRead::Value(count, p) = text_lines::number_line(s, at, b"stations=", 0, 512) else {
+        return StationsRead::NotInForm(line);
+    };
+    match station_lines(s, p, line + 1, count as usize, numbers, minutes) {
+        LinesRead::NotInForm(k) => StationsRead::NotInForm(k),
+        LinesRead::Next(next) => {
+            if next < s.len() {
+                return StationsRead::NotInForm(line + 1 + count);
+            }
+            StationsRead::Value(count, line + 1 + count)
+        }
+    }
+}
+
+// What all lines say, after a head in form.
+fn body(
+    s: &[u8],
+    h: Head,
+    guess: &mut [i32],
+    radius: &mut [i32; 6],
+    limit: &mut [i32; 6],
+    numbers: &mut [[i32; 3]; 512],
+    minutes: &mut [[u32; 3]; 512],
+) -> RequestRead
+    requires { ⌜ Limits h × (length (now guess) ≡ mostPoints) × (length (now radius) ≡ mostScans) × (length (now limit) ≡ mostScans) × (length (now numbers) ≡ mostStations) × (length (now minutes) ≡ mostStations) ⌝ }
+    ensures { λ r. ⌜ BodyIs (now (s .entry)) h (now (guess .exit)) (now (radius .exit)) (now (limit .exit)) (now (numbers .exit)) (now (minutes .exit)) r ⌝ }
+{
+    match grid_lines(s, h, guess, radius, limit) {
+        LinesRead::NotInForm(k) => RequestRead::NotInForm(k),
+        LinesRead::Next(p) => match stations_at(s, p, h.line + h.scans + h.ny, numbers, minutes) {
+            StationsRead::NotInForm(k) => RequestRead::NotInForm(k),
+            StationsRead::Value(count, line) => RequestRead::Value(h, count, line),
+        },
     }
 }
 
 pub fn read_request(
     s: &[u8],
     guess: &mut [i32],
-    radius: &mut [i32],
-    limit: &mut [i32],
-    x: &mut [i32],
-    y: &mut [i32],
-    value: &mut [i32],
-    observed: &mut [u32],
-    from: &mut [u32],
-    until: &mut [u32],
+    radius: &mut [i32; 6],
+    limit: &mut [i32; 6],
+    numbers: &mut [[i32; 3]; 512],
+    minutes: &mut [[u32; 3]; 512],
 ) -> RequestRead
-    requires { ⌜ Lent (now guess) (now radius) (now limit) (sixColumns (now x) (now y) (now value) (now observed) (now from) (now until)) ⌝ }
-    ensures { λ r. ⌜ (requestLines (1, now (s .entry)) ≡ requestTold (now (guess .exit)) (now (radius .exit)) (now (limit .exit)) (sixColumns (now (x .exit)) (now (y .exit)) (now (value .exit)) (now (observed .exit)) (now (from .exit)) (now (until .exit))) r) × Fits r ⌝ }
+    requires { ⌜ (length (now guess) ≡ mostPoints) × (length (now radius) ≡ mostScans) × (length (now limit) ≡ mostScans) × (length (now numbers) ≡ mostStations) × (length (now minutes) ≡ mostStations) ⌝ }
+    ensures { λ r. ⌜ RequestIs (now (s .entry)) (now (guess .exit)) (now (radius .exit)) (now (limit .exit)) (now (numbers .exit)) (now (minutes .exit)) r ⌝ }
 {
-    let h = text_head::head_lines(s);
-    let plan = plan_lines(s, h, radius, limit);
-    let rows = guess_lines(s, h, plan, guess);
-    let c = count_line(s, h, rows);
-    let end = station_lines(
-        s,
-        c.next,
-        c.line,
-        c.count as usize,
-        x,
-        y,
-        value,
-        observed,
-        from,
-        until,
-    );
-    finished(s, h, c, end)
+    match text_head::head_lines(s) {
+        HeadRead::NotInForm(k) => RequestRead::NotInForm(k),
+        HeadRead::Value(h) => body(s, h, guess, radius, limit, numbers, minutes),
+    }
 }

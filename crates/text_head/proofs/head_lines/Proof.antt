@@ -133,6 +133,7 @@ returns-5 c =
     let t = after-time m in
     let g = grid-is (after-grid t) in
     let e : a .age-line .result .line + 2 ≡ suc (suc (a .age-line .result .line)) = omega arith in
+    let counted = subst (Within 1 mostScans) (n .scans .given .1) (n .before .before .number-line3 .ensures .1) in
     record {
       said = λ next. rw (g .said, line, time-read t, a .age-line .ensures .0, smooth-read m, scans-read n, e);
       limits = record {
@@ -140,7 +141,8 @@ returns-5 c =
         few-columns = g .few-columns;
         two-rows = g .two-rows;
         few-rows = g .few-rows;
-        scans = subst (Within 1 mostScans) (n .scans .given .1) (n .before .before .number-line3 .ensures .1) .1;
+        scans-some = counted .0;
+        scans-few = counted .1;
         line = omega (arith, a .age-line .ensures .1);
       };
     }

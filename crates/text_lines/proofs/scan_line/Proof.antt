@@ -1,16 +1,16 @@
 -- `text_lines::scan_line` meets its contract: piece after piece, each read where the one before ended. Assumes nothing.
 use borrow.Author.Needs.{needs}
 use mathlib.Core.Path.{_≡_, ap, _∙_}
+use mathlib.Core.List.{List}
+use Prim.Native.Nat.{ℕ}
 use lib.ListN.{drop}
 use mir.Syntax.{w32}
 use mir.Val.{SFits}
 use mir.Facts.{toZ-ofZ}
 use Rattle.scheme.specs.Text.Reader.{reads, _before_}
-use Rattle.scheme.specs.Text.Pieces.{ascii, word, comma, lineFeed, signed}
-use Prim.Native.Nat.{ℕ}
-use mathlib.Core.List.{List}
+use Rattle.scheme.specs.Text.Pieces.{ascii, word, comma, signed}
 use Rattle.scheme.specs.Text.Lines.{scanLine}
-use Rattle.text_pieces.specs.Told.{wordTold, signedTold, before-told}
+use Rattle.text_pieces.specs.Told.{wordTold, signedTold}
 use Rattle.text_lines.proofs.scan_line.Statement.{statement}
 use Rattle.text_lines.proofs.scan_line.Tie as tie
 
@@ -26,17 +26,10 @@ module _ (c : tie.After-p) where
 
 module _ (c : tie.After-radius) where
   abbrev after-p : tie.After-p
-  after-p = c .before .before .before .before .before .before
+  after-p = c .before .before .before .before
 
   radius-read : (signed before comma) (drop (after-p .p .given .0 .0) (text after-p)) ≡ reads (c .radius .given .0 .0) (drop (c .radius .given .0 .1 .0) (text after-p))
-  radius-read = before-told comma (c .before .before .before .before .signed-at .ensures) (c .before .before .signed-before .ensures) (ap (signedTold (text after-p)) (c .radius .given .1))
-
-module _ (c : tie.After-limit) where
-  abbrev after-radius : tie.After-radius
-  after-radius = c .before .before .before .before .before .before
-
-  limit-read : (signed before lineFeed) (drop (after-radius .radius .given .0 .1 .0) (text (after-p after-radius))) ≡ reads (c .limit .given .0 .0) (drop (c .limit .given .0 .1 .0) (text (after-p after-radius)))
-  limit-read = before-told lineFeed (c .before .before .before .before .signed-at2 .ensures) (c .before .before .signed-before2 .ensures) (ap (signedTold (text (after-p after-radius))) (c .limit .given .1))
+  radius-read = c .before .before .signed-in-line .ensures ∙ ap (signedTold (text after-p)) (c .radius .given .1)
 
 slice-aggregate-word-at : tie.Need-slice-aggregate-word-at
 slice-aggregate-word-at c = search needs
@@ -54,14 +47,8 @@ returns : tie.Need-returns
 unfolding scanLine
 returns c = rw (c .before .before .word-at .ensures ∙ ap (wordTold (c .before .before .before .before .before .args .s .now)) (c .enum-told .given .1))
 
-signed-at-requires : tie.Need-signed-at-requires
-signed-at-requires c κs = search needs
-
-slice-aggregate-signed-before : tie.Need-slice-aggregate-signed-before
-slice-aggregate-signed-before c = search needs
-
-signed-before-requires : tie.Need-signed-before-requires
-signed-before-requires c κs = search needs
+signed-in-line-requires : tie.Need-signed-in-line-requires
+signed-in-line-requires c κs = search needs
 
 enum-known-radius : tie.Need-enum-known-radius
 enum-known-radius c = search needs
@@ -71,18 +58,10 @@ enum-told-2 c = search needs
 
 returns-2 : tie.Need-returns-2
 unfolding scanLine
-returns-2 c =
-    let m = c .before .before .before .before .before .before in
-    rw (key-read m, before-told comma (c .before .before .before .before .signed-at .ensures) (c .before .before .signed-before .ensures) (ap (signedTold (text m)) (c .enum-told2 .given .1)))
+returns-2 c = let m = c .before .before .before .before in rw (key-read m, c .before .before .signed-in-line .ensures ∙ ap (signedTold (text m)) (c .enum-told2 .given .1))
 
-signed-at-requires-2 : tie.Need-signed-at-requires-2
-signed-at-requires-2 c κs = search needs
-
-slice-aggregate-signed-before-2 : tie.Need-slice-aggregate-signed-before-2
-slice-aggregate-signed-before-2 c = search needs
-
-signed-before-requires-2 : tie.Need-signed-before-requires-2
-signed-before-requires-2 c κs = search needs
+signed-in-line-requires-2 : tie.Need-signed-in-line-requires-2
+signed-in-line-requires-2 c κs = search needs
 
 enum-known-limit : tie.Need-enum-known-limit
 enum-known-limit c = search needs
@@ -92,17 +71,16 @@ enum-told-3 c = search needs
 
 returns-3 : tie.Need-returns-3
 unfolding scanLine
-returns-3 c =
-    let m = c .before .before .before .before .before .before in
-    rw (key-read (after-p m), radius-read m, before-told lineFeed (c .before .before .before .before .signed-at2 .ensures) (c .before .before .signed-before2 .ensures) (ap (signedTold (text (after-p m))) (c .enum-told3 .given .1)))
+returns-3 c = let m = c .before .before .before .before in rw (key-read (after-p m), radius-read m, c .before .before .signed-in-line2 .ensures ∙ ap (signedTold (text (after-p m))) (c .enum-told3 .given .1))
 
 returns-4 : tie.Need-returns-4
 unfolding scanLine
 returns-4 c =
     let m = c .before in
-    let r : SFits w32 (after-radius m .radius .given .0 .0) = record { sfits = c .before .before .before .before .before .before .known-told2 .given .0 .1 } in
+    let k = m .before .before .before .before in
+    let r : SFits w32 (k .radius .given .0 .0) = record { sfits = c .before .before .before .before .known-told2 .given .0 .1 } in
     let l : SFits w32 (m .limit .given .0 .0) = record { sfits = c .known-told3 .given .0 .1 } in
-    rw (key-read (after-p (after-radius m)), radius-read (after-radius m), limit-read m, toZ-ofZ r, toZ-ofZ l)
+    rw (key-read (after-p k), radius-read k, m .before .before .signed-in-line2 .ensures ∙ ap (signedTold (text (after-p k))) (m .limit .given .1), toZ-ofZ r, toZ-ofZ l)
 
 pub scan-line-spec : {M : Type 1} → statement M
 scan-line-spec =
@@ -113,15 +91,11 @@ scan-line-spec =
     enum-known-p
     enum-told
     returns
-    signed-at-requires
-    slice-aggregate-signed-before
-    signed-before-requires
+    signed-in-line-requires
     enum-known-radius
     enum-told-2
     returns-2
-    signed-at-requires-2
-    slice-aggregate-signed-before-2
-    signed-before-requires-2
+    signed-in-line-requires-2
     enum-known-limit
     enum-told-3
     returns-3

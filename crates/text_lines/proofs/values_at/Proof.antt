@@ -22,14 +22,14 @@ abbrev μ-loop : tie.MeasureT-loop
 loop-holds : tie.Need-loop-holds Inv-loop μ-loop
 loop-holds c = let a = c .before .args in (omega arith, refl, values-begin (length (a .z .now)) (drop (a .at) (a .s .now)) (a .z .now))
 
-sub-cell-at : tie.Need-sub-cell-at Inv-loop μ-loop
-sub-cell-at c = search needs
+sub-signed-in-line : tie.Need-sub-signed-in-line Inv-loop μ-loop
+sub-signed-in-line c = search needs
 
-sub-cell-at-2 : tie.Need-sub-cell-at-2 Inv-loop μ-loop
-sub-cell-at-2 c = search needs
+sub-signed-in-line-2 : tie.Need-sub-signed-in-line-2 Inv-loop μ-loop
+sub-signed-in-line-2 c = search needs
 
-cell-at-requires : tie.Need-cell-at-requires Inv-loop μ-loop
-cell-at-requires c κs = search needs
+signed-in-line-requires : tie.Need-signed-in-line-requires Inv-loop μ-loop
+signed-in-line-requires c κs = search needs
 
 enum-known-v : tie.Need-enum-known-v Inv-loop μ-loop
 enum-known-v c = search needs
@@ -45,7 +45,7 @@ returns c =
     let l = c .before .before .before .before in
     let a = l .before .before .args in
     values-off (a .s .now) (drop (a .at) (a .s .now)) (length (a .z .now)) (l .loop .i) (l .loop .p) (l .loop .z) (l .loop .inv .1) (omega arith) (l .loop .inv .2)
-    (c .before .before .cell-at .ensures ∙ ap (signedTold (a .s .now)) (c .enum-told .given .1))
+    (c .before .before .signed-in-line .ensures ∙ ap (signedTold (a .s .now)) (c .enum-told .given .1))
 
 mul-v : tie.Need-mul-v Inv-loop μ-loop
 mul-v c = search needs
@@ -70,7 +70,7 @@ loop-again c =
       omega (arith, e),
       e ∙ l .loop .inv .1,
       values-turn (a .s .now) (drop (a .at) (a .s .now)) (length (a .z .now)) (l .loop .i) (l .loop .p) (l .loop .z) (l .loop .inv .1) (omega arith) (l .loop .inv .2)
-          (v .0 .1 .0) (v .0 .0) (c .before .before .before .cell-at .ensures ∙ ap (signedTold (a .s .now)) (v .1)),
+          (v .0 .1 .0) (v .0 .0) (c .before .before .before .signed-in-line .ensures ∙ ap (signedTold (a .s .now)) (v .1)),
     )
 
 same-length-2 : tie.Need-same-length-2 Inv-loop μ-loop
@@ -89,9 +89,9 @@ values-at-spec =
     Inv-loop
     μ-loop
     loop-holds
-    sub-cell-at
-    sub-cell-at-2
-    cell-at-requires
+    sub-signed-in-line
+    sub-signed-in-line-2
+    signed-in-line-requires
     enum-known-v
     enum-told
     same-length

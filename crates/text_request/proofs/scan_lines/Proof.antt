@@ -3,18 +3,18 @@ use borrow.Author.Needs.{needs}
 use Prim.Native.Nat.{ℕ, _-_, _≤_}
 use native.Mathlib.Omega.{arith}
 use mathlib.Core.Path.{_≡_, refl, ap, _∙_}
+use mathlib.Core.List.{List}
 use lib.ListN.{length, drop, length-set}
 use mir.Syntax.{w32}
 use mir.Val.{SFits}
 use mir.Facts.{toZ-ofZ}
 use Rattle.lists.specs.Tab.{tab}
+use Rattle.scheme.specs.Units.{mostScans}
 use Rattle.scheme.specs.Text.Lines.{Entry, scanLine}
 use Rattle.scheme.specs.Text.Order.{Text, lines}
-use mathlib.Core.List.{List}
 use Rattle.text_lines.specs.Told.{entryTold}
-use Rattle.text_request.specs.Told.{entryAt}
+use Rattle.text_request.specs.Told.{entryAt, entry-stored}
 use Rattle.text_request.specs.Turns.{Reached, begin, turn, stop, done, lines-more, lines-stop, lines-none}
-use Rattle.text_request.specs.Columns.{entry-stored}
 use Rattle.text_request.proofs.scan_lines.Statement.{statement}
 use Rattle.text_request.proofs.scan_lines.Tie as tie
 
@@ -22,14 +22,14 @@ abbrev scans : ℕ → Text (List Entry)
 scans n = lines n scanLine
 
 abbrev Inv-loop : tie.InvT-loop
-Inv-loop s at line n radius₀ limit₀ p₀ i₀ radius limit p i = (i ≤ n) × (length radius ≡ length radius₀) × (length limit ≡ length limit₀) × Reached scans s (drop at s) n line i p (tab i (entryAt radius limit))
+Inv-loop s at line n radius₀ limit₀ p₀ i₀ radius limit p i = (i ≤ n) × (length radius ≡ mostScans) × (length limit ≡ mostScans) × Reached scans s (drop at s) n line i p (tab i (entryAt radius limit))
 
 abbrev μ-loop : tie.MeasureT-loop
 μ-loop s at line n radius₀ limit₀ p₀ i₀ radius limit p i = n - i
 
 loop-holds : tie.Need-loop-holds Inv-loop μ-loop
 unfolding tab
-loop-holds c = let a = c .before .args in (omega arith, refl, refl, begin scans (a .s .now) (drop (a .at) (a .s .now)) (a .n) (a .line) (a .at) refl)
+loop-holds c = let s = c .before in let a = s .args in (omega arith, s .pre .2, s .pre .3, begin scans (a .s .now) (drop (a .at) (a .s .now)) (a .n) (a .line) (a .at) refl)
 
 scan-line-requires : tie.Need-scan-line-requires Inv-loop μ-loop
 scan-line-requires c κs = search needs
@@ -46,30 +46,28 @@ cast-t14 c = search needs
 add-t15 : tie.Need-add-t15 Inv-loop μ-loop
 add-t15 c = search needs
 
-same-length : tie.Need-same-length Inv-loop μ-loop
-same-length c = c .before .before .before .before .loop .inv .1
-
-same-length-2 : tie.Need-same-length-2 Inv-loop μ-loop
-same-length-2 c = c .before .before .before .before .loop .inv .2
-
 returns : tie.Need-returns Inv-loop μ-loop
 returns c =
     let l = c .before .before .before .before in
     let a = l .before .before .args in
-    stop scans (a .s .now) (drop (a .at) (a .s .now)) (a .n) (a .line) (l .loop .i) (l .loop .p) _ (omega arith) (l .loop .inv .3)
-    (lines-stop scanLine (drop (l .loop .p) (a .s .now)) (c .before .before .scan-line .ensures ∙ ap (entryTold (a .s .now)) (c .enum-told .given .1)))
+    record {
+      said = stop scans (a .s .now) (drop (a .at) (a .s .now)) (a .n) (a .line) (l .loop .i) (l .loop .p) _ (omega arith) (l .loop .inv .3)
+          (lines-stop scanLine (drop (l .loop .p) (a .s .now)) (c .before .before .scan-line .ensures ∙ ap (entryTold (a .s .now)) (c .enum-told .given .1)));
+      radii = l .loop .inv .1;
+      limits = l .loop .inv .2;
+    }
 
 mul-r : tie.Need-mul-r Inv-loop μ-loop
 mul-r c = search needs
 
-slice-set-from-r : tie.Need-slice-set-from-r Inv-loop μ-loop
-slice-set-from-r c = search needs
+element-set-from-r : tie.Need-element-set-from-r Inv-loop μ-loop
+element-set-from-r c = omega arith
 
 mul-e : tie.Need-mul-e Inv-loop μ-loop
 mul-e c = search needs
 
-slice-set-from-e : tie.Need-slice-set-from-e Inv-loop μ-loop
-slice-set-from-e c = search needs
+element-set-from-e : tie.Need-element-set-from-e Inv-loop μ-loop
+element-set-from-e c = omega arith
 
 add-i : tie.Need-add-i Inv-loop μ-loop
 add-i c = search needs
@@ -93,18 +91,16 @@ loop-again c =
           (entry-stored (l .loop .i) (l .loop .radius) (l .loop .limit) (v .0 .0) (v .0 .1 .0) (omega arith) (omega arith)),
     )
 
-same-length-3 : tie.Need-same-length-3 Inv-loop μ-loop
-same-length-3 c = c .before .loop .inv .1
-
-same-length-4 : tie.Need-same-length-4 Inv-loop μ-loop
-same-length-4 c = c .before .loop .inv .2
-
 returns-2 : tie.Need-returns-2 Inv-loop μ-loop
 returns-2 c =
     let l = c .before in
     let a = l .before .before .args in
     let e : l .loop .i ≡ a .n = omega arith in
-    rw e at (done scans (a .s .now) (drop (a .at) (a .s .now)) (a .n) (a .line) (l .loop .i) (l .loop .p) _ e (lines-none scanLine) (l .loop .inv .3))
+    record {
+      said = rw e at (done scans (a .s .now) (drop (a .at) (a .s .now)) (a .n) (a .line) (l .loop .i) (l .loop .p) _ e (lines-none scanLine) (l .loop .inv .3));
+      radii = l .loop .inv .1;
+      limits = l .loop .inv .2;
+    }
 
 pub scan-lines-spec : {M : Type 1} → statement M
 scan-lines-spec =
@@ -118,16 +114,12 @@ scan-lines-spec =
     enum-told
     cast-t14
     add-t15
-    same-length
-    same-length-2
     returns
     mul-r
-    slice-set-from-r
+    element-set-from-r
     mul-e
-    slice-set-from-e
+    element-set-from-e
     add-i
     loop-less
     loop-again
-    same-length-3
-    same-length-4
     returns-2)
