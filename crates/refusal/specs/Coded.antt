@@ -3,14 +3,10 @@ use Prim.Native.Nat.{ℕ, _+_, _*_, _≤_, _<_}
 use native.Mathlib.Omega.{arith}
 use mathlib.Core.Path.{_≡_, refl, sym, _∙_}
 use mathlib.Core.Bool.{Bool, true, false}
-use mathlib.Core.List.{List, [], _∷_}
+use mathlib.Core.List.{List, [], _∷_, _++_}
 use borrow.Author.Tests.{lt-ltb, le-ltb}
-use lib.ListN.{length}
-use lib.IntN.{ℤ}
-use Rattle.lists.specs.First.{Found, nowhere, at, first, firstIn, ended}
-use Rattle.scheme.specs.Units.{mostStations, mostScans, Request, Call, asked}
-use Rattle.scheme.specs.Refusals.{Refusal, accepted, refused, asOne, unlessRefused, inOrder, refusedIf, refusedAt, Window, badWindow, pointsAlong, badLengths, badColumns, badScan, badGuess, badStation, fromFive}
-use Rattle.scheme.specs.Accepted.{Shaped}
+use Rattle.lists.specs.First.{Found, nowhere, at, ended}
+use Rattle.scheme.specs.Refusals.{Refusal, accepted, refused, asOne, unlessRefused, inOrder, refusedIf, refusedAt}
 use Rattle.scheme.specs.Promises.{Settles}
 use Rattle.scheme.specs.OneOutcome.{both}
 
@@ -32,62 +28,47 @@ module _ {A : Type 0} (result found : A) {r : ℕ} {f : Refusal} (c : Coded r f)
   pub works : {left : A} → r ≡ 0 → left ≡ result → Settles f result found 0 left
   works none e = both (sym none ∙ c .same) (e ∙ rw (c .only none))
 
--- ---- the rows from 4 on, which the two calls share, and those from 2 on of the window query
+-- ---- lists of tests: the code's first test refuses, or the rest decide
 
-abbrev pub fromFour : Call → List Refusal
-fromFour c = refusedIf 4 (badColumns (c .stations)) ∷ fromFive (asked c)
-
-abbrev pub fromTwo : Call → Window → (grid support : ℕ) → List Refusal
-fromTwo c w grid support =
-    refusedIf 2 (badWindow (c .nx) (c .ny) w)
-    ∷ refusedIf 3 (badLengths (pointsAlong (w .columns) * pointsAlong (w .rows)) grid support)
-    ∷ fromFour c
-
--- ---- the rows from 6 on, which search the request
-
-abbrev pub fromSix : Request → List Refusal
-fromSix q =
-    refusedAt 6 (first (q .plan .scans) (badScan (q .plan)))
-    ∷ refusedAt 7 (firstIn badGuess (q .firstGuess))
-    ∷ refusedAt 8 (firstIn badStation (q .stations))
-    ∷ []
-
--- what their tests need of the rows before
-pub record SixReady (nx ny : ℕ) (fg xs ys vs : List ℤ) (fs us : List ℕ) (scans : ℕ) (radius limit : List ℤ) : Type 0 where
-  pub shape : Shaped nx ny (length fg)
-  pub scans-few : scans ≤ mostScans
-  pub radii : scans ≤ length radius
-  pub limits : scans ≤ length limit
-  pub few : length xs ≤ mostStations
-  pub y : length ys ≡ length xs
-  pub value : length vs ≡ length xs
-  pub from : length fs ≡ length xs
-  pub until : length us ≡ length xs
-
--- ---- lists of tests: the first is settled, or the rest decide
-
-module _ (number : ℕ) (rest : List Refusal) (some : 1 ≤ number) where
-  pub refused-here : (bad : Bool) (r : ℕ) → bad ≡ true → r ≡ number * 65536 + 0 → Coded r (inOrder (refusedIf number bad ∷ rest))
+module _ (number : ℕ) (rest : List Refusal) {test bad : Bool} {r : ℕ} (is : test ≡ bad) where
+  pub refused-here : 1 ≤ number → test ≡ true → r ≡ number * 65536 + 0 → Coded r (inOrder (refusedIf number bad ∷ rest))
   unfolding inOrder refusedIf
-  refused-here bad r e h = rw e (record { same = h; only = λ z. absurd (omega arith) })
+  refused-here some e h = rw (sym is ∙ e) (record { same = h; only = λ z. absurd (omega arith) })
 
-  pub not-here : (bad : Bool) (r : ℕ) → bad ≡ false → Coded r (inOrder rest) → Coded r (inOrder (refusedIf number bad ∷ rest))
+  pub not-here : test ≡ false → Coded r (inOrder rest) → Coded r (inOrder (refusedIf number bad ∷ rest))
   unfolding inOrder refusedIf
-  not-here bad r e h = rw e h
+  not-here e h = rw (sym is ∙ e) h
 
-  pub refused-there : (f : Found) (n k r : ℕ) → ended n k ≡ f → k < n → r ≡ number * 65536 + k → Coded r (inOrder (refusedAt number f ∷ rest))
+-- and so of a search over n places that ends at k
+module _ (number : ℕ) (rest : List Refusal) {n k r : ℕ} {f : Found} (is : ended n k ≡ f) where
+  pub refused-there : 1 ≤ number → k < n → r ≡ number * 65536 + k → Coded r (inOrder (refusedAt number f ∷ rest))
   unfolding inOrder refusedAt
-  refused-there f n k r e l h =
-      let a : f ≡ at k = sym e ∙ rw (lt-ltb k n l) in
+  refused-there some l h =
+      let a : f ≡ at k = sym is ∙ rw (lt-ltb k n l) in
       rw a (record { same = h; only = λ z. absurd (omega arith) })
 
-  pub not-there : (f : Found) (n k r : ℕ) → ended n k ≡ f → n ≤ k → Coded r (inOrder rest) → Coded r (inOrder (refusedAt number f ∷ rest))
+  pub not-there : n ≤ k → Coded r (inOrder rest) → Coded r (inOrder (refusedAt number f ∷ rest))
   unfolding inOrder refusedAt
-  not-there f n k r e l h =
-      let a : f ≡ nowhere = sym e ∙ rw (le-ltb k n l) in
+  not-there l h =
+      let a : f ≡ nowhere = sym is ∙ rw (le-ltb k n l) in
       rw a h
 
 -- no test is left
 pub none-left : Coded 0 (inOrder [])
 unfolding inOrder
 none-left = record { same = refl; only = λ z. refl }
+
+-- ---- tests made in two parts: where no test of the first refuses, the second decides
+
+module _ (rest : List Refusal) where
+  pub rest-decides : (rs : List Refusal) → inOrder rs ≡ accepted → inOrder (rs ++ rest) ≡ inOrder rest
+  unfolding inOrder
+  rest-decides [] e = refl
+  rest-decides (accepted ∷ rs) e = rest-decides rs e
+  rest-decides (refused number place ∷ rs) e = absurd (let z : _≡_ {A = ℕ} 0 1 = cc in omega arith)
+
+  pub refused-before : (rs : List Refusal) {r : ℕ} → Coded r (inOrder rs) → (r ≡ 0 → ⊥) → Coded r (inOrder (rs ++ rest))
+  unfolding inOrder
+  refused-before [] c some = absurd (some (c .same))
+  refused-before (accepted ∷ rs) c some = refused-before rs c some
+  refused-before (refused number place ∷ rs) c some = c

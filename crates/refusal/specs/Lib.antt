@@ -1,2 +1,3 @@
--- An answer as one number, and the tests of the table as the code makes them. Proved.
+-- An answer as one number, and a call whose lengths are right. Proved.
 pub mod Coded
+pub mod Lengths

@@ -1,14 +1,12 @@
-// The refusal table (document 01): its rows in their order, and the first that refuses, with its place.
+// The refusal table (document 01): its rows in their order, and the first that refuses, with its place. Rows 1 to 5 are tested on what a
+// call is handed, before its columns are loaded; rows 6 to 8 search the request that was loaded.
 ghost use mathlib.Core.Path.{_≡_};
-ghost use mathlib.Core.Bool.{Bool};
-ghost use Prim.Native.Nat.{ℕ, _+_, _*_, _≤_, _<_};
-ghost use lib.ListN.{length};
-ghost use mathlib.Core.List.{List};
-ghost use Rattle.scheme.specs.Units.{asked, asking};
-ghost use Rattle.scheme.specs.Refusals.{inOrder, analysisRefusal, windowRefusal};
-ghost use Rattle.scheme.specs.Accepted.{Shaped};
-ghost use Rattle.scheme.specs.Promises.{sixColumns, windowAt};
-ghost use Rattle.refusal.specs.Coded.{Coded, SixReady, fromFour, fromTwo, fromSix};
+ghost use Prim.Native.Nat.{_+_, _*_, _≤_, _<_};
+ghost use Rattle.scheme.specs.Refusals.{inOrder};
+ghost use Rattle.scheme.specs.Accepted.{fromSix, Formed};
+ghost use Rattle.request.specs.Tables.{requestIn, windowIn};
+ghost use Rattle.refusal.specs.Coded.{Coded};
+ghost use Rattle.refusal.specs.Lengths.{fourAndFive, analysisLengths, windowLengths};
 
 // An answer as one number.
 fn coded(number: u32, place: usize) -> u32
@@ -18,222 +16,75 @@ fn coded(number: u32, place: usize) -> u32
     number * 65536 + (place as u32)
 }
 
-// Rows 6 to 8: the plan's entries, the first guess, the stations.
-fn from_six(
-    nx: usize,
-    ny: usize,
-    guess: &[i32],
-    x: &[i32],
-    y: &[i32],
-    value: &[i32],
-    from: &[u32],
-    until: &[u32],
-    scans: usize,
-    radius: &[i32],
-    limit: &[i32],
-) -> u32
-    requires { ⌜ SixReady nx ny (now guess) (now x) (now y) (now value) (now from) (now until) scans (now radius) (now limit) ⌝ }
-    ensures { λ r. ⌜ ((observed : List ℕ) (smooth : Bool) (time age : ℕ)
-        → Coded r (inOrder (fromSix (asked (asking nx ny (now (guess .entry)) (sixColumns (now (x .entry)) (now (y .entry)) (now (value .entry)) observed (now (from .entry)) (now (until .entry))) scans (now (radius .entry)) (now (limit .entry)) smooth time age))))) ⌝ }
+// Rows 4 and 5, which the whole analysis and the window query share: the station columns, the count of scans.
+fn four_and_five(l: refusal_shapes::Lengths) -> u32
+    ensures { λ r. ⌜ Coded r (inOrder (fourAndFive l)) ⌝ }
 {
-    let m = refusal_checks::first_bad_scan(radius, limit, scans);
-    if m < scans {
-        return coded(6, m);
+    if refusal_shapes::columns_bad(l) {
+        return coded(4, 0);
     }
-    let k = refusal_checks::first_bad_guess(guess, nx, ny);
-    if k < guess.len() {
-        return coded(7, k);
-    }
-    let row = refusal_checks::first_bad_station(x, y, value, from, until);
-    if row < x.len() {
-        return coded(8, row);
+    if refusal_shapes::scans_bad(l) {
+        return coded(5, 0);
     }
     0
 }
 
-// Rows 4 to 8, which the whole analysis and the window query share.
-pub fn from_four(
-    nx: usize,
-    ny: usize,
-    guess: &[i32],
-    x: &[i32],
-    y: &[i32],
-    value: &[i32],
-    observed: &[u32],
-    from: &[u32],
-    until: &[u32],
-    scans: usize,
-    radius: &[i32],
-    limit: &[i32],
-) -> u32
-    requires { ⌜ Shaped nx ny (length (now guess)) ⌝ }
-    ensures { λ r. ⌜ ((smooth : Bool) (time age : ℕ)
-        → Coded r (inOrder (fromFour (asking nx ny (now (guess .entry)) (sixColumns (now (x .entry)) (now (y .entry)) (now (value .entry)) (now (observed .entry)) (now (from .entry)) (now (until .entry))) scans (now (radius .entry)) (now (limit .entry)) smooth time age)))) ⌝ }
+// The rows before 6 of the whole analysis: 1 and 3, then 4 and 5. 0 if no test refuses.
+pub fn of_lengths(l: refusal_shapes::Lengths, grid: usize, support: usize, verdict: usize) -> u32
+    ensures { λ r. ⌜ Coded r (inOrder (analysisLengths l grid support verdict)) ⌝ }
 {
-    if refusal_shapes::columns_bad(
-        x.len(),
-        y.len(),
-        value.len(),
-        observed.len(),
-        from.len(),
-        until.len(),
-    ) {
-        return coded(4, 0);
-    }
-    if refusal_shapes::scans_bad(scans, radius.len(), limit.len()) {
-        return coded(5, 0);
-    }
-    from_six(
-        nx,
-        ny,
-        guess,
-        x,
-        y,
-        value,
-        from,
-        until,
-        scans,
-        radius,
-        limit,
-    )
-}
-
-// The whole analysis: 1 and 3, then from 4 on. 0 if no test refuses.
-pub fn of_analysis(
-    nx: usize,
-    ny: usize,
-    guess: &[i32],
-    x: &[i32],
-    y: &[i32],
-    value: &[i32],
-    observed: &[u32],
-    from: &[u32],
-    until: &[u32],
-    scans: usize,
-    radius: &[i32],
-    limit: &[i32],
-    grid: usize,
-    support: usize,
-    verdict: usize,
-) -> u32
-    ensures { λ r. ⌜ ((smooth : Bool) (time age : ℕ)
-        → Coded r (analysisRefusal (asking nx ny (now (guess .entry)) (sixColumns (now (x .entry)) (now (y .entry)) (now (value .entry)) (now (observed .entry)) (now (from .entry)) (now (until .entry))) scans (now (radius .entry)) (now (limit .entry)) smooth time age) grid support verdict)) ⌝ }
-{
-    if refusal_shapes::shape_bad(nx, ny, guess.len()) {
+    if refusal_shapes::shape_bad(l.nx, l.ny, l.guess) {
         return coded(1, 0);
     }
-    if refusal_shapes::lengths_bad(nx * ny, x.len(), grid, support, verdict) {
+    if refusal_shapes::lengths_bad(l.nx * l.ny, l.x, grid, support, verdict) {
         return coded(3, 0);
     }
-    from_four(
-        nx,
-        ny,
-        guess,
-        x,
-        y,
-        value,
-        observed,
-        from,
-        until,
-        scans,
-        radius,
-        limit,
-    )
+    four_and_five(l)
 }
 
-// Rows 2 and 3 of the window query, then from 4 on, over the whole request.
-fn from_two(
-    nx: usize,
-    ny: usize,
-    guess: &[i32],
-    left: usize,
-    right: usize,
-    top: usize,
-    bottom: usize,
-    x: &[i32],
-    y: &[i32],
-    value: &[i32],
-    observed: &[u32],
-    from: &[u32],
-    until: &[u32],
-    scans: usize,
-    radius: &[i32],
-    limit: &[i32],
+// The rows before 6 of the window query: 1 to 3, then 4 and 5. 0 if no test refuses.
+pub fn of_window_lengths(
+    l: refusal_shapes::Lengths,
+    w: request::Window,
     grid: usize,
     support: usize,
 ) -> u32
-    requires { ⌜ Shaped nx ny (length (now guess)) ⌝ }
-    ensures { λ r. ⌜ ((smooth : Bool) (time age : ℕ)
-        → Coded r (inOrder (fromTwo (asking nx ny (now (guess .entry)) (sixColumns (now (x .entry)) (now (y .entry)) (now (value .entry)) (now (observed .entry)) (now (from .entry)) (now (until .entry))) scans (now (radius .entry)) (now (limit .entry)) smooth time age) (windowAt left right top bottom) grid support))) ⌝ }
+    ensures { λ r. ⌜ Coded r (inOrder (windowLengths l (windowIn w) grid support)) ⌝ }
 {
-    if refusal_shapes::window_bad(nx, ny, left, right, top, bottom) {
+    if refusal_shapes::shape_bad(l.nx, l.ny, l.guess) {
+        return coded(1, 0);
+    }
+    if refusal_shapes::window_bad(l.nx, l.ny, w) {
         return coded(2, 0);
     }
-    let points = (right - left + 1) * (bottom - top + 1);
+    let points = (w.right - w.left + 1) * (w.bottom - w.top + 1);
     if refusal_shapes::window_lengths_bad(points, grid, support) {
         return coded(3, 0);
     }
-    from_four(
-        nx,
-        ny,
-        guess,
-        x,
-        y,
-        value,
-        observed,
-        from,
-        until,
-        scans,
-        radius,
-        limit,
-    )
+    four_and_five(l)
 }
 
-// The window query: 1, then from 2 on. 0 if no test refuses.
-pub fn of_window(
-    nx: usize,
-    ny: usize,
+// Rows 6 to 8: the plan's entries, the first guess, the stations. 0 if no test refuses.
+pub fn of_request(
+    t: request::Terms,
     guess: &[i32],
-    left: usize,
-    right: usize,
-    top: usize,
-    bottom: usize,
-    x: &[i32],
-    y: &[i32],
-    value: &[i32],
-    observed: &[u32],
-    from: &[u32],
-    until: &[u32],
-    scans: usize,
-    radius: &[i32],
-    limit: &[i32],
-    grid: usize,
-    support: usize,
+    numbers: &[[i32; 3]; 512],
+    minutes: &[[u32; 3]; 512],
 ) -> u32
-    ensures { λ r. ⌜ ((smooth : Bool) (time age : ℕ)
-        → Coded r (windowRefusal (asking nx ny (now (guess .entry)) (sixColumns (now (x .entry)) (now (y .entry)) (now (value .entry)) (now (observed .entry)) (now (from .entry)) (now (until .entry))) scans (now (radius .entry)) (now (limit .entry)) smooth time age) (windowAt left right top bottom) grid support)) ⌝ }
+    requires { ⌜ Formed (requestIn t (now guess) (now numbers) (now minutes)) ⌝ }
+    ensures { λ r. ⌜ Coded r (inOrder (fromSix (requestIn t (now (guess .entry)) (now (numbers .entry)) (now (minutes .entry))))) ⌝ }
 {
-    if refusal_shapes::shape_bad(nx, ny, guess.len()) {
-        return coded(1, 0);
+    let m = refusal_checks::first_bad_scan(t);
+    if m < t.scans {
+        return coded(6, m);
     }
-    from_two(
-        nx,
-        ny,
-        guess,
-        left,
-        right,
-        top,
-        bottom,
-        x,
-        y,
-        value,
-        observed,
-        from,
-        until,
-        scans,
-        radius,
-        limit,
-        grid,
-        support,
-    )
+    let k = refusal_checks::first_bad_guess(guess, t.nx, t.ny);
+    if k < guess.len() {
+        return coded(7, k);
+    }
+    let row = refusal_checks::first_bad_station(numbers, minutes, t.stations);
+    if row < t.stations {
+        return coded(8, row);
+    }
+    0
 }

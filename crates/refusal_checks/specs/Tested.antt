@@ -14,16 +14,11 @@ use lib.Signed.{ltZ, leZ}
 use mir.Syntax.{w32}
 use mir.Val.{SFits, ofZ}
 use Rattle.lists.specs.Tests.{lt-or-le}
-use Rattle.lists.specs.First.{first, firstIn, ended, in-places, in-table}
-use Rattle.scheme.specs.Units.{amongℤ, within, mostValue, isMissing, stationAt, stationsOf, Plan}
-use Rattle.scheme.specs.Refusals.{rising, badGuess, badStation}
-use Rattle.scheme.specs.Promises.{sixColumns}
+use Rattle.lists.specs.First.{first, firstIn, ended, in-places}
+use Rattle.scheme.specs.Units.{amongℤ, within, mostValue, isMissing, Plan}
+use Rattle.scheme.specs.Refusals.{rising, badGuess}
 use Rattle.scheme.specs.Most.{mostPoints}
 use Rattle.scheme.specs.Accepted.{Shaped}
-
--- a row of the station list; when it was observed is not tested
-unfoldable pub badRow : (x y value : ℤ) (from until : ℕ) → Bool
-badRow x y value from until = badStation (record { x = x; y = y; value = value; observed = 0; from = from; until = until })
 
 -- ---- a range
 
@@ -88,15 +83,6 @@ guessBad z k = badGuess (getD z k (pos 0))
 
 pub of-guess : (z : List ℤ) (r : ℕ) → ended (length z) r ≡ first (length z) (guessBad z) → ended (length z) r ≡ firstIn badGuess z
 of-guess z r h = h ∙ sym (in-places badGuess (pos 0) z)
-
--- the columns that are tested
-abbrev pub rowBad : (xs ys vs : List ℤ) (fs us : List ℕ) → ℕ → Bool
-rowBad xs ys vs fs us k = badRow (getD xs k (pos 0)) (getD ys k (pos 0)) (getD vs k (pos 0)) (getD fs k 0) (getD us k 0)
-
-pub of-columns : (xs ys vs : List ℤ) (os fs us : List ℕ) (r : ℕ) → ended (length xs) r ≡ first (length xs) (rowBad xs ys vs fs us)
-    → ended (length xs) r ≡ firstIn badStation (stationsOf (sixColumns xs ys vs os fs us))
-unfolding badRow badStation stationAt stationsOf
-of-columns xs ys vs os fs us r h = h ∙ sym (in-table badStation (length xs) (stationAt (sixColumns xs ys vs os fs us)))
 
 -- ---- the points of a grid
 

@@ -1,15 +1,14 @@
 // Rows 6 to 8 of the refusal table (document 01): the first bad entry of a plan, value of a first guess, row of the station list.
 ghost use mathlib.Core.Path.{_≡_};
-ghost use mathlib.Core.Bool.{Bool, not, _&&_};
-ghost use mathlib.Core.List.{List};
-ghost use Prim.Native.Nat.{ℕ, _≤_, _<_};
+ghost use mathlib.Core.Bool.{not, _&&_};
+ghost use Prim.Native.Nat.{_≤_, _<_};
 ghost use lib.ListN.{length};
+ghost use Rattle.lists.specs.Tab.{tab};
 ghost use Rattle.lists.specs.First.{first, firstIn, ended};
-ghost use Rattle.scheme.specs.Units.{amongℤ, within, mostValue, isMissing, mostStations, stationsOf, mostScans, Plan};
+ghost use Rattle.scheme.specs.Units.{amongℤ, within, mostValue, isMissing, mostStations, mostScans};
 ghost use Rattle.scheme.specs.Refusals.{rising, badScan, badGuess, badStation};
-ghost use Rattle.scheme.specs.Promises.{sixColumns};
 ghost use Rattle.scheme.specs.Accepted.{Shaped};
-ghost use Rattle.refusal_checks.specs.Tested.{badRow};
+ghost use Rattle.request.specs.Tables.{stationOf, stationIn, planIn};
 
 // The lowest i32 marks a missing observation.
 const MISSING: i32 = -2147483648;
@@ -39,28 +38,28 @@ fn value_bad(v: i32) -> bool
 }
 
 // A radius above the one before it.
-fn rises(radius: &[i32], m: usize) -> bool
-    requires { ⌜ (m < mostScans) × (m < length (now radius)) ⌝ }
-    ensures { λ r. ⌜ ((p : Plan) → p .radius ≡ now (radius .entry) → r ≡ rising p m) ⌝ }
+fn rises(t: request::Terms, m: usize) -> bool
+    requires { ⌜ m < mostScans ⌝ }
+    ensures { λ r. ⌜ r ≡ rising (planIn t) m ⌝ }
 {
     if m == 0 {
         return false;
     }
-    radius[m - 1] < radius[m]
+    t.radius[m - 1] < t.radius[m]
 }
 
 // An entry of a plan: R out of range or rising, or E out of range.
-fn scan_bad(radius: &[i32], limit: &[i32], m: usize) -> bool
-    requires { ⌜ (m < mostScans) × (m < length (now radius)) × (m < length (now limit)) ⌝ }
-    ensures { λ r. ⌜ ((p : Plan) → p .radius ≡ now (radius .entry) → p .limit ≡ now (limit .entry) → r ≡ badScan p m) ⌝ }
+fn scan_bad(t: request::Terms, m: usize) -> bool
+    requires { ⌜ m < mostScans ⌝ }
+    ensures { λ r. ⌜ r ≡ badScan (planIn t) m ⌝ }
 {
-    if outside(1, 1024, radius[m]) {
+    if outside(1, 1024, t.radius[m]) {
         return true;
     }
-    if rises(radius, m) {
+    if rises(t, m) {
         return true;
     }
-    outside(0, 2000000, limit[m])
+    outside(0, 2000000, t.limit[m])
 }
 
 // A station's value out of range. The mark is none.
@@ -74,34 +73,34 @@ fn reading_bad(v: i32) -> bool
 }
 
 // A row of the station list: its value or its position out of range, or from not below until.
-fn station_bad(x: i32, y: i32, value: i32, from: u32, until: u32) -> bool
-    ensures { λ r. ⌜ r ≡ badRow x y value from until ⌝ }
+fn station_bad(numbers: [i32; 3], minutes: [u32; 3]) -> bool
+    ensures { λ r. ⌜ r ≡ badStation (stationOf numbers minutes) ⌝ }
 {
-    if reading_bad(value) {
+    if reading_bad(numbers[request::VALUE]) {
         return true;
     }
-    if value_bad(x) {
+    if value_bad(numbers[request::X]) {
         return true;
     }
-    if value_bad(y) {
+    if value_bad(numbers[request::Y]) {
         return true;
     }
-    until <= from
+    minutes[request::UNTIL] <= minutes[request::FROM]
 }
 
 // The first bad entry of a plan, or its count.
-pub fn first_bad_scan(radius: &[i32], limit: &[i32], count: usize) -> usize
-    requires { ⌜ (count ≤ mostScans) × (count ≤ length (now radius)) × (count ≤ length (now limit)) ⌝ }
-    ensures { λ r. ⌜ ((smooth : Bool) → ended count r ≡ first count (badScan (record { scans = count; radius = now (radius .entry); limit = now (limit .entry); smooth = smooth }))) ⌝ }
+pub fn first_bad_scan(t: request::Terms) -> usize
+    requires { ⌜ t .scans ≤ mostScans ⌝ }
+    ensures { λ r. ⌜ ended (t .scans) r ≡ first (t .scans) (badScan (planIn t)) ⌝ }
 {
     let mut m: usize = 0;
-    while m < count {
-        if scan_bad(radius, limit, m) {
+    while m < t.scans {
+        if scan_bad(t, m) {
             return m;
         }
         m += 1;
     }
-    count
+    m
 }
 
 // The first value of a first guess out of range, or its length.
@@ -125,15 +124,14 @@ pub fn first_bad_guess(first_guess: &[i32], nx: usize, ny: usize) -> usize
     }
 }
 
-// The first bad row of the station list, or its length.
-pub fn first_bad_station(x: &[i32], y: &[i32], value: &[i32], from: &[u32], until: &[u32]) -> usize
-    requires { ⌜ (length (now x) ≤ mostStations) × (length (now y) ≡ length (now x)) × (length (now value) ≡ length (now x)) × (length (now from) ≡ length (now x)) × (length (now until) ≡ length (now x)) ⌝ }
-    ensures { λ r. ⌜ ((observed : List ℕ)
-        → ended (length (now (x .entry))) r ≡ firstIn badStation (stationsOf (sixColumns (now (x .entry)) (now (y .entry)) (now (value .entry)) observed (now (from .entry)) (now (until .entry))))) ⌝ }
+// The first bad row of the station list, or the count of rows.
+pub fn first_bad_station(numbers: &[[i32; 3]; 512], minutes: &[[u32; 3]; 512], n: usize) -> usize
+    requires { ⌜ n ≤ mostStations ⌝ }
+    ensures { λ r. ⌜ ended n r ≡ firstIn badStation (tab n (stationIn (now (numbers .entry)) (now (minutes .entry)))) ⌝ }
 {
     let mut k: usize = 0;
-    while k < x.len() {
-        if station_bad(x[k], y[k], value[k], from[k], until[k]) {
+    while k < n {
+        if station_bad(numbers[k], minutes[k]) {
             return k;
         }
         k += 1;

@@ -1,10 +1,26 @@
 // Rows 1 to 5 of the refusal table (document 01), whose place is 0: a test for each, on lengths and counts alone.
 ghost use mathlib.Core.Path.{_≡_};
 ghost use mathlib.Core.Bool.{not, _||_};
-ghost use lib.Dec.{eqb, ltb};
-ghost use Rattle.scheme.specs.Units.{among, mostStations, mostScans};
+ghost use lib.Dec.{eqb};
 ghost use Rattle.scheme.specs.Refusals.{badShape, badWindow, badLengths};
-ghost use Rattle.scheme.specs.Promises.{windowAt};
+ghost use Rattle.request.specs.Tables.{windowIn};
+ghost use Rattle.refusal_shapes.specs.Tested.{unequalColumns, badScanCount};
+
+// What a call is handed, by lengths and counts.
+pub struct Lengths {
+    pub nx: usize,
+    pub ny: usize,
+    pub guess: usize,
+    pub x: usize,
+    pub y: usize,
+    pub value: usize,
+    pub observed: usize,
+    pub from: usize,
+    pub until: usize,
+    pub scans: usize,
+    pub radius: usize,
+    pub limit: usize,
+}
 
 // 1: nx or ny out of 2..64, or the field is not nx·ny long
 pub fn shape_bad(nx: usize, ny: usize, len: usize) -> bool
@@ -26,26 +42,19 @@ pub fn shape_bad(nx: usize, ny: usize, len: usize) -> bool
 }
 
 // 2: a window with left > right, top > bottom, or past the grid. Its ends are any numbers, so none is moved before it is compared.
-pub fn window_bad(
-    nx: usize,
-    ny: usize,
-    left: usize,
-    right: usize,
-    top: usize,
-    bottom: usize,
-) -> bool
-    ensures { λ r. ⌜ r ≡ badWindow nx ny (windowAt left right top bottom) ⌝ }
+pub fn window_bad(nx: usize, ny: usize, w: request::Window) -> bool
+    ensures { λ r. ⌜ r ≡ badWindow nx ny (windowIn w) ⌝ }
 {
-    if right < left {
+    if w.right < w.left {
         return true;
     }
-    if bottom < top {
+    if w.bottom < w.top {
         return true;
     }
-    if nx <= right {
+    if nx <= w.right {
         return true;
     }
-    ny <= bottom
+    ny <= w.bottom
 }
 
 // 3: a result slice of the wrong length
@@ -72,46 +81,39 @@ pub fn window_lengths_bad(points: usize, grid: usize, support: usize) -> bool
 }
 
 // 4: station columns unequal, or more than 512
-pub fn columns_bad(
-    x: usize,
-    y: usize,
-    value: usize,
-    observed: usize,
-    from: usize,
-    until: usize,
-) -> bool
-    ensures { λ r. ⌜ r ≡ not (eqb y x) || not (eqb value x) || not (eqb observed x) || not (eqb from x) || not (eqb until x) || ltb mostStations x ⌝ }
+pub fn columns_bad(l: Lengths) -> bool
+    ensures { λ r. ⌜ r ≡ unequalColumns l ⌝ }
 {
-    if y != x {
+    if l.y != l.x {
         return true;
     }
-    if value != x {
+    if l.value != l.x {
         return true;
     }
-    if observed != x {
+    if l.observed != l.x {
         return true;
     }
-    if from != x {
+    if l.from != l.x {
         return true;
     }
-    if until != x {
+    if l.until != l.x {
         return true;
     }
-    512 < x
+    512 < l.x
 }
 
 // 5: scan count out of 1..6, or a plan column shorter than it
-pub fn scans_bad(scans: usize, radius: usize, limit: usize) -> bool
-    ensures { λ r. ⌜ r ≡ not (among 1 mostScans scans) || ltb radius scans || ltb limit scans ⌝ }
+pub fn scans_bad(l: Lengths) -> bool
+    ensures { λ r. ⌜ r ≡ badScanCount l ⌝ }
 {
-    if scans < 1 {
+    if l.scans < 1 {
         return true;
     }
-    if 6 < scans {
+    if 6 < l.scans {
         return true;
     }
-    if radius < scans {
+    if l.radius < l.scans {
         return true;
     }
-    limit < scans
+    l.limit < l.scans
 }

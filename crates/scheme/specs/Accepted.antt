@@ -297,7 +297,7 @@ windowRows c w grid support =
     ∷ fromFive (asked c)
 
 -- results of the right length
-long : (points grid support : ℕ) → badLengths points grid support ≡ false → (grid ≡ points) × (support ≡ points)
+pub long : (points grid support : ℕ) → badLengths points grid support ≡ false → (grid ≡ points) × (support ≡ points)
 unfolding badLengths
 long points grid support e = let (g, s) = or-false _ _ e in (same _ _ g, same _ _ s)
 

@@ -6,13 +6,14 @@ use lib.IntN.{pos}
 use mir.Syntax.{w32}
 use mir.Facts.{toZ-ofZ}
 use Rattle.scheme.specs.Refusals.{rising}
+use Rattle.request.specs.Tables.{planIn}
 use Rattle.refusal_checks.specs.Tested.{rising-after}
 use Rattle.refusal_checks.proofs.rises.Statement.{statement}
 use Rattle.refusal_checks.proofs.rises.Tie as tie
 
 returns : tie.Need-returns
 unfolding rising
-returns c = λ p e. rw (c .if1 .taken)
+returns c = rw (c .if1 .taken)
 
 sub-result : tie.Need-sub-result
 sub-result c = search needs
@@ -20,22 +21,21 @@ sub-result c = search needs
 mul-result : tie.Need-mul-result
 mul-result c = search needs
 
-shared-slice-copy-out-result : tie.Need-shared-slice-copy-out-result
-shared-slice-copy-out-result c = search needs
+element-copy-out-result : tie.Need-element-copy-out-result
+element-copy-out-result c = search needs
 
 mul-result-2 : tie.Need-mul-result-2
 mul-result-2 c = search needs
 
-shared-slice-copy-out-result-2 : tie.Need-shared-slice-copy-out-result-2
-shared-slice-copy-out-result-2 c = search needs
+element-copy-out-result-2 : tie.Need-element-copy-out-result-2
+element-copy-out-result-2 c = search needs
 
 returns-2 : tie.Need-returns-2
 returns-2 c =
-    let s = c .before .before .before in
-    let r = s .args .radius .now in
-    let before = toZ-ofZ {w = w32} (sfits-of {z = getD r (s .args .m - 1) (pos 0)} (c .before .result .given)) in
-    let here = toZ-ofZ {w = w32} (sfits-of {z = getD r (s .args .m) (pos 0)} (c .result2 .given)) in
-    λ p e. rw (before, here, ← e) (rising-after p (s .args .m) (c .before .before .if1 .left))
+    let a = c .before .before .before .args in
+    let before = toZ-ofZ {w = w32} (sfits-of {z = getD (a .t1 .radius) (a .m - 1) (pos 0)} (c .before .result .given)) in
+    let here = toZ-ofZ {w = w32} (sfits-of {z = getD (a .t1 .radius) (a .m) (pos 0)} (c .result2 .given)) in
+    rw (before, here) (rising-after (planIn (a .t1)) (a .m) (c .before .before .if1 .left))
 
 pub rises-spec : {M : Type 1} → statement M
 rises-spec =
@@ -44,7 +44,7 @@ rises-spec =
     returns
     sub-result
     mul-result
-    shared-slice-copy-out-result
+    element-copy-out-result
     mul-result-2
-    shared-slice-copy-out-result-2
+    element-copy-out-result-2
     returns-2)
