@@ -72,10 +72,7 @@ fn on_span(first: usize, last: usize, x: i32) -> bool
         return false;
     }
     let place = x as usize;
-    if place < 64 * first {
-        return false;
-    }
-    place <= 64 * last
+    (64 * first <= place) & (place <= 64 * last)
 }
 
 // 1 for a station on the cut, and else 0: what it adds to the number of those kept.
@@ -83,15 +80,9 @@ pub fn one_if_on_cut(c: request::Window, numbers: [i32; 3]) -> usize
     requires { ⌜ OnGrid mostSide mostSide (windowIn c) ⌝ }
     ensures { λ r. ⌜ r ≡ cond (rowOn (windowIn c) numbers) 1 0 ⌝ }
 {
-    if on_span(c.left, c.right, numbers[request::X]) {
-        if on_span(c.top, c.bottom, numbers[request::Y]) {
-            1
-        } else {
-            0
-        }
-    } else {
-        0
-    }
+    let on = on_span(c.left, c.right, numbers[request::X])
+        & on_span(c.top, c.bottom, numbers[request::Y]);
+    on as usize
 }
 
 // A position counted from the cut's lower corner, which is at `first` along this axis.

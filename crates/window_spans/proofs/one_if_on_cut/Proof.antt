@@ -1,10 +1,16 @@
--- `window_spans::one_if_on_cut` meets its contract: each return knows what the tests found. Assumes nothing.
+-- `window_spans::one_if_on_cut` meets its contract. Assumes nothing.
 use borrow.Author.Needs.{needs, sfits-of}
-use mathlib.Core.Path.{sym, _∙_}
+use mathlib.Core.Path.{_≡_, refl, sym}
+use mathlib.Core.Bool.{Bool, true, false, cond, _&&_}
 use mir.Syntax.{w32}
+use mir.Val.{boolByte}
 use mir.Facts.{toZ-ofZ}
 use Rattle.window_spans.proofs.one_if_on_cut.Statement.{statement}
 use Rattle.window_spans.proofs.one_if_on_cut.Tie as tie
+
+as-number : (b : Bool) → boolByte b ≡ cond b 1 0
+as-number true = refl
+as-number false = refl
 
 array-copy-out-on-span : tie.Need-array-copy-out-on-span
 array-copy-out-on-span c = search needs
@@ -18,28 +24,16 @@ array-copy-out-on-span-2 c = search needs
 on-span-requires-2 : tie.Need-on-span-requires-2
 on-span-requires-2 c κs = search needs
 
+cast-result : tie.Need-cast-result
+cast-result c = search needs
+
 returns : tie.Need-returns
 returns c =
-    let y = c .before in
-    let x = y .before .before .before in
+    let x = c .before .before in
     rw (
-      sym (rw (toZ-ofZ {w = w32} (sfits-of (x .before .on-span-arg .given))) at (x .on-span .ensures)) ∙ y .before .before .if1 .taken,
-      sym (rw (toZ-ofZ {w = w32} (sfits-of (y .before .on-span-arg2 .given))) at (y .on-span2 .ensures)) ∙ c .if2 .taken,
-    )
-
-returns-2 : tie.Need-returns-2
-returns-2 c =
-    let y = c .before in
-    let x = y .before .before .before in
-    rw (
-      sym (rw (toZ-ofZ {w = w32} (sfits-of (x .before .on-span-arg .given))) at (x .on-span .ensures)) ∙ y .before .before .if1 .taken,
-      sym (rw (toZ-ofZ {w = w32} (sfits-of (y .before .on-span-arg2 .given))) at (y .on-span2 .ensures)) ∙ c .if2 .left,
-    )
-
-returns-3 : tie.Need-returns-3
-returns-3 c =
-    let x = c .before in
-    rw (sym (rw (toZ-ofZ {w = w32} (sfits-of (x .before .on-span-arg .given))) at (x .on-span .ensures)) ∙ c .if1 .left)
+      sym (rw (toZ-ofZ {w = w32} (sfits-of (x .before .on-span-arg .given))) at (x .on-span .ensures)),
+      sym (rw (toZ-ofZ {w = w32} (sfits-of (c .before .on-span-arg2 .given))) at (c .on-span2 .ensures)),
+    ) (as-number (x .on-span .result && c .on-span2 .result))
 
 pub one-if-on-cut-spec : {M : Type 1} → statement M
 one-if-on-cut-spec =
@@ -49,6 +43,5 @@ one-if-on-cut-spec =
     on-span-requires
     array-copy-out-on-span-2
     on-span-requires-2
-    returns
-    returns-2
-    returns-3)
+    cast-result
+    returns)
