@@ -4,13 +4,13 @@ use native.Mathlib.Omega.{arith}
 use native.Mathlib.Nat.{mul-le-mul, mul-le-mul-right}
 use mathlib.Core.Path.{_≡_, refl, sym, _∙_}
 use mathlib.Core.Logic.{_⊎_, inl, inr}
-use mathlib.Core.Bool.{Bool, true, false, not, _&&_}
-use borrow.Author.Tests.{lt-ltb, le-ltb, lt-leb, le-leb, eq-eqb, ne-eqb}
+use mathlib.Core.Bool.{Bool, true, _&&_}
+use borrow.Author.Tests.{lt-leb, le-leb, eq-eqb, ne-eqb}
 use mathlib.Core.List.{List}
-use lib.Dec.{leb, ltb, eqb}
+use lib.Dec.{leb, eqb}
 use lib.ListN.{length, getD}
 use lib.IntN.{ℤ, pos, negsuc}
-use lib.Signed.{ltZ, leZ}
+use lib.Signed.{ltZ}
 use mir.Syntax.{w32}
 use mir.Val.{SFits, ofZ}
 use Rattle.lists.specs.Tests.{lt-or-le}
@@ -20,32 +20,8 @@ use Rattle.scheme.specs.Refusals.{rising, badGuess}
 use Rattle.scheme.specs.Most.{mostPoints}
 use Rattle.scheme.specs.Accepted.{Shaped}
 
--- ---- a range
+-- ---- the range of values, and of positions
 
-not-not : (b : Bool) → not (not b) ≡ b
-not-not true = refl
-not-not false = refl
-
-most-is-not-less : (a b : ℕ) → leb a b ≡ not (ltb b a)
-most-is-not-less a b = go (lt-or-le b a)
-  where
-    go : (b < a) ⊎ (a ≤ b) → leb a b ≡ not (ltb b a)
-    go (inl h) = rw (lt-leb a b h, lt-ltb b a h)
-    go (inr h) = rw (le-leb a b h, le-ltb b a h)
-
-at-most : (a b : ℤ) → leZ a b ≡ not (ltZ b a)
-at-most (pos a) (pos b) = most-is-not-less a b
-at-most (pos a) (negsuc b) = refl
-at-most (negsuc a) (pos b) = refl
-at-most (negsuc a) (negsuc b) = most-is-not-less b a
-
-pub below-range : (low high v : ℤ) → ltZ v low ≡ true → true ≡ not (amongℤ low high v)
-below-range low high v e = rw (at-most low v, e)
-
-pub from-range : (low high v : ℤ) → ltZ v low ≡ false → ltZ high v ≡ not (amongℤ low high v)
-from-range low high v e = rw (at-most low v, e, at-most v high) (sym (not-not (ltZ high v)))
-
--- the range of values, and of positions
 pub value-range : (v : ℤ) → amongℤ (negsuc (mostValue - 1)) (pos mostValue) v ≡ within mostValue v
 value-range (pos n) = refl
 value-range (negsuc n) = go (lt-or-le n mostValue)

@@ -24,10 +24,7 @@ pub fn is_missing(v: i32) -> bool
 fn outside(low: i32, high: i32, v: i32) -> bool
     ensures { λ r. ⌜ r ≡ not (amongℤ low high v) ⌝ }
 {
-    if v < low {
-        return true;
-    }
-    high < v
+    !((low <= v) & (v <= high))
 }
 
 // A value, or a position, out of range.
@@ -53,39 +50,24 @@ fn scan_bad(t: request::Terms, m: usize) -> bool
     requires { ⌜ m < mostScans ⌝ }
     ensures { λ r. ⌜ r ≡ badScan (planIn t) m ⌝ }
 {
-    if outside(1, 1024, t.radius[m]) {
-        return true;
-    }
-    if rises(t, m) {
-        return true;
-    }
-    outside(0, 2000000, t.limit[m])
+    outside(1, 1024, t.radius[m]) | rises(t, m) | outside(0, 2000000, t.limit[m])
 }
 
 // A station's value out of range. The mark is none.
 fn reading_bad(v: i32) -> bool
     ensures { λ r. ⌜ r ≡ not (isMissing v) && not (within mostValue v) ⌝ }
 {
-    if is_missing(v) {
-        return false;
-    }
-    value_bad(v)
+    !is_missing(v) & value_bad(v)
 }
 
 // A row of the station list: its value or its position out of range, or from not below until.
 fn station_bad(numbers: [i32; 3], minutes: [u32; 3]) -> bool
     ensures { λ r. ⌜ r ≡ badStation (stationOf numbers minutes) ⌝ }
 {
-    if reading_bad(numbers[request::VALUE]) {
-        return true;
-    }
-    if value_bad(numbers[request::X]) {
-        return true;
-    }
-    if value_bad(numbers[request::Y]) {
-        return true;
-    }
-    minutes[request::UNTIL] <= minutes[request::FROM]
+    reading_bad(numbers[request::VALUE])
+        | value_bad(numbers[request::X])
+        | value_bad(numbers[request::Y])
+        | (minutes[request::UNTIL] <= minutes[request::FROM])
 }
 
 // The first bad entry of a plan, or its count.

@@ -1,4 +1,5 @@
 // Rows 1 to 5 of the refusal table (document 01), whose place is 0: a test for each, on lengths and counts alone.
+// Comparisons are joined by | and &, which make them all: there is no branch to prove, and each is the definition's.
 ghost use mathlib.Core.Path.{_≡_};
 ghost use mathlib.Core.Bool.{not, _||_};
 ghost use lib.Dec.{eqb};
@@ -26,16 +27,7 @@ pub struct Lengths {
 pub fn shape_bad(nx: usize, ny: usize, len: usize) -> bool
     ensures { λ r. ⌜ r ≡ badShape nx ny len ⌝ }
 {
-    if nx < 2 {
-        return true;
-    }
-    if 64 < nx {
-        return true;
-    }
-    if ny < 2 {
-        return true;
-    }
-    if 64 < ny {
+    if !((2 <= nx) & (nx <= 64)) | !((2 <= ny) & (ny <= 64)) {
         return true;
     }
     len != nx * ny
@@ -45,75 +37,38 @@ pub fn shape_bad(nx: usize, ny: usize, len: usize) -> bool
 pub fn window_bad(nx: usize, ny: usize, w: request::Window) -> bool
     ensures { λ r. ⌜ r ≡ badWindow nx ny (windowIn w) ⌝ }
 {
-    if w.right < w.left {
-        return true;
-    }
-    if w.bottom < w.top {
-        return true;
-    }
-    if nx <= w.right {
-        return true;
-    }
-    ny <= w.bottom
+    ((w.right < w.left) | (nx <= w.right)) | ((w.bottom < w.top) | (ny <= w.bottom))
 }
 
 // 3: a result slice of the wrong length
 pub fn lengths_bad(points: usize, rows: usize, grid: usize, support: usize, verdict: usize) -> bool
     ensures { λ r. ⌜ r ≡ badLengths points grid support || not (eqb verdict rows) ⌝ }
 {
-    if grid != points {
-        return true;
-    }
-    if support != points {
-        return true;
-    }
-    verdict != rows
+    (grid != points) | (support != points) | (verdict != rows)
 }
 
 // The same for the window query, whose two results are as long as the window.
 pub fn window_lengths_bad(points: usize, grid: usize, support: usize) -> bool
     ensures { λ r. ⌜ r ≡ badLengths points grid support ⌝ }
 {
-    if grid != points {
-        return true;
-    }
-    support != points
+    (grid != points) | (support != points)
 }
 
 // 4: station columns unequal, or more than 512
 pub fn columns_bad(l: Lengths) -> bool
     ensures { λ r. ⌜ r ≡ unequalColumns l ⌝ }
 {
-    if l.y != l.x {
-        return true;
-    }
-    if l.value != l.x {
-        return true;
-    }
-    if l.observed != l.x {
-        return true;
-    }
-    if l.from != l.x {
-        return true;
-    }
-    if l.until != l.x {
-        return true;
-    }
-    512 < l.x
+    (l.y != l.x)
+        | (l.value != l.x)
+        | (l.observed != l.x)
+        | (l.from != l.x)
+        | (l.until != l.x)
+        | (512 < l.x)
 }
 
 // 5: scan count out of 1..6, or a plan column shorter than it
 pub fn scans_bad(l: Lengths) -> bool
     ensures { λ r. ⌜ r ≡ badScanCount l ⌝ }
 {
-    if l.scans < 1 {
-        return true;
-    }
-    if 6 < l.scans {
-        return true;
-    }
-    if l.radius < l.scans {
-        return true;
-    }
-    l.limit < l.scans
+    !((1 <= l.scans) & (l.scans <= 6)) | (l.radius < l.scans) | (l.limit < l.scans)
 }

@@ -48,7 +48,7 @@ pub same-shape : {nx ny n : ℕ} → Shaped nx ny n → (m : ℕ) → m ≡ nx *
 same-shape h m e =
     record { two-columns = h .two-columns; few-columns = h .few-columns; two-rows = h .two-rows; few-rows = h .few-rows; whole = e }
 
-side : (n : ℕ) → not (among leastSide mostSide n) ≡ false → (2 ≤ n) × (n ≤ 64)
+pub side : (n : ℕ) → not (among leastSide mostSide n) ≡ false → (2 ≤ n) × (n ≤ 64)
 side n e = let (p, r) = and-true _ _ (not-false _ e) in (leb-true leastSide n p, leb-true n mostSide r)
 
 pub shaped : (nx ny len : ℕ) → badShape nx ny len ≡ false → Shaped nx ny len

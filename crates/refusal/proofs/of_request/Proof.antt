@@ -2,12 +2,11 @@
 -- nothing.
 use Prim.Native.Nat.{_≤_}
 use native.Mathlib.Omega.{arith}
-use native.Mathlib.Nat.{mul-le-mul}
 use borrow.Author.Needs.{needs}
-use mathlib.Core.Path.{_≡_}
 use Rattle.lists.specs.Tab.{length-tab}
 use Rattle.scheme.specs.Units.{mostStations}
 use Rattle.request.specs.Tables.{stationIn}
+use Rattle.refusal_checks.specs.Tested.{few-points}
 use Rattle.refusal.specs.Coded.{refused-there, not-there, none-left}
 use Rattle.refusal.proofs.of_request.Statement.{statement}
 use Rattle.refusal.proofs.of_request.Tie as tie
@@ -32,9 +31,7 @@ first-bad-guess-requires : tie.Need-first-bad-guess-requires
 first-bad-guess-requires c κs = search needs
 
 coded-requires-2 : tie.Need-coded-requires-2
-coded-requires-2 c κs =
-    let p = c .before .before .before .before .before .pre .shape in
-    (omega arith, omega (arith, c .if2 .taken, p .whole, mul-le-mul (p .few-columns) (p .few-rows)))
+coded-requires-2 c κs = (omega arith, omega (arith, c .if2 .taken, few-points _ _ _ (c .before .before .before .before .before .pre .shape)))
 
 returns-2 : tie.Need-returns-2
 returns-2 c =
