@@ -1,6 +1,6 @@
 -- A reading, case by case.
-use Prim.Native.Nat.{ℕ, _-_, _*_, _≤_}
-use mathlib.Core.Path.{_≡_, refl, ap, _∙_}
+use Prim.Native.Nat.{ℕ}
+use mathlib.Core.Path.{_≡_, refl}
 use mathlib.Core.Bool.{true, false, _&&_}
 use mathlib.Core.List.{List}
 use lib.Dec.{eqb}
@@ -10,25 +10,17 @@ use lib.Ieee.{binary64, ofBits, ofInt}
 use Rattle.lists.specs.Tests.{and-true}
 use Rattle.scheme.specs.declared.Reading.{Reading}
 use Rattle.scheme.specs.declared.Reading.the-variants.{Backed, FirstGuess, OffGrid, Refused}
-use Rattle.scheme.specs.Units.{Field, fieldOf, step}
+use Rattle.scheme.specs.Units.{Field, fieldOf}
 use Rattle.scheme.specs.Refusals.{refusedIf, badShape, readingRefusal}
 use Rattle.scheme.specs.Verdicts.{onAxis}
 use Rattle.scheme.specs.Value.{place, sumAt}
 use Rattle.scheme.specs.Readings.{double, positiveZero, isBacked, readingIn, reading}
-use Rattle.scheme.specs.Cells.{place-on}
-use Rattle.scan_verdict.specs.Verdict.{on-axis}
+use Rattle.field_value.specs.Axis.{Along, on-axis, own-place}
 
 -- ---- of a field of the right shape
 
-abbrev pub Along : ℕ → ℤ → Type 0
-Along n x = (x ≡ pos (natAbs x)) × (natAbs x ≤ step * (n - 1))
-
 pub along-both : (nx ny : ℕ) (x y : ℤ) → onAxis nx x && onAxis ny y ≡ true → Along nx x × Along ny y
 along-both nx ny x y on = let (h, k) = and-true (onAxis nx x) (onAxis ny y) on in (on-axis nx x h, on-axis ny y k)
-
--- on the axis a position is its own place
-own-place : (n : ℕ) (x : ℤ) → Along n x → place n x ≡ natAbs x
-own-place n x a = ap (place n) (a .0) ∙ place-on n (natAbs x) (a .1)
 
 module _ (nx ny : ℕ) (z : Field ℤ) (support : Field ℕ) (x y : ℤ) where
   pub off-grid : onAxis nx x && onAxis ny y ≡ false → OffGrid ≡ readingIn nx ny z support x y

@@ -75,7 +75,7 @@ fn reading_in(nx: usize, ny: usize, field: &[i32], support: &[u8], x: i32, y: i3
     requires { ⌜ Shaped nx ny (length (now field)) × (length (now support) ≡ length (now field)) ⌝ }
     ensures { λ r. ⌜ r ≡ readingIn nx ny (fieldOf (pos 0) nx (now (field .entry))) (fieldOf 0 nx (now (support .entry))) x y ⌝ }
 {
-    if !scan_verdict::on_grid(nx, ny, x, y) {
+    if !field_value::on_grid(nx, ny, x, y) {
         return Reading::OffGrid;
     }
     let px = x as u32;

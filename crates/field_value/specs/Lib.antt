@@ -1,2 +1,3 @@
 -- What the code of the interpolation computes, on plain values. Proved.
+pub mod Axis
 pub mod Corners

@@ -1,10 +1,12 @@
 // The value of a field at a position (document 01, "One scan", Value at a station).
 ghost use mathlib.Core.Path.{_≡_};
+ghost use mathlib.Core.Bool.{_&&_};
 ghost use Prim.Native.Nat.{_+_, _-_, _*_, _≤_};
 ghost use lib.ListN.{length};
 ghost use lib.IntN.{pos, natAbs, _+ℤ_, _*ℤ_};
-ghost use Rattle.scheme.specs.Units.{fieldOf, step};
+ghost use Rattle.scheme.specs.Units.{mostSide, fieldOf, step};
 ghost use Rattle.scheme.specs.Rounding.{rounded};
+ghost use Rattle.scheme.specs.Verdicts.{onAxis};
 ghost use Rattle.scheme.specs.Value.{cell, sumAt};
 ghost use Rattle.scheme.specs.Accepted.{Shaped};
 ghost use Rattle.field_value.specs.Corners.{blend, Spotted};
@@ -12,6 +14,29 @@ use rounding::Total;
 
 // Neighbouring points are 64 position units apart.
 const STEP: u32 = 64;
+
+// On an axis of n points, its ends included.
+fn on_axis(n: usize, x: i32) -> bool
+    requires { ⌜ (1 ≤ n) × (n ≤ mostSide) ⌝ }
+    ensures { λ r. ⌜ r ≡ onAxis n x ⌝ }
+{
+    if x < 0 {
+        return false;
+    }
+    x as usize <= 64 * (n - 1)
+}
+
+// On a grid of nx columns and ny rows, its border included.
+pub fn on_grid(nx: usize, ny: usize, x: i32, y: i32) -> bool
+    requires { ⌜ (1 ≤ nx) × (nx ≤ mostSide) × (1 ≤ ny) × (ny ≤ mostSide) ⌝ }
+    ensures { λ r. ⌜ r ≡ onAxis nx x && onAxis ny y ⌝ }
+{
+    if on_axis(nx, x) {
+        on_axis(ny, y)
+    } else {
+        false
+    }
+}
 
 // The lower corner of the cell of position x, on an axis of n points. On the last column or row that is the last cell.
 pub fn cell(n: usize, x: u32) -> usize

@@ -6,7 +6,7 @@ use native.Mathlib.Nat.{mul-le-mul-left, zero-add, add-zero}
 use mathlib.Core.Path.{_≡_, refl, sym, ap, _∙_}
 use mathlib.Core.Logic.{_⊎_, inl, inr}
 use mathlib.Core.Bool.{Bool, true, false, cond}
-use mathlib.Core.List.{List}
+use mathlib.Core.List.{List, []}
 use borrow.Author.Tests.{lt-ltb, le-ltb, eqb-true}
 use lib.Dec.{ltb}
 use lib.ListN.{length, getD, set, length-set}
@@ -24,15 +24,38 @@ use Rattle.scheme.specs.Weights.{weight-most}
 use Rattle.scheme.specs.Gifts.{weighed, gift-outside, gift-weighed, gift-size}
 use Rattle.scheme.specs.Adding.{plus-nothing}
 
--- ---- from all the columns: what row k gives to point (i, j)
+-- ---- from all the stations: what the one of row k gives to point (i, j)
 
-unfoldable pub shareAt : (xs ys : List ℤ) (st : List ℕ) (ds : List ℤ) (r2 i j k : ℕ) → Sums
-shareAt xs ys st ds r2 i j k =
-    cond (isAccepted (getD st k 0))
-    (gift r2 (getD ds k (pos 0)) (getD xs k (pos 0) -ℤ pos (step * i)) (getD ys k (pos 0) -ℤ pos (step * j))) nothing
+-- what a correction reads of them: how many, their rows of numbers, verdicts and differences
+pub record Stations : Type 0 where
+  pub count : ℕ
+  pub numbers : List (List ℤ)
+  pub verdict : List ℕ
+  pub d : List ℤ
 
-unfoldable pub sumsOver : (xs ys : List ℤ) (st : List ℕ) (ds : List ℤ) (r2 i j : ℕ) → Sums
-sumsOver xs ys st ds r2 i j = upTo nothing plus (length xs) (shareAt xs ys st ds r2 i j)
+abbrev pub stationsWith : ℕ → List (List ℤ) → List ℕ → List ℤ → Stations
+stationsWith count numbers verdict d = record { count = count; numbers = numbers; verdict = verdict; d = d }
+
+module _ (all : Stations) (k : ℕ) where
+  abbrev pub xAt : ℤ
+  xAt = getD (getD (all .numbers) k []) 0 (pos 0)
+
+  abbrev pub yAt : ℤ
+  yAt = getD (getD (all .numbers) k []) 1 (pos 0)
+
+  abbrev pub verdictAt : ℕ
+  verdictAt = getD (all .verdict) k 0
+
+  abbrev pub dAt : ℤ
+  dAt = getD (all .d) k (pos 0)
+
+unfoldable pub shareAt : (all : Stations) (r2 i j k : ℕ) → Sums
+shareAt all r2 i j k =
+    cond (isAccepted (verdictAt all k))
+    (gift r2 (dAt all k) (xAt all k -ℤ pos (step * i)) (yAt all k -ℤ pos (step * j))) nothing
+
+unfoldable pub sumsOver : (all : Stations) (r2 i j : ℕ) → Sums
+sumsOver all r2 i j = upTo nothing plus (all .count) (shareAt all r2 i j)
 
 -- ---- from the stations near row j: positions along the row, squared distances to it, differences
 
@@ -127,18 +150,16 @@ module _ (lx : List ℤ) (ly : List ℕ) (ld : List ℤ) (r2 i : ℕ) where
 unfoldable pub rowGap : (verdict : ℕ) (y : ℤ) (j r2 : ℕ) → ℕ
 rowGap verdict y j r2 = cond (isAccepted verdict) (square (y -ℤ pos (step * j))) r2
 
--- what the columns hold: an accepted row is near the grid, and its difference within the limit
+-- what gathering needs: an accepted row is near the grid, and its difference within the limit
 pub record Inside (x y d : ℤ) : Type 0 where
   pub x-small : natAbs x ≤ mostAlong
   pub y-small : natAbs y ≤ mostAlong
   pub d-small : natAbs d ≤ mostLimit
 
-pub record Columns (xs ys : List ℤ) (st : List ℕ) (ds : List ℤ) : Type 0 where
-  pub len-y : length ys ≡ length xs
-  pub len-st : length st ≡ length xs
-  pub few : length xs ≤ mostStations
-  pub long : length ds ≡ mostStations
-  pub inside : (k : ℕ) → k < length xs → getD st k 0 ≡ 0 → Inside (getD xs k (pos 0)) (getD ys k (pos 0)) (getD ds k (pos 0))
+pub record Ready (all : Stations) : Type 0 where
+  pub few : all .count ≤ mostStations
+  pub len-st : length (all .verdict) ≡ all .count
+  pub inside : (k : ℕ) → k < all .count → verdictAt all k ≡ 0 → Inside (xAt all k) (yAt all k) (dAt all k)
 
 pub record Roomy (lx : List ℤ) (ly : List ℕ) (ld : List ℤ) : Type 0 where
   pub x-long : length lx ≡ mostStations
@@ -146,29 +167,29 @@ pub record Roomy (lx : List ℤ) (ly : List ℕ) (ld : List ℤ) : Type 0 where
   pub d-long : length ld ≡ mostStations
 
 -- the n near ones among the first k rows give to each point of row j what the k rows give
-pub record Near (lx : List ℤ) (ly : List ℕ) (ld : List ℤ) (n : ℕ) (xs ys : List ℤ) (st : List ℕ) (ds : List ℤ) (r2 j k : ℕ) : Type 0 where
+pub record Near (lx : List ℤ) (ly : List ℕ) (ld : List ℤ) (n : ℕ) (all : Stations) (r2 j k : ℕ) : Type 0 where
   pub no-more : n ≤ k
   pub sized : (t : ℕ) → t < n → Sized lx ly ld t
-  pub same : (i : ℕ) → upTo nothing plus n (nearShare lx ly ld r2 i) ≡ upTo nothing plus k (shareAt xs ys st ds r2 i j)
+  pub same : (i : ℕ) → upTo nothing plus n (nearShare lx ly ld r2 i) ≡ upTo nothing plus k (shareAt all r2 i j)
 
-pub near-none : (lx : List ℤ) (ly : List ℕ) (ld : List ℤ) (xs ys : List ℤ) (st : List ℕ) (ds : List ℤ) (r2 j : ℕ) → Near lx ly ld 0 xs ys st ds r2 j 0
+pub near-none : (lx : List ℤ) (ly : List ℕ) (ld : List ℤ) (all : Stations) (r2 j : ℕ) → Near lx ly ld 0 all r2 j 0
 unfolding upTo
-near-none lx ly ld xs ys st ds r2 j = record { no-more = omega arith; sized = λ t h. absurd (omega arith); same = λ i. refl }
+near-none lx ly ld all r2 j = record { no-more = omega arith; sized = λ t h. absurd (omega arith); same = λ i. refl }
 
 -- a row that is not nearer than R to the grid row gives nothing
-far-gives-nothing : (xs ys : List ℤ) (st : List ℕ) (ds : List ℤ) (r2 i j k : ℕ) → r2 ≤ rowGap (getD st k 0) (getD ys k (pos 0)) j r2
-    → shareAt xs ys st ds r2 i j k ≡ nothing
+far-gives-nothing : (all : Stations) (r2 i j k : ℕ) → r2 ≤ rowGap (verdictAt all k) (yAt all k) j r2
+    → shareAt all r2 i j k ≡ nothing
 unfolding shareAt rowGap
-far-gives-nothing xs ys st ds r2 i j k h = go (isAccepted (getD st k 0)) h
+far-gives-nothing all r2 i j k h = go (isAccepted (verdictAt all k)) h
   where
     dx : ℤ
-    dx = getD xs k (pos 0) -ℤ pos (step * i)
+    dx = xAt all k -ℤ pos (step * i)
 
     dy : ℤ
-    dy = getD ys k (pos 0) -ℤ pos (step * j)
+    dy = yAt all k -ℤ pos (step * j)
 
-    go : (b : Bool) → r2 ≤ cond b (square dy) r2 → cond b (gift r2 (getD ds k (pos 0)) dx dy) nothing ≡ nothing
-    go true l = gift-outside r2 (getD ds k (pos 0)) dx dy (omega arith)
+    go : (b : Bool) → r2 ≤ cond b (square dy) r2 → cond b (gift r2 (dAt all k) dx dy) nothing ≡ nothing
+    go true l = gift-outside r2 (dAt all k) dx dy (omega arith)
     go false l = refl
 
 -- one that is nearer is accepted
@@ -181,22 +202,31 @@ near-is-accepted verdict y j r2 h = go (isAccepted verdict) (eqb-true verdict 0)
     go true f l = (f refl, refl)
     go false f l = absurd (omega arith)
 
-module _ (xs ys : List ℤ) (st : List ℕ) (ds : List ℤ) (r2 j : ℕ) (bounded : r2 ≤ mostSquare) (cs : Columns xs ys st ds)
-    (lx : List ℤ) (ly : List ℕ) (ld : List ℤ) (room : Roomy lx ly ld) (n k : ℕ) (turn : k < length xs) (near : Near lx ly ld n xs ys st ds r2 j k) where
+-- a row of room is a row of room after a store
+roomy-set : (lx : List ℤ) (ly : List ℕ) (ld : List ℤ) (n : ℕ) (x : ℤ) (y : ℕ) (d : ℤ) → Roomy lx ly ld → Roomy (set lx n x) (set ly n y) (set ld n d)
+roomy-set lx ly ld n x y d r =
+    record {
+      x-long = length-set lx n x ∙ r .x-long;
+      y-long = length-set ly n y ∙ r .y-long;
+      d-long = length-set ld n d ∙ r .d-long;
+    }
+
+module _ (all : Stations) (r2 j : ℕ) (bounded : r2 ≤ mostSquare) (ok : Ready all)
+    (lx : List ℤ) (ly : List ℕ) (ld : List ℤ) (room : Roomy lx ly ld) (n k : ℕ) (turn : k < all .count) (near : Near lx ly ld n all r2 j k) where
   abbrev gap : ℕ
-  gap = rowGap (getD st k 0) (getD ys k (pos 0)) j r2
+  gap = rowGap (verdictAt all k) (yAt all k) j r2
 
   abbrev lx' : List ℤ
-  lx' = set lx n (getD xs k (pos 0))
+  lx' = set lx n (xAt all k)
 
   abbrev ly' : List ℕ
   ly' = set ly n gap
 
   abbrev ld' : List ℤ
-  ld' = set ld n (getD ds k (pos 0))
+  ld' = set ld n (dAt all k)
 
   pub n-room : n < mostStations
-  n-room = omega (arith, near .no-more, cs .few)
+  n-room = omega (arith, near .no-more, ok .few)
 
   -- the stations gathered before are where they were
   kept-sized : (t : ℕ) → t < n → Sized lx' ly' ld' t
@@ -204,12 +234,12 @@ module _ (xs ys : List ℤ) (st : List ℕ) (ds : List ℤ) (r2 j : ℕ) (bounde
       let o : (t ≡ n) → ⊥ = λ (e : t ≡ n). omega arith in
       let s = near .sized t h in
       record {
-        x-small = rw (getD-set-other lx n t (getD xs k (pos 0)) (pos 0) o) (s .x-small);
+        x-small = rw (getD-set-other lx n t (xAt all k) (pos 0) o) (s .x-small);
         y-small = rw (getD-set-other ly n t gap 0 o) (s .y-small);
-        d-small = rw (getD-set-other ld n t (getD ds k (pos 0)) (pos 0) o) (s .d-small);
+        d-small = rw (getD-set-other ld n t (dAt all k) (pos 0) o) (s .d-small);
       }
 
-  kept-sums : (i : ℕ) → upTo nothing plus n (nearShare lx' ly' ld' r2 i) ≡ upTo nothing plus k (shareAt xs ys st ds r2 i j)
+  kept-sums : (i : ℕ) → upTo nothing plus n (nearShare lx' ly' ld' r2 i) ≡ upTo nothing plus k (shareAt all r2 i j)
   unfolding nearShare
   kept-sums i =
       upTo-same nothing plus n (nearShare lx' ly' ld' r2 i) (nearShare lx ly ld r2 i) same ∙ near .same i
@@ -218,40 +248,40 @@ module _ (xs ys : List ℤ) (st : List ℕ) (ds : List ℤ) (r2 j : ℕ) (bounde
       same t h =
           let o : (t ≡ n) → ⊥ = λ (e : t ≡ n). omega arith in
           unfold nearShare in
-          (rw (getD-set-other lx n t (getD xs k (pos 0)) (pos 0) o, getD-set-other ly n t gap 0 o, getD-set-other ld n t (getD ds k (pos 0)) (pos 0) o))
+          (rw (getD-set-other lx n t (xAt all k) (pos 0) o, getD-set-other ly n t gap 0 o, getD-set-other ld n t (dAt all k) (pos 0) o))
 
   -- a far row is written over
-  far-step : r2 ≤ gap → Near lx' ly' ld' n xs ys st ds r2 j (k + 1)
+  far-step : r2 ≤ gap → Near lx' ly' ld' n all r2 j (k + 1)
   far-step h =
       record {
         no-more = omega (arith, near .no-more);
         sized = kept-sized;
         same =
             λ i. kept-sums i
-            ∙ sym (upTo-next nothing plus k (shareAt xs ys st ds r2 i j)
-            ∙ ap (plus (upTo nothing plus k (shareAt xs ys st ds r2 i j))) (far-gives-nothing xs ys st ds r2 i j k h)
-            ∙ plus-nothing (upTo nothing plus k (shareAt xs ys st ds r2 i j)));
+            ∙ sym (upTo-next nothing plus k (shareAt all r2 i j)
+            ∙ ap (plus (upTo nothing plus k (shareAt all r2 i j))) (far-gives-nothing all r2 i j k h)
+            ∙ plus-nothing (upTo nothing plus k (shareAt all r2 i j)));
       }
 
   -- a near row is gathered
   module _ (close : gap < r2) where
-    accepted : getD st k 0 ≡ 0
-    accepted = near-is-accepted (getD st k 0) (getD ys k (pos 0)) j r2 close .0
+    accepted : verdictAt all k ≡ 0
+    accepted = near-is-accepted (verdictAt all k) (yAt all k) j r2 close .0
 
-    new-x : getD lx' n (pos 0) ≡ getD xs k (pos 0)
-    new-x = getD-set-same lx n (getD xs k (pos 0)) (pos 0) (omega (arith, room .x-long, n-room))
+    new-x : getD lx' n (pos 0) ≡ xAt all k
+    new-x = getD-set-same lx n (xAt all k) (pos 0) (omega (arith, room .x-long, n-room))
 
     new-y : getD ly' n 0 ≡ gap
     new-y = getD-set-same ly n gap 0 (omega (arith, room .y-long, n-room))
 
-    new-d : getD ld' n (pos 0) ≡ getD ds k (pos 0)
-    new-d = getD-set-same ld n (getD ds k (pos 0)) (pos 0) (omega (arith, room .d-long, n-room))
+    new-d : getD ld' n (pos 0) ≡ dAt all k
+    new-d = getD-set-same ld n (dAt all k) (pos 0) (omega (arith, room .d-long, n-room))
 
-    new-share : (i : ℕ) → nearShare lx' ly' ld' r2 i n ≡ shareAt xs ys st ds r2 i j k
+    new-share : (i : ℕ) → nearShare lx' ly' ld' r2 i n ≡ shareAt all r2 i j k
     unfolding nearShare shareAt
     new-share i =
-        rw (new-x, new-y, new-d, near-is-accepted (getD st k 0) (getD ys k (pos 0)) j r2 close .1, accepted)
-        (sym (gift-weighed r2 (getD ds k (pos 0)) (getD xs k (pos 0) -ℤ pos (step * i)) (getD ys k (pos 0) -ℤ pos (step * j))))
+        rw (new-x, new-y, new-d, near-is-accepted (verdictAt all k) (yAt all k) j r2 close .1, accepted)
+        (sym (gift-weighed r2 (dAt all k) (xAt all k -ℤ pos (step * i)) (yAt all k -ℤ pos (step * j))))
 
     new-sized : (t : ℕ) → t < n + 1 → Sized lx' ly' ld' t
     new-sized t h = go (lt-or-le t n)
@@ -260,14 +290,14 @@ module _ (xs ys : List ℤ) (st : List ℕ) (ds : List ℤ) (r2 j : ℕ) (bounde
         go (inl l) = kept-sized t l
         go (inr l) =
             let e : t ≡ n = omega arith in
-            let c = cs .inside k turn accepted in
+            let c = ok .inside k turn accepted in
             rw e (record {
               x-small = rw new-x (c .x-small);
               y-small = rw new-y (omega arith);
               d-small = rw new-d (c .d-small);
             })
 
-    near-gathered : Near lx' ly' ld' (n + 1) xs ys st ds r2 j (k + 1)
+    near-gathered : Near lx' ly' ld' (n + 1) all r2 j (k + 1)
     near-gathered =
         record {
           no-more = omega (arith, near .no-more);
@@ -275,46 +305,42 @@ module _ (xs ys : List ℤ) (st : List ℕ) (ds : List ℤ) (r2 j : ℕ) (bounde
           same =
               λ i. upTo-next nothing plus n (nearShare lx' ly' ld' r2 i)
               ∙ ap (λ (s : Sums). plus s (nearShare lx' ly' ld' r2 i n)) (kept-sums i)
-              ∙ ap (plus (upTo nothing plus k (shareAt xs ys st ds r2 i j))) (new-share i)
-              ∙ sym (upTo-next nothing plus k (shareAt xs ys st ds r2 i j));
+              ∙ ap (plus (upTo nothing plus k (shareAt all r2 i j))) (new-share i)
+              ∙ sym (upTo-next nothing plus k (shareAt all r2 i j));
         }
 
-  pub near-step : Near lx' ly' ld' (n + cond (ltb gap r2) 1 0) xs ys st ds r2 j (k + 1)
+  near-step : Near lx' ly' ld' (n + cond (ltb gap r2) 1 0) all r2 j (k + 1)
   near-step = go (lt-or-le gap r2)
     where
-      go : (gap < r2) ⊎ (r2 ≤ gap) → Near lx' ly' ld' (n + cond (ltb gap r2) 1 0) xs ys st ds r2 j (k + 1)
+      go : (gap < r2) ⊎ (r2 ≤ gap) → Near lx' ly' ld' (n + cond (ltb gap r2) 1 0) all r2 j (k + 1)
       go (inl h) = rw (lt-ltb gap r2 h) (near-gathered h)
       go (inr h) = rw (le-ltb gap r2 h, add-zero n) (far-step h)
 
--- a row of room is a row of room after a store
-pub roomy-set : (lx : List ℤ) (ly : List ℕ) (ld : List ℤ) (n : ℕ) (x : ℤ) (y : ℕ) (d : ℤ) → Roomy lx ly ld → Roomy (set lx n x) (set ly n y) (set ld n d)
-roomy-set lx ly ld n x y d r =
-    record {
-      x-long = length-set lx n x ∙ r .x-long;
-      y-long = length-set ly n y ∙ r .y-long;
-      d-long = length-set ld n d ∙ r .d-long;
-    }
+  -- a turn, of the values that the code has
+  pub near-turn : {x d : ℤ} {g one : ℕ} → x ≡ xAt all k → d ≡ dAt all k → g ≡ gap → one ≡ cond (ltb g r2) 1 0
+      → Roomy (set lx n x) (set ly n g) (set ld n d) × Near (set lx n x) (set ly n g) (set ld n d) (n + one) all r2 j (k + 1)
+  near-turn ex ed eg eo = rw (eo, eg, ex, ed) (roomy-set lx ly ld n (xAt all k) gap (dAt all k) room, near-step)
 
 -- the sums over all rows are small too
-module _ (xs ys : List ℤ) (st : List ℕ) (ds : List ℤ) (r2 i j : ℕ) (cs : Columns xs ys st ds) where
-  share-small : (k : ℕ) → k < length xs → natAbs (shareAt xs ys st ds r2 i j k .pulls) ≤ mostLimit * shareAt xs ys st ds r2 i j k .weights
+module _ (all : Stations) (r2 i j : ℕ) (ok : Ready all) where
+  share-small : (k : ℕ) → k < all .count → natAbs (shareAt all r2 i j k .pulls) ≤ mostLimit * shareAt all r2 i j k .weights
   unfolding shareAt
   share-small k h =
-      cond-both (λ (s : Sums). natAbs (s .pulls) ≤ mostLimit * s .weights) (isAccepted (getD st k 0)) _ nothing
-      (λ e. gift-size r2 mostLimit (getD ds k (pos 0)) _ _ (cs .inside k h (eqb-true (getD st k 0) 0 e) .d-small)) (λ e. omega arith)
+      cond-both (λ (s : Sums). natAbs (s .pulls) ≤ mostLimit * s .weights) (isAccepted (verdictAt all k)) _ nothing
+      (λ e. gift-size r2 mostLimit (dAt all k) _ _ (ok .inside k h (eqb-true (verdictAt all k) 0 e) .d-small)) (λ e. omega arith)
 
-  some-small : (n : ℕ) → n ≤ length xs
-      → natAbs (upTo nothing plus n (shareAt xs ys st ds r2 i j) .pulls) ≤ mostLimit * upTo nothing plus n (shareAt xs ys st ds r2 i j) .weights
+  some-small : (n : ℕ) → n ≤ all .count
+      → natAbs (upTo nothing plus n (shareAt all r2 i j) .pulls) ≤ mostLimit * upTo nothing plus n (shareAt all r2 i j) .weights
   unfolding upTo
   some-small zero h = omega arith
   some-small (suc n) h =
       omega (
         arith,
-        size-add (upTo nothing plus n (shareAt xs ys st ds r2 i j) .pulls) (shareAt xs ys st ds r2 i j n .pulls),
+        size-add (upTo nothing plus n (shareAt all r2 i j) .pulls) (shareAt all r2 i j n .pulls),
         some-small n (omega arith),
         share-small n h,
       )
 
-  pub over-small : natAbs (sumsOver xs ys st ds r2 i j .pulls) ≤ mostLimit * sumsOver xs ys st ds r2 i j .weights
+  pub over-small : natAbs (sumsOver all r2 i j .pulls) ≤ mostLimit * sumsOver all r2 i j .weights
   unfolding sumsOver
-  over-small = some-small (length xs) (omega arith)
+  over-small = some-small (all .count) (omega arith)

@@ -15,7 +15,7 @@ use Rattle.scheme.specs.Units.{mostSide, Field, stored, fieldOf, mostStations, 
 use Rattle.scheme.specs.Correction.{Sums, nothing, plus, correction}
 use Rattle.scheme.specs.Most.{mostPoints, mostSquare, mostWeights, mostField}
 use Rattle.scheme.specs.Accepted.{Shaped}
-use Rattle.scan_point.specs.Near.{nearShare, Sized, near-small, sumsOver, Columns, Near}
+use Rattle.scan_point.specs.Near.{nearShare, Sized, near-small, Stations, sumsOver, Ready, Near}
 
 -- ---- one row, whose points stand at base, base + 1, ..
 
@@ -84,31 +84,31 @@ module _ {z₀ : List ℤ} {sup₀ : List ℕ} {base nx : ℕ} {lx : List ℤ} {
 
 -- ---- the whole grid
 
--- the field after the corrections, and the support with its new bit, from the columns
-unfoldable pub corrected : (z : List ℤ) (nx : ℕ) (xs ys : List ℤ) (st : List ℕ) (ds : List ℤ) (r2 : ℕ) → Field ℤ
-corrected z nx xs ys st ds r2 i j = fieldOf (pos 0) nx z i j +ℤ correction (sumsOver xs ys st ds r2 i j)
+-- the field after the corrections, and the support with its new bit, from the stations
+unfoldable pub corrected : (z : List ℤ) (nx : ℕ) (all : Stations) (r2 : ℕ) → Field ℤ
+corrected z nx all r2 i j = fieldOf (pos 0) nx z i j +ℤ correction (sumsOver all r2 i j)
 
-unfoldable pub backed : (sup : List ℕ) (nx : ℕ) (xs ys : List ℤ) (st : List ℕ) (ds : List ℤ) (r2 bit : ℕ) → Field ℕ
-backed sup nx xs ys st ds r2 bit i j = fieldOf 0 nx sup i j + cond (ltb 0 (sumsOver xs ys st ds r2 i j .weights)) bit 0
+unfoldable pub backed : (sup : List ℕ) (nx : ℕ) (all : Stations) (r2 bit : ℕ) → Field ℕ
+backed sup nx all r2 bit i j = fieldOf 0 nx sup i j + cond (ltb 0 (sumsOver all r2 i j .weights)) bit 0
 
-abbrev pub passZ : (z : List ℤ) (nx : ℕ) (xs ys : List ℤ) (st : List ℕ) (ds : List ℤ) (r2 k : ℕ) → ℤ
-passZ z nx xs ys st ds r2 k = corrected z nx xs ys st ds r2 (k % nx) (k / nx)
+abbrev pub passZ : (z : List ℤ) (nx : ℕ) (all : Stations) (r2 k : ℕ) → ℤ
+passZ z nx all r2 k = corrected z nx all r2 (k % nx) (k / nx)
 
-abbrev pub passS : (sup : List ℕ) (nx : ℕ) (xs ys : List ℤ) (st : List ℕ) (ds : List ℤ) (r2 bit k : ℕ) → ℕ
-passS sup nx xs ys st ds r2 bit k = backed sup nx xs ys st ds r2 bit (k % nx) (k / nx)
+abbrev pub passS : (sup : List ℕ) (nx : ℕ) (all : Stations) (r2 bit k : ℕ) → ℕ
+passS sup nx all r2 bit k = backed sup nx all r2 bit (k % nx) (k / nx)
 
-pub record PassReady (z : List ℤ) (sup : List ℕ) (nx ny : ℕ) (xs ys : List ℤ) (st : List ℕ) (ds : List ℤ) (radius bit : ℕ) : Type 0 where
+pub record PassReady (z : List ℤ) (sup : List ℕ) (nx ny : ℕ) (all : Stations) (radius bit : ℕ) : Type 0 where
   pub shape : Shaped nx ny (length z)
   pub both : length sup ≡ length z
   pub close : radius ≤ mostRadius
-  pub columns : Columns xs ys st ds
+  pub stations : Ready all
   pub low : (k : ℕ) → natAbs (getD z k (pos 0)) ≤ mostField
   pub free : (k : ℕ) → getD sup k 0 + bit < 256
 
 -- ---- a row of the pass
 
-module _ {z₀ : List ℤ} {sup₀ : List ℕ} {nx ny : ℕ} {xs ys : List ℤ} {st : List ℕ} {ds : List ℤ} {radius bit : ℕ}
-    (ok : PassReady z₀ sup₀ nx ny xs ys st ds radius bit) where
+module _ {z₀ : List ℤ} {sup₀ : List ℕ} {nx ny : ℕ} {all : Stations} {radius bit : ℕ}
+    (ok : PassReady z₀ sup₀ nx ny all radius bit) where
   abbrev r2 : ℕ
   r2 = radius * radius
 
@@ -125,12 +125,12 @@ module _ {z₀ : List ℤ} {sup₀ : List ℕ} {nx ny : ℕ} {xs ys : List ℤ} 
   row-place j h = omega (arith, row-in j h, short, ok .shape .whole)
 
   module _ {j : ℕ} (hj : j < ny) {z : List ℤ} {sup : List ℕ}
-      (pz : Filled (pos 0) (passZ z₀ nx xs ys st ds r2) 0 (j * nx) z₀ z) (ps : Filled 0 (passS sup₀ nx xs ys st ds r2 bit) 0 (j * nx) sup₀ sup)
-      {lx : List ℤ} {ly : List ℕ} {ld : List ℤ} {n : ℕ} (near : Near lx ly ld n xs ys st ds r2 j (length xs)) where
+      (pz : Filled (pos 0) (passZ z₀ nx all r2) 0 (j * nx) z₀ z) (ps : Filled 0 (passS sup₀ nx all r2 bit) 0 (j * nx) sup₀ sup)
+      {lx : List ℤ} {ly : List ℕ} {ld : List ℤ} {n : ℕ} (near : Near lx ly ld n all r2 j (all .count)) where
     pub row-ready : RowReady z sup (j * nx) nx lx ly ld n r2 bit
     row-ready =
         record {
-          few = omega (arith, near .no-more, ok .columns .few);
+          few = omega (arith, near .no-more, ok .stations .few);
           narrow = ok .shape .few-columns;
           inside = omega (arith, row-in j hj, pz .same-length, ok .shape .whole);
           short = omega (arith, pz .same-length, short);
@@ -152,12 +152,12 @@ module _ {z₀ : List ℤ} {sup₀ : List ℕ} {nx ny : ℕ} {xs ys : List ℤ} 
       at-row : k / nx ≡ j
       at-row = ap (λ (m : ℕ). m / nx) split ∙ digits-div j (omega arith)
 
-      same-z : rowZ z lx ly ld n r2 (j * nx) k ≡ passZ z₀ nx xs ys st ds r2 k
+      same-z : rowZ z lx ly ld n r2 (j * nx) k ≡ passZ z₀ nx all r2 k
       unfolding rowZ corrected fieldOf sumsOver
       same-z =
           rw (at-column, at-row, ← split) (rw (pz .rest k h, near .same (k - j * nx)))
 
-      same-s : rowS sup lx ly ld n r2 bit (j * nx) k ≡ passS sup₀ nx xs ys st ds r2 bit k
+      same-s : rowS sup lx ly ld n r2 bit (j * nx) k ≡ passS sup₀ nx all r2 bit k
       unfolding rowS backed fieldOf sumsOver
       same-s =
           rw (at-column, at-row, ← split) (rw (ps .rest k h, near .same (k - j * nx)))
@@ -166,22 +166,22 @@ module _ {z₀ : List ℤ} {sup₀ : List ℕ} {nx ny : ℕ} {xs ys : List ℤ} 
     next-row = omega (arith, suc-mul j nx)
 
     pub next-z : (z' : List ℤ) → Filled (pos 0) (rowZ z lx ly ld n r2 (j * nx)) (j * nx) (j * nx + nx) z z'
-        → Filled (pos 0) (passZ z₀ nx xs ys st ds r2) 0 ((j + 1) * nx) z₀ z'
+        → Filled (pos 0) (passZ z₀ nx all r2) 0 ((j + 1) * nx) z₀ z'
     next-z z' p =
         rw (← next-row)
-        (filled-join (pos 0) (passZ z₀ nx xs ys st ds r2) (rowZ z lx ly ld n r2 (j * nx)) 0 (j * nx) (j * nx + nx) z₀ z z' (omega arith) (omega arith) same-z pz p)
+        (filled-join (pos 0) (passZ z₀ nx all r2) (rowZ z lx ly ld n r2 (j * nx)) 0 (j * nx) (j * nx + nx) z₀ z z' (omega arith) (omega arith) same-z pz p)
 
     pub next-s : (sup' : List ℕ) → Filled 0 (rowS sup lx ly ld n r2 bit (j * nx)) (j * nx) (j * nx + nx) sup sup'
-        → Filled 0 (passS sup₀ nx xs ys st ds r2 bit) 0 ((j + 1) * nx) sup₀ sup'
+        → Filled 0 (passS sup₀ nx all r2 bit) 0 ((j + 1) * nx) sup₀ sup'
     next-s sup' p =
         rw (← next-row)
-        (filled-join 0 (passS sup₀ nx xs ys st ds r2 bit) (rowS sup lx ly ld n r2 bit (j * nx)) 0 (j * nx) (j * nx + nx) sup₀ sup sup' (omega arith) (omega arith) same-s ps p)
+        (filled-join 0 (passS sup₀ nx all r2 bit) (rowS sup lx ly ld n r2 bit (j * nx)) 0 (j * nx) (j * nx + nx) sup₀ sup sup' (omega arith) (omega arith) same-s ps p)
 
   -- all rows
-  pub all-z : (z : List ℤ) → Filled (pos 0) (passZ z₀ nx xs ys st ds r2) 0 (ny * nx) z₀ z → z ≡ stored nx ny (corrected z₀ nx xs ys st ds r2)
+  pub all-z : (z : List ℤ) → Filled (pos 0) (passZ z₀ nx all r2) 0 (ny * nx) z₀ z → z ≡ stored nx ny (corrected z₀ nx all r2)
   unfolding stored
-  all-z z p = filled-all (pos 0) (passZ z₀ nx xs ys st ds r2) (nx * ny) z₀ z (ok .shape .whole) (rw (mul-comm ny nx) at p)
+  all-z z p = filled-all (pos 0) (passZ z₀ nx all r2) (nx * ny) z₀ z (ok .shape .whole) (rw (mul-comm ny nx) at p)
 
-  pub all-s : (sup : List ℕ) → Filled 0 (passS sup₀ nx xs ys st ds r2 bit) 0 (ny * nx) sup₀ sup → sup ≡ stored nx ny (backed sup₀ nx xs ys st ds r2 bit)
+  pub all-s : (sup : List ℕ) → Filled 0 (passS sup₀ nx all r2 bit) 0 (ny * nx) sup₀ sup → sup ≡ stored nx ny (backed sup₀ nx all r2 bit)
   unfolding stored
-  all-s sup p = filled-all 0 (passS sup₀ nx xs ys st ds r2 bit) (nx * ny) sup₀ sup (ok .both ∙ ok .shape .whole) (rw (mul-comm ny nx) at p)
+  all-s sup p = filled-all 0 (passS sup₀ nx all r2 bit) (nx * ny) sup₀ sup (ok .both ∙ ok .shape .whole) (rw (mul-comm ny nx) at p)

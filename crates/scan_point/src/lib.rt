@@ -3,7 +3,6 @@ ghost use mathlib.Core.Path.{_≡_};
 ghost use Prim.Native.Nat.{ℕ, _+_, _*_, _≤_, _<_};
 ghost use mathlib.Core.Bool.{cond};
 ghost use lib.Dec.{ltb};
-ghost use lib.ListN.{length};
 ghost use lib.IntN.{pos, natAbs, _+ℤ_, _*ℤ_};
 ghost use Rattle.lists.specs.Sums.{upTo};
 ghost use Rattle.lists.specs.Filled.{Filled};
@@ -11,8 +10,9 @@ ghost use Rattle.scheme.specs.Units.{mostSide, stored, mostStations, mostLimit}
 ghost use Rattle.scheme.specs.Weight.{weight};
 ghost use Rattle.scheme.specs.Correction.{nothing, plus, correction};
 ghost use Rattle.scheme.specs.Most.{mostAlong, mostSquare, mostWeights, mostPulls, mostField};
-ghost use Rattle.scan_point.specs.Near.{nearShare, Sized, WithNear, rowGap, Columns, Roomy, Near};
+ghost use Rattle.scan_point.specs.Near.{nearShare, Sized, WithNear, rowGap, stationsWith, Ready, Roomy, Near};
 ghost use Rattle.scan_point.specs.Pass.{rowZ, rowS, RowReady, PassReady, corrected, backed};
+use request::Terms;
 
 // The sum of weights, and the sum of weight·D.
 pub struct Sums {
@@ -127,22 +127,23 @@ fn near_row(
     lx: &mut [i32; 512],
     ly: &mut [u32; 512],
     ld: &mut [i64; 512],
-    x: &[i32],
-    y: &[i32],
+    stations: usize,
+    numbers: &[[i32; 3]; 512],
     verdict: &[u8],
     d: &[i64; 512],
     r2: u32,
     j: usize,
 ) -> usize
-    requires { ⌜ (r2 ≤ mostSquare) × (j < mostSide) × Columns (now x) (now y) (now verdict) (now d) × Roomy (now lx) (now ly) (now ld) ⌝ }
+    requires { ⌜ (r2 ≤ mostSquare) × (j < mostSide) × Ready (stationsWith stations (now numbers) (now verdict) (now d)) × Roomy (now lx) (now ly) (now ld) ⌝ }
     ensures { λ n. ⌜ Roomy (now (lx .exit)) (now (ly .exit)) (now (ld .exit))
-        × Near (now (lx .exit)) (now (ly .exit)) (now (ld .exit)) n (now (x .entry)) (now (y .entry)) (now (verdict .entry)) (now (d .entry)) r2 j (length (now (x .entry))) ⌝ }
+        × Near (now (lx .exit)) (now (ly .exit)) (now (ld .exit)) n (stationsWith stations (now (numbers .entry)) (now (verdict .entry)) (now (d .entry))) r2 j stations ⌝ }
 {
     let mut n: usize = 0;
     let mut k: usize = 0;
-    while k < x.len() {
-        let gap = row_gap(verdict[k], y[k], j, r2);
-        lx[n] = x[k];
+    while k < stations {
+        let row = numbers[k];
+        let gap = row_gap(verdict[k], row[request::Y], j, r2);
+        lx[n] = row[request::X];
         ly[n] = gap;
         ld[n] = d[k];
         n += one_if_below(gap, r2);
@@ -182,27 +183,35 @@ fn correct_row(
 pub fn correct(
     z: &mut [i32],
     support: &mut [u8],
-    nx: usize,
-    ny: usize,
-    x: &[i32],
-    y: &[i32],
     verdict: &[u8],
     d: &[i64; 512],
+    t: Terms,
+    numbers: &[[i32; 3]; 512],
     radius: u32,
     bit: u8,
 )
-    requires { ⌜ PassReady (now z) (now support) nx ny (now x) (now y) (now verdict) (now d) radius bit ⌝ }
-    ensures { λ u. ⌜ (now (z .exit) ≡ stored nx ny (corrected (now (z .entry)) nx (now (x .entry)) (now (y .entry)) (now (verdict .entry)) (now (d .entry)) (radius * radius)))
-        × (now (support .exit) ≡ stored nx ny (backed (now (support .entry)) nx (now (x .entry)) (now (y .entry)) (now (verdict .entry)) (now (d .entry)) (radius * radius) bit)) ⌝ }
+    requires { ⌜ PassReady (now z) (now support) (t .nx) (t .ny) (stationsWith (t .stations) (now numbers) (now verdict) (now d)) radius bit ⌝ }
+    ensures { λ u. ⌜ (now (z .exit) ≡ stored (t .nx) (t .ny) (corrected (now (z .entry)) (t .nx) (stationsWith (t .stations) (now (numbers .entry)) (now (verdict .entry)) (now (d .entry))) (radius * radius)))
+        × (now (support .exit) ≡ stored (t .nx) (t .ny) (backed (now (support .entry)) (t .nx) (stationsWith (t .stations) (now (numbers .entry)) (now (verdict .entry)) (now (d .entry))) (radius * radius) bit)) ⌝ }
 {
     let r2 = radius * radius;
     let mut lx = [0i32; 512];
     let mut ly = [0u32; 512];
     let mut ld = [0i64; 512];
     let mut j: usize = 0;
-    while j < ny {
-        let n = near_row(&mut lx, &mut ly, &mut ld, x, y, verdict, d, r2, j);
-        correct_row(z, support, j * nx, nx, &lx, &ly, &ld, n, r2, bit);
+    while j < t.ny {
+        let n = near_row(
+            &mut lx,
+            &mut ly,
+            &mut ld,
+            t.stations,
+            numbers,
+            verdict,
+            d,
+            r2,
+            j,
+        );
+        correct_row(z, support, j * t.nx, t.nx, &lx, &ly, &ld, n, r2, bit);
         j += 1;
     }
 }

@@ -9,16 +9,18 @@ ghost use Rattle.scheme.specs.Difference.{afterTest};
 ghost use Rattle.scheme.specs.Most.{mostField, mostDifference};
 ghost use Rattle.scheme.specs.Accepted.{Shaped};
 ghost use Rattle.scan_station.specs.Judge.{OnGrid, JudgeReady, diffOf, diffAt, verdictAt};
+use request::Terms;
 
 // The observation less the value of the field there, 0 for a row that is not accepted, whose position may be off the grid.
-fn difference(verdict: u8, x: i32, y: i32, value: i32, z: &[i32], nx: usize, ny: usize) -> i64
-    requires { ⌜ Shaped nx ny (length (now z)) × ((k : ℕ) → natAbs (getD (now z) k (pos 0)) ≤ mostField) × (verdict ≡ 0 → OnGrid nx ny x y value) ⌝ }
-    ensures { λ r. ⌜ (r ≡ diffOf (now (z .entry)) nx ny verdict x y value) × (natAbs r ≤ mostDifference) ⌝ }
+fn difference(verdict: u8, row: [i32; 3], z: &[i32], nx: usize, ny: usize) -> i64
+    requires { ⌜ Shaped nx ny (length (now z)) × ((k : ℕ) → natAbs (getD (now z) k (pos 0)) ≤ mostField) × (verdict ≡ 0 → OnGrid nx ny row) ⌝ }
+    ensures { λ r. ⌜ (r ≡ diffOf (now (z .entry)) nx ny verdict row) × (natAbs r ≤ mostDifference) ⌝ }
 {
     if verdict != 0 {
         return 0;
     }
-    value as i64 - field_value::value_at(z, nx, ny, x as u32, y as u32)
+    let value = row[request::VALUE] as i64;
+    value - field_value::value_at(z, nx, ny, row[request::X] as u32, row[request::Y] as u32)
 }
 
 // |d|, for the E test.
@@ -47,23 +49,20 @@ fn verdict_after(verdict: u8, d: i64, limit: u32, scan: u8) -> u8
 // All stations are judged from the field as the scan finds it: the difference of each accepted row, and its verdict after the E test.
 pub fn judge(
     z: &[i32],
-    nx: usize,
-    ny: usize,
-    x: &[i32],
-    y: &[i32],
-    value: &[i32],
     verdict: &mut [u8],
     d: &mut [i64; 512],
+    t: Terms,
+    numbers: &[[i32; 3]; 512],
     limit: u32,
     scan: u8,
 )
-    requires { ⌜ JudgeReady (now z) nx ny (now x) (now y) (now value) (now verdict) (now d) scan ⌝ }
-    ensures { λ u. ⌜ Filled (pos 0) (diffAt (now (z .entry)) nx ny (now (x .entry)) (now (y .entry)) (now (value .entry)) (now (verdict .entry))) 0 (length (now (x .entry))) (now (d .entry)) (now (d .exit))
-        × Filled 0 (verdictAt (now (z .entry)) nx ny (now (x .entry)) (now (y .entry)) (now (value .entry)) (now (verdict .entry)) scan limit) 0 (length (now (x .entry))) (now (verdict .entry)) (now (verdict .exit)) ⌝ }
+    requires { ⌜ JudgeReady (now z) (now verdict) (now d) t (now numbers) scan ⌝ }
+    ensures { λ u. ⌜ Filled (pos 0) (diffAt (now (z .entry)) t (now (numbers .entry)) (now (verdict .entry))) 0 (t .stations) (now (d .entry)) (now (d .exit))
+        × Filled 0 (verdictAt (now (z .entry)) t (now (numbers .entry)) (now (verdict .entry)) scan limit) 0 (t .stations) (now (verdict .entry)) (now (verdict .exit)) ⌝ }
 {
     let mut k: usize = 0;
-    while k < x.len() {
-        let dk = difference(verdict[k], x[k], y[k], value[k], z, nx, ny);
+    while k < t.stations {
+        let dk = difference(verdict[k], numbers[k], z, t.nx, t.ny);
         d[k] = dk;
         verdict[k] = verdict_after(verdict[k], dk, limit, scan);
         k += 1;

@@ -2,3 +2,4 @@
 pub mod Scanned
 pub mod Ready
 pub mod Run
+pub mod Start

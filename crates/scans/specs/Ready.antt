@@ -1,5 +1,5 @@
 -- What a scan needs of the slices, and what each of its parts then finds.
-use Prim.Native.Nat.{ℕ, _+_, _-_, _*_, _≤_, _<_}
+use Prim.Native.Nat.{ℕ, _+_, _-_, _*_, _≤_, _<_, _^_}
 use native.Mathlib.Omega.{arith}
 use mathlib.Core.Path.{_≡_, sym, ap, _∙_}
 use mathlib.Core.Bool.{Bool, true, false, cond}
@@ -8,136 +8,129 @@ use borrow.Author.Tests.{eqb-true, eq-eqb}
 use lib.ListN.{length, getD}
 use lib.IntN.{ℤ, pos, natAbs}
 use Rattle.integers.specs.Sizes.{size-add}
-use Rattle.lists.specs.Tab.{tab}
 use Rattle.lists.specs.Filled.{Filled, filled-all}
-use Rattle.scheme.specs.Units.{Field, stored, fieldOf, mostStations, mostScans, mostLimit, mostRadius}
-use Rattle.scheme.specs.Verdicts.{isAccepted}
-use Rattle.scheme.specs.Difference.{afterTest}
+use Rattle.scheme.specs.Units.{Field, stored, fieldOf, mostStations, mostScans, mostLimit, R, E}
 use Rattle.scheme.specs.Correction.{correction}
 use Rattle.scheme.specs.Smoothing.{smoothed}
 use Rattle.scheme.specs.Accepted.{Shaped, same-shape}
+use Rattle.scheme.specs.Accepted as accepted
 use Rattle.scheme.specs.Most.{mostField}
 use Rattle.scheme.specs.Bounds.{passed, was-accepted, correction-size}
 use Rattle.scheme.specs.Stored.{Same, length-stored, field-stored, stored-same, smoothed-same, stored-all}
-use Rattle.scan_station.specs.Judge.{OnGrid, JudgeReady, diffAt, verdictAt}
+use Rattle.request.specs.declared.Terms.{Terms}
+use Rattle.request.specs.Tables.{planIn}
+use Rattle.scan_station.specs.Judge.{AcceptedOnGrid, JudgeReady, diffOf, diffAt, verdictAt}
 use Rattle.scan_smoothing.specs.Pattern.{Small}
-use Rattle.scan_point.specs.Near.{Inside, Columns, sumsOver, over-small}
+use Rattle.scan_point.specs.Near.{Stations, stationsWith, xAt, yAt, dAt, Inside, Ready, sumsOver, over-small}
 use Rattle.scan_point.specs.Pass.{corrected, backed, PassReady}
-use Rattle.scans.specs.Scanned.{Scanned}
+use Rattle.scans.specs.Scanned.{r2In, Scanned}
 
 -- a value before the last scan of a plan: one limit is still to come
 abbrev pub mostBefore : ℕ
 mostBefore = mostField - mostLimit
 
-pub record ScanReady (nx ny : ℕ) (xs ys vs : List ℤ) (radius limit number bit : ℕ) (z : List ℤ) (sup st : List ℕ) (ds : List ℤ) : Type 0 where
-  pub shape : Shaped nx ny (length z)
+-- what scan m + 1 needs
+pub record ScanReady (t : Terms) (numbers : List (List ℤ)) (m bit : ℕ) (z : List ℤ) (sup st : List ℕ) (ds : List ℤ) : Type 0 where
+  pub shape : Shaped (t .nx) (t .ny) (length z)
   pub both : length sup ≡ length z
   pub low : (k : ℕ) → natAbs (getD z k (pos 0)) ≤ mostBefore
   pub free : (k : ℕ) → getD sup k 0 + bit < 256
-  pub len-y : length ys ≡ length xs
-  pub len-v : length vs ≡ length xs
-  pub len-st : length st ≡ length xs
-  pub few : length xs ≤ mostStations
+  pub few : t .stations ≤ mostStations
+  pub len-st : length st ≡ t .stations
   pub long : length ds ≡ mostStations
-  pub close : radius ≤ mostRadius
-  pub limited : limit ≤ mostLimit
-  pub number-few : number ≤ mostScans
-  pub on-grid : (k : ℕ) → k < length xs → getD st k 0 ≡ 0 → OnGrid nx ny (getD xs k (pos 0)) (getD ys k (pos 0)) (getD vs k (pos 0))
+  pub entry : accepted.Scanned (planIn t) m
+  pub number-few : m + 1 ≤ mostScans
+  pub bit-is : bit ≡ 2 ^ m
+  pub on-grid : AcceptedOnGrid t numbers st
 
 -- smoothing, if it is on
-unfoldable pub smoothedIf : (nx ny : ℕ) → Bool → List ℤ → List ℤ
-smoothedIf nx ny on l = cond on (stored nx ny (smoothed nx ny (fieldOf (pos 0) nx l))) l
+unfoldable pub smoothedIf : Terms → List ℤ → List ℤ
+smoothedIf t l = cond (t .smooth) (stored (t .nx) (t .ny) (smoothed (t .nx) (t .ny) (fieldOf (pos 0) (t .nx) l))) l
 
-module _ {nx ny : ℕ} {xs ys vs : List ℤ} {radius limit number bit : ℕ} {z : List ℤ} {sup st : List ℕ} {ds₀ : List ℤ}
-    (ok : ScanReady nx ny xs ys vs radius limit number bit z sup st ds₀) where
-  pub judge-ready : JudgeReady z nx ny xs ys vs st ds₀ number
+module _ {t : Terms} {numbers : List (List ℤ)} {m bit : ℕ} {z : List ℤ} {sup st : List ℕ} {ds₀ : List ℤ} (ok : ScanReady t numbers m bit z sup st ds₀) where
+  pub judge-ready : JudgeReady z st ds₀ t numbers (m + 1)
   judge-ready =
       record {
         shape = ok .shape;
         small = λ k. omega (arith, ok .low k);
-        len-y = ok .len-y;
-        len-v = ok .len-v;
-        len-st = ok .len-st;
         few = ok .few;
+        len-st = ok .len-st;
         long = ok .long;
         scan-few = ok .number-few;
         on-grid = ok .on-grid;
       }
 
   -- after judging
-  module _ {st' : List ℕ} {ds : List ℤ} (vf : Filled 0 (verdictAt z nx ny xs ys vs st number limit) 0 (length xs) st st')
-      (df : Filled (pos 0) (diffAt z nx ny xs ys vs st) 0 (length xs) ds₀ ds) where
-    verdicts : st' ≡ tab (length xs) (verdictAt z nx ny xs ys vs st number limit)
-    verdicts = filled-all 0 (verdictAt z nx ny xs ys vs st number limit) (length xs) st st' (ok .len-st) vf
+  module _ {st' : List ℕ} {ds : List ℤ} (vf : Filled 0 (verdictAt z t numbers st (m + 1) (E (planIn t) m)) 0 (t .stations) st st')
+      (df : Filled (pos 0) (diffAt z t numbers st) 0 (t .stations) ds₀ ds) where
+    abbrev all : Stations
+    all = stationsWith (t .stations) numbers st' ds
 
-    accepted-after : (k : ℕ) → k < length xs → getD st' k 0 ≡ 0
-        → isAccepted (afterTest number limit (diffAt z nx ny xs ys vs st k) (getD st k 0)) ≡ true
-    unfolding verdictAt
-    accepted-after k h e = eq-eqb _ 0 (sym (vf .new k (omega arith) h) ∙ e)
-
-    columns : Columns xs ys st' ds
-    columns =
+    inside : (k : ℕ) → k < t .stations → getD st' k 0 ≡ 0 → Inside (xAt all k) (yAt all k) (dAt all k)
+    unfolding diffOf
+    inside k h e =
+        let a = eq-eqb _ 0 (sym (vf .new k (omega arith) h) ∙ e) in
+        let w = was-accepted (m + 1) (E (planIn t) m) _ (getD st k 0) a in
+        let o = ok .on-grid k h (eqb-true (getD st k 0) 0 w) in
         record {
-          len-y = ok .len-y;
-          len-st = vf .same-length ∙ ok .len-st;
-          few = ok .few;
-          long = df .same-length ∙ ok .long;
-          inside = inside;
+          x-small = omega (arith, o .x .1, ok .shape .few-columns);
+          y-small = omega (arith, o .y .1, ok .shape .few-rows);
+          d-small = rw (df .new k (omega arith) h, w) (omega (arith, passed (m + 1) (E (planIn t) m) _ (getD st k 0) a, ok .entry .limit-most));
         }
-      where
-        inside : (k : ℕ) → k < length xs → getD st' k 0 ≡ 0 → Inside (getD xs k (pos 0)) (getD ys k (pos 0)) (getD ds k (pos 0))
-        inside k h e =
-            let a = accepted-after k h e in
-            let o = ok .on-grid k h (eqb-true (getD st k 0) 0 (was-accepted number limit _ (getD st k 0) a)) in
-            record {
-              x-small = omega (arith, o .x-in, ok .shape .few-columns);
-              y-small = omega (arith, o .y-in, ok .shape .few-rows);
-              d-small = rw (df .new k (omega arith) h) (omega (arith, passed number limit (diffAt z nx ny xs ys vs st k) (getD st k 0) a, ok .limited));
-            }
 
-    pub pass-ready : PassReady z sup nx ny xs ys st' ds radius bit
+    stations : Ready all
+    stations = record { few = ok .few; len-st = vf .same-length ∙ ok .len-st; inside = inside }
+
+    pub pass-ready : PassReady z sup (t .nx) (t .ny) all (R (planIn t) m) bit
     pass-ready =
         record {
           shape = ok .shape;
           both = ok .both;
-          close = ok .close;
-          columns = columns;
+          close = ok .entry .radius-most;
+          stations = stations;
           low = λ k. omega (arith, ok .low k);
           free = ok .free;
         }
 
     -- after the correction
-    corrected-size : (i j : ℕ) → natAbs (corrected z nx xs ys st' ds (radius * radius) i j) ≤ mostField
+    abbrev moved : Field ℤ
+    moved = corrected z (t .nx) all (r2In t m)
+
+    moved-size : (i j : ℕ) → natAbs (moved i j) ≤ mostField
     unfolding corrected fieldOf
-    corrected-size i j =
+    moved-size i j =
         omega (
           arith,
-          size-add (getD z (j * nx + i) (pos 0)) (correction (sumsOver xs ys st' ds (radius * radius) i j)),
-          ok .low (j * nx + i),
-          correction-size mostLimit (sumsOver xs ys st' ds (radius * radius) i j) (over-small xs ys st' ds (radius * radius) i j columns),
+          size-add (getD z (j * t .nx + i) (pos 0)) (correction (sumsOver all (r2In t m) i j)),
+          ok .low (j * t .nx + i),
+          correction-size mostLimit (sumsOver all (r2In t m) i j) (over-small all (r2In t m) i j stations),
         )
 
-    module _ {z1 : List ℤ} (z1-is : z1 ≡ stored nx ny (corrected z nx xs ys st' ds (radius * radius))) where
-      pub smooth-shaped : Shaped nx ny (length z1)
-      smooth-shaped = same-shape (ok .shape) (length z1) (ap length z1-is ∙ length-stored nx ny (corrected z nx xs ys st' ds (radius * radius)))
+    module _ {z1 : List ℤ} (z1-is : z1 ≡ stored (t .nx) (t .ny) moved) where
+      pub smooth-shaped : Shaped (t .nx) (t .ny) (length z1)
+      smooth-shaped = same-shape (ok .shape) (length z1) (ap length z1-is ∙ length-stored (t .nx) (t .ny) moved)
 
       pub smooth-small : Small z1
-      smooth-small =
-          rw z1-is (stored-all (λ (v : ℤ). natAbs v ≤ mostField) (pos 0) nx ny (corrected z nx xs ys st' ds (radius * radius)) (omega arith) corrected-size)
+      smooth-small = rw z1-is (stored-all (λ (v : ℤ). natAbs v ≤ mostField) (pos 0) (t .nx) (t .ny) moved (omega arith) moved-size)
 
       -- and after smoothing
-      pub scanned : {smooth : Bool} {z' : List ℤ} {sup' : List ℕ} → z' ≡ smoothedIf nx ny smooth z1
-          → sup' ≡ stored nx ny (backed sup nx xs ys st' ds (radius * radius) bit)
-          → Scanned nx ny xs ys vs smooth radius limit number bit z sup st z' sup' st' ds
-      scanned {smooth = smooth} {z' = z'} {sup' = sup'} ez es =
-          record { verdicts = verdicts; differences = λ k h. df .new k (omega arith) h; supports = es; values = values smooth ez }
-        where
-          values : (smooth : Bool) → z' ≡ smoothedIf nx ny smooth z1 → (f : Field ℤ) → Same nx ny (corrected z nx xs ys st' ds (radius * radius)) f
-              → z' ≡ stored nx ny (cond smooth (smoothed nx ny f) f)
-          values smooth e f h = e ∙ unfold smoothedIf in (go smooth (z1-is ∙ stored-same nx ny _ f h))
-            where
-              go : (b : Bool) → z1 ≡ stored nx ny f → cond b (stored nx ny (smoothed nx ny (fieldOf (pos 0) nx z1))) z1 ≡ stored nx ny (cond b (smoothed nx ny f) f)
-              go true e1 =
-                  ap (λ (l : List ℤ). stored nx ny (smoothed nx ny (fieldOf (pos 0) nx l))) e1
-                  ∙ stored-same nx ny _ _ (smoothed-same nx ny (fieldOf (pos 0) nx (stored nx ny f)) f (field-stored nx ny (pos 0) f))
-              go false e1 = e1
+      kept : (f : Field ℤ) → Same (t .nx) (t .ny) moved f → z1 ≡ stored (t .nx) (t .ny) f
+      kept f h = z1-is ∙ stored-same (t .nx) (t .ny) moved f h
+
+      values : (on : Bool) (f : Field ℤ) → Same (t .nx) (t .ny) moved f
+          → cond on (stored (t .nx) (t .ny) (smoothed (t .nx) (t .ny) (fieldOf (pos 0) (t .nx) z1))) z1 ≡ stored (t .nx) (t .ny) (cond on (smoothed (t .nx) (t .ny) f) f)
+      values true f h =
+          ap (λ (l : List ℤ). stored (t .nx) (t .ny) (smoothed (t .nx) (t .ny) (fieldOf (pos 0) (t .nx) l))) (kept f h)
+          ∙ stored-same (t .nx) (t .ny) _ _ (smoothed-same (t .nx) (t .ny) (fieldOf (pos 0) (t .nx) (stored (t .nx) (t .ny) f)) f (field-stored (t .nx) (t .ny) (pos 0) f))
+      values false f h = kept f h
+
+      pub scanned : {z' : List ℤ} {sup' : List ℕ} → z' ≡ smoothedIf t z1 → sup' ≡ stored (t .nx) (t .ny) (backed sup (t .nx) all (r2In t m) bit)
+          → Scanned t numbers m z sup st z' sup' st' ds
+      unfolding smoothedIf
+      scanned ez es =
+          record {
+            verdicts = filled-all 0 (verdictAt z t numbers st (m + 1) (E (planIn t) m)) (t .stations) st st' (ok .len-st) vf;
+            differences = λ k h. df .new k (omega arith) h;
+            supports = rw (ok .bit-is) at es;
+            values = λ f h. ez ∙ values (t .smooth) f h;
+          }

@@ -1,89 +1,132 @@
-// The scans of a plan over lent slices (document 01, "One scan"), from the state that the first one finds.
+// The work on an accepted request (document 01, "Verdicts before the first scan" and "One scan"): the start, then the scans of the plan, in
+// the slices that the results go to.
 ghost use mathlib.Core.Path.{_≡_};
+ghost use Prim.Native.Nat.{_*_, _≤_};
 ghost use lib.ListN.{length};
+ghost use Rattle.lists.specs.Tab.{tab};
 ghost use Rattle.scheme.specs.Units.{mostStations};
-ghost use Rattle.scheme.specs.Accepted.{Shaped};
+ghost use Rattle.scheme.specs.Scan.{analysis};
+ghost use Rattle.scheme.specs.Promises.{slices};
+ghost use Rattle.scheme.specs.Most.{mostPoints};
+ghost use Rattle.scheme.specs.Accepted.{Shaped, Sound, Fits};
+ghost use Rattle.request.specs.Tables.{requestIn};
 ghost use Rattle.scan_smoothing.specs.Pattern.{Small};
 ghost use Rattle.scans.specs.Scanned.{Scanned};
 ghost use Rattle.scans.specs.Ready.{ScanReady, smoothedIf};
-ghost use Rattle.scans.specs.Run.{Rest, callWith, Reached};
+ghost use Rattle.scans.specs.Run.{Reached};
+ghost use Rattle.scans.specs.Start.{firstAt};
+use request::Terms;
 
-// Smoothing, if it is on.
-fn smooth_if(z: &mut [i32], nx: usize, ny: usize, on: bool)
-    requires { ⌜ Shaped nx ny (length (now z)) × Small (now z) ⌝ }
-    ensures { λ u. ⌜ now (z .exit) ≡ smoothedIf nx ny on (now (z .entry)) ⌝ }
+// ---- before the first scan
+
+fn copy(to: &mut [i32], from: &[i32])
+    requires { ⌜ (length (now to) ≡ length (now from)) × (length (now from) ≤ mostPoints) ⌝ }
+    ensures { λ u. ⌜ now (to .exit) ≡ now (from .entry) ⌝ }
 {
-    if on {
-        scan_smoothing::smooth(z, nx, ny);
+    let mut k: usize = 0;
+    while k < from.len() {
+        to[k] = from[k];
+        k += 1;
     }
 }
 
-// One scan: all stations are judged before any point changes, then all points are corrected, then smoothed.
+fn clear(to: &mut [u8])
+    requires { ⌜ length (now to) ≤ mostPoints ⌝ }
+    ensures { λ u. ⌜ now (to .exit) ≡ tab (length (now (to .entry))) (λ k. 0) ⌝ }
+{
+    let mut k: usize = 0;
+    while k < to.len() {
+        to[k] = 0;
+        k += 1;
+    }
+}
+
+// The verdict of each row before the first scan.
+fn first_verdicts(
+    verdict: &mut [u8],
+    t: Terms,
+    numbers: &[[i32; 3]; 512],
+    minutes: &[[u32; 3]; 512],
+)
+    requires { ⌜ Shaped (t .nx) (t .ny) (t .nx * t .ny) × (t .stations ≤ mostStations) × (length (now verdict) ≡ t .stations) ⌝ }
+    ensures { λ u. ⌜ now (verdict .exit) ≡ tab (t .stations) (firstAt t (now (numbers .entry)) (now (minutes .entry))) ⌝ }
+{
+    let mut k: usize = 0;
+    while k < t.stations {
+        verdict[k] = scan_verdict::first_verdict(numbers[k], minutes[k], t.nx, t.ny, t.time, t.age);
+        k += 1;
+    }
+}
+
+// The state that the first scan finds.
+fn begin(
+    t: Terms,
+    guess: &[i32],
+    numbers: &[[i32; 3]; 512],
+    minutes: &[[u32; 3]; 512],
+    grid: &mut [i32],
+    support: &mut [u8],
+    verdict: &mut [u8],
+)
+    requires { ⌜ Sound (requestIn t (now guess) (now numbers) (now minutes)) × Fits (requestIn t (now guess) (now numbers) (now minutes)) (length (now grid)) (length (now support)) (length (now verdict)) ⌝ }
+    ensures { λ u. ⌜ Reached t (now (guess .entry)) (now (numbers .entry)) (now (minutes .entry)) 0 (now (grid .exit)) (now (support .exit)) (now (verdict .exit)) ⌝ }
+{
+    copy(grid, guess);
+    clear(support);
+    first_verdicts(verdict, t, numbers, minutes);
+}
+
+// ---- the scans
+
+// Smoothing, if it is on.
+fn smooth_if(z: &mut [i32], t: Terms)
+    requires { ⌜ Shaped (t .nx) (t .ny) (length (now z)) × Small (now z) ⌝ }
+    ensures { λ u. ⌜ now (z .exit) ≡ smoothedIf t (now (z .entry)) ⌝ }
+{
+    if t.smooth {
+        scan_smoothing::smooth(z, t.nx, t.ny);
+    }
+}
+
+// Scan number m + 1, whose bit is 2^m: all stations are judged before any point changes, then all points are corrected, then smoothed.
 fn scan(
     z: &mut [i32],
     support: &mut [u8],
     verdict: &mut [u8],
     d: &mut [i64; 512],
-    nx: usize,
-    ny: usize,
-    x: &[i32],
-    y: &[i32],
-    value: &[i32],
-    radius: u32,
-    limit: u32,
-    number: u8,
+    t: Terms,
+    numbers: &[[i32; 3]; 512],
+    m: usize,
     bit: u8,
-    smooth: bool,
 )
-    requires { ⌜ ScanReady nx ny (now x) (now y) (now value) radius limit number bit (now z) (now support) (now verdict) (now d) ⌝ }
-    ensures { λ u. ⌜ Scanned nx ny (now (x .entry)) (now (y .entry)) (now (value .entry)) smooth radius limit number bit (now (z .entry)) (now (support .entry)) (now (verdict .entry)) (now (z .exit)) (now (support .exit)) (now (verdict .exit)) (now (d .exit))
+    requires { ⌜ ScanReady t (now numbers) m bit (now z) (now support) (now verdict) (now d) ⌝ }
+    ensures { λ u. ⌜ Scanned t (now (numbers .entry)) m (now (z .entry)) (now (support .entry)) (now (verdict .entry)) (now (z .exit)) (now (support .exit)) (now (verdict .exit)) (now (d .exit))
         × (length (now (d .exit)) ≡ mostStations) ⌝ }
 {
-    scan_station::judge(z, nx, ny, x, y, value, verdict, d, limit, number);
-    scan_point::correct(z, support, nx, ny, x, y, verdict, d, radius, bit);
-    smooth_if(z, nx, ny, smooth);
+    scan_station::judge(z, verdict, d, t, numbers, t.limit[m] as u32, (m as u8) + 1);
+    scan_point::correct(z, support, verdict, d, t, numbers, t.radius[m] as u32, bit);
+    smooth_if(z, t);
 }
 
-// The scans of the plan, in order. Entries past the count are not read.
-pub fn scans(
-    z: &mut [i32],
+// The whole work, in slices of the right length.
+pub fn run(
+    t: Terms,
+    guess: &[i32],
+    numbers: &[[i32; 3]; 512],
+    minutes: &[[u32; 3]; 512],
+    grid: &mut [i32],
     support: &mut [u8],
     verdict: &mut [u8],
-    nx: usize,
-    ny: usize,
-    x: &[i32],
-    y: &[i32],
-    value: &[i32],
-    radius: &[i32],
-    limit: &[i32],
-    count: usize,
-    smooth: bool,
 )
-    requires { ⌜ ((r : Rest) × Reached (callWith r nx ny (now x) (now y) (now value) (now radius) (now limit) count smooth) 0 (now z) (now support) (now verdict)) ⌝ }
-    ensures { λ u. ⌜ ((r : Rest)
-        → Reached (callWith r nx ny (now (x .entry)) (now (y .entry)) (now (value .entry)) (now (radius .entry)) (now (limit .entry)) count smooth) 0 (now (z .entry)) (now (support .entry)) (now (verdict .entry))
-        → Reached (callWith r nx ny (now (x .entry)) (now (y .entry)) (now (value .entry)) (now (radius .entry)) (now (limit .entry)) count smooth) count (now (z .exit)) (now (support .exit)) (now (verdict .exit))) ⌝ }
+    requires { ⌜ Sound (requestIn t (now guess) (now numbers) (now minutes)) × Fits (requestIn t (now guess) (now numbers) (now minutes)) (length (now grid)) (length (now support)) (length (now verdict)) ⌝ }
+    ensures { λ u. ⌜ slices (now (grid .exit)) (now (support .exit)) (now (verdict .exit)) ≡ analysis (requestIn t (now (guess .entry)) (now (numbers .entry)) (now (minutes .entry))) ⌝ }
 {
+    begin(t, guess, numbers, minutes, grid, support, verdict);
     let mut d = [0i64; 512];
     let mut bit: u8 = 1;
     let mut m: usize = 0;
-    while m < count {
-        scan(
-            z,
-            support,
-            verdict,
-            &mut d,
-            nx,
-            ny,
-            x,
-            y,
-            value,
-            radius[m] as u32,
-            limit[m] as u32,
-            (m as u8) + 1,
-            bit,
-            smooth,
-        );
+    while m < t.scans {
+        scan(grid, support, verdict, &mut d, t, numbers, m, bit);
         bit = bit * 2;
         m += 1;
     }

@@ -14,8 +14,8 @@ use Rattle.scheme.specs.Verdicts.{onAxis}
 use Rattle.scheme.specs.Value.{sumAt}
 use Rattle.scheme.specs.Readings.{double}
 use Rattle.scheme.specs.Accepted.{same-shape}
-use Rattle.scan_verdict.specs.Verdict.{place-fits}
-use Rattle.field_reading.specs.Point.{Along, along-both, off-grid, backed, not-backed}
+use Rattle.field_value.specs.Axis.{Along, place-fits}
+use Rattle.field_reading.specs.Point.{along-both, off-grid, backed, not-backed}
 use Rattle.field_reading.proofs.reading_in.Statement.{statement}
 use Rattle.field_reading.proofs.reading_in.Tie as tie
 
@@ -44,14 +44,10 @@ returns c =
     off-grid _ _ _ _ _ _ (sym (rw (toZ-ofZ (s .fits .x), toZ-ofZ (s .fits .y)) at (c .before .on-grid .ensures)) ∙ not-true _ (c .if1 .taken))
 
 cast-px : tie.Need-cast-px
-cast-px c =
-    let (is, inside) = across c in
-    rw (toZ-ofZ (s c .fits .x)) (place-fits (s c .args .nx) (s c .args .x) (s c .pre .0 .few-columns) is inside)
+cast-px c = rw (toZ-ofZ (s c .fits .x)) (place-fits (s c .args .nx) (s c .args .x) (s c .pre .0 .few-columns) (across c))
 
 cast-py : tie.Need-cast-py
-cast-py c =
-    let (is, inside) = down c in
-    rw (toZ-ofZ (s c .fits .y)) (place-fits (s c .args .ny) (s c .args .y) (s c .pre .0 .few-rows) is inside)
+cast-py c = rw (toZ-ofZ (s c .fits .y)) (place-fits (s c .args .ny) (s c .args .y) (s c .pre .0 .few-rows) (down c))
 
 sum-at-requires : tie.Need-sum-at-requires
 sum-at-requires c κs =

@@ -1,13 +1,13 @@
--- `scan_verdict::on_axis` meets its contract: below zero, and from zero on. Assumes nothing.
+-- `field_value::on_axis` meets its contract: below zero, and from zero on. Assumes nothing.
 use native.Mathlib.Omega.{arith}
 use borrow.Author.Needs.{needs}
 use mathlib.Core.Path.{sym}
 use mir.Syntax.{w32}
 use mir.Facts.{toZ-ofZ}
 use Rattle.integers.specs.Words.{size-fits}
-use Rattle.scan_verdict.specs.Verdict.{below-axis, along-axis}
-use Rattle.scan_verdict.proofs.on_axis.Statement.{statement}
-use Rattle.scan_verdict.proofs.on_axis.Tie as tie
+use Rattle.field_value.specs.Axis.{below-axis, along-axis}
+use Rattle.field_value.proofs.on_axis.Statement.{statement}
+use Rattle.field_value.proofs.on_axis.Tie as tie
 
 returns : tie.Need-returns
 returns c =

@@ -1,8 +1,8 @@
--- `scan_verdict::on_grid` meets its contract. Assumes nothing.
+-- `field_value::on_grid` meets its contract. Assumes nothing.
 use borrow.Author.Needs.{needs}
 use mir.Facts.{toZ-ofZ}
-use Rattle.scan_verdict.proofs.on_grid.Statement.{statement}
-use Rattle.scan_verdict.proofs.on_grid.Tie as tie
+use Rattle.field_value.proofs.on_grid.Statement.{statement}
+use Rattle.field_value.proofs.on_grid.Tie as tie
 
 on-axis-requires : tie.Need-on-axis-requires
 on-axis-requires c κs = search needs
