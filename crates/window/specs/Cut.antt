@@ -1,22 +1,25 @@
--- The cut as a call of its own, and the window on it.
+-- The cut as a request of its own, and the window on it.
 use Prim.Native.Nat.{ℕ, _+_, _-_, _*_, _≤_, _<_}
 use native.Mathlib.Omega.{arith}
 use native.Mathlib.Nat.{mul-le-mul}
-use mathlib.Core.Path.{_≡_, refl, sym, subst}
-use mathlib.Core.List.{List}
-use lib.ListN.{length}
+use mathlib.Core.Path.{_≡_, sym, ap, ap₂, subst, _∙_}
+use mathlib.Core.List.{List, []}
+use lib.ListN.{length, getD}
 use lib.IntN.{ℤ, pos}
-use Rattle.scheme.specs.Units.{mostSide, Field, stored, mostStations, Columns, stationAt, stationsOf, guess, Request, Call, asked, asking}
+use Rattle.lists.specs.Tab.{length-tab, getD-tab}
+use Rattle.scheme.specs.Units.{mostSide, Field, stored, mostStations, guess, Request}
 use Rattle.scheme.specs.Refusals.{Span, Window, pointsAlong}
 use Rattle.scheme.specs.Scan.{atEnd}
 use Rattle.scheme.specs.Reach.{reach, widened, cutOf, windowOf, cut, wholeAt}
 use Rattle.scheme.specs.Most.{mostPoints}
-use Rattle.scheme.specs.Calls.{Room, firstRows, first-rows, first-equal}
-use Rattle.scheme.specs.Accepted.{Sound, noStation, rows-of, row-of, OnGrid, QueryAccepted}
+use Rattle.scheme.specs.Accepted.{Stationed, noStation, Sound, FitsWindow, OnGrid}
 use Rattle.scheme.specs.Stored.{stored-same}
 use Rattle.scheme.specs.Cut.{cut-sound}
 use Rattle.scheme.specs.Windows.{OfWindow, window-value, window-support}
-use Rattle.window_cut.specs.Kept.{Long, KeepReady, Kept}
+use Rattle.request.specs.declared.Terms.{Terms}
+use Rattle.request.specs.Tables.{stationOf, stationIn, planIn, requestIn}
+use Rattle.window_spans.specs.Spans.{Placed}
+use Rattle.window_cut.specs.Kept.{KeepReady, Kept}
 use Rattle.window_cut.specs.Part.{partOf, PartReady, part-ready}
 
 -- ---- along one axis of n points: the window lies on the cut, and the cut on the grid
@@ -42,89 +45,38 @@ movedOn cut w = record { columns = moved (cut .columns) (w .columns); rows = mov
 same-points : {n : ℕ} {window cut : Span} → Along n window cut → pointsAlong (moved cut window) ≡ pointsAlong window
 same-points a = omega (arith, a .first, a .ordered)
 
--- ---- the first m rows of the kept columns alone are lent
+-- ---- the cut of a sound request: what the work needs on the way
 
-kept-room : (m : ℕ) (k : Columns) → Long k → m ≤ mostStations → Room m k
-kept-room m k l h =
-    record {
-      x = omega (arith, l .x);
-      y = omega (arith, l .y);
-      value = omega (arith, l .value);
-      observed = omega (arith, l .observed);
-      from = omega (arith, l .from);
-      until = omega (arith, l .until);
-    }
+module _ {q : Request} (sound : Sound q) {w : Window} (on : OnGrid (q .nx) (q .ny) w) {here : Window} (e : here ≡ cutOf q w) where
+  pub across : Along (q .nx) (w .columns) (here .columns)
+  across = rw e (along (reach (q .plan)) (q .nx) (w .columns) (on .across) (on .right))
 
--- ---- an accepted query, and the cut as the code has it: a window, a first guess and columns
+  pub down : Along (q .ny) (w .rows) (here .rows)
+  down = rw e (along (reach (q .plan)) (q .ny) (w .rows) (on .down) (on .bottom))
 
-abbrev pub cutCall : Call → Window → List ℤ → Columns → Call
-cutCall c here part columns =
-    asking (pointsAlong (here .columns)) (pointsAlong (here .rows)) part columns (c .plan .scans) (c .plan .radius) (c .plan .limit) (c .plan .smooth) (c .T) (c .A)
+  pub small : OnGrid mostSide mostSide here
+  small =
+      record {
+        across = omega (arith, across .first, across .ordered, across .last);
+        down = omega (arith, down .first, down .ordered, down .last);
+        right = omega (arith, across .inside, sound .shape .few-columns);
+        bottom = omega (arith, down .inside, sound .shape .few-rows);
+      }
 
-module _ {c : Call} {w : Window} {grid support : ℕ} (p : QueryAccepted c w grid support) {here : Window} (e : here ≡ cutOf (asked c) w) where
-  pub across : Along (c .nx) (w .columns) (here .columns)
-  across = rw e (along (reach (c .plan)) (c .nx) (w .columns) (p .on-grid .across) (p .on-grid .right))
-
-  pub down : Along (c .ny) (w .rows) (here .rows)
-  down = rw e (along (reach (c .plan)) (c .ny) (w .rows) (p .on-grid .down) (p .on-grid .bottom))
-
-  -- what the work needs on the way
   pub few-points : pointsAlong (here .columns) * pointsAlong (here .rows) ≤ mostPoints
   few-points = mul-le-mul wide high
     where
       wide : pointsAlong (here .columns) ≤ mostSide
-      wide = omega (arith, across .inside, p .sound .request .shape .few-columns)
+      wide = omega (arith, small .right)
 
       high : pointsAlong (here .rows) ≤ mostSide
-      high = omega (arith, down .inside, p .sound .request .shape .few-rows)
+      high = omega (arith, small .bottom)
 
   pub guess-part : (m : ℕ) → m ≡ pointsAlong (here .columns) * pointsAlong (here .rows)
-      → PartReady m (length (c .firstGuess)) (c .nx) (here .columns .first) (here .rows .first) (pointsAlong (here .columns)) (pointsAlong (here .rows))
+      → PartReady m (length (q .firstGuess)) (q .nx) (here .columns .first) (here .rows .first) (pointsAlong (here .columns)) (pointsAlong (here .rows))
   guess-part m long =
-      part-ready (p .sound .request .shape) (omega (arith, across .first, across .ordered, across .last, across .inside))
+      part-ready (sound .shape) (omega (arith, across .first, across .ordered, across .last, across .inside))
       (omega (arith, down .first, down .ordered, down .last, down .inside)) m long
-
-  pub keep-ready : KeepReady here (c .stations)
-  keep-ready =
-      record {
-        equal = p .sound .columns;
-        x = λ k h. unfold stationAt in p .sound .stations k h .x;
-        y = λ k h. unfold stationAt in p .sound .stations k h .y;
-        columns-first = omega (arith, across .first, across .ordered, across .last, across .inside, p .sound .request .shape .few-columns);
-        columns-last = omega (arith, across .inside, p .sound .request .shape .few-columns);
-        rows-first = omega (arith, down .first, down .ordered, down .last, down .inside, p .sound .request .shape .few-rows);
-        rows-last = omega (arith, down .inside, p .sound .request .shape .few-rows);
-      }
-
-  -- the call that the code makes of it
-  module _ {part : List ℤ} {k : Columns} {m : ℕ}
-      (first-guess : part ≡ stored (pointsAlong (here .columns)) (pointsAlong (here .rows)) (partOf (pos 0) (c .nx) (here .columns .first) (here .rows .first) (c .firstGuess)))
-      (l : Long k) (few : m ≤ mostStations) (kept : Kept here (c .stations) k (length (c .stations .x)) m) where
-    -- it asks the cut, and is accepted
-    pub asks-cut : asked (cutCall c here part (firstRows m k)) ≡ cut (asked c) w
-    unfolding cut windowOf guess
-    asks-cut = rw (first-rows m k (kept-room m k l few), kept .stations, first-guess, e) (unfold stationsOf in refl)
-
-    made-sound : Sound (asked (cutCall c here part (firstRows m k)))
-    made-sound = subst Sound (sym asks-cut) (cut-sound (asked c) w (p .sound .request) (p .on-grid))
-
-    pub cut-accepted : QueryAccepted (cutCall c here part (firstRows m k)) (movedOn here w) grid support
-    cut-accepted =
-        record {
-          sound = record {
-            request = made-sound;
-            columns = first-equal m k (kept-room m k l few) few;
-            stations = λ i h. rw (← row-of (firstRows m k) i noStation h) (made-sound .stations i (omega (arith, rows-of (firstRows m k))));
-          };
-          on-grid = record {
-            across = omega (arith, across .ordered);
-            down = omega (arith, down .ordered);
-            right = omega (arith, across .first, across .ordered, across .last);
-            bottom = omega (arith, down .first, down .ordered, down .last);
-          };
-          grid-long = rw (same-points across, same-points down) (p .grid-long);
-          support-long = rw (same-points across, same-points down) (p .support-long);
-        }
 
 -- ---- the window on it
 
@@ -156,3 +108,66 @@ module _ (q : Request) (w : Window) (sound : Sound q) (on : OnGrid (q .nx) (q .n
       let v = window-same (atEnd (cut q w) .field) (atEnd q .field) (unfold cut in window-value q w sound on) in
       let b = window-same (atEnd (cut q w) .support) (atEnd q .support) (unfold cut in window-support q w sound on) in
       cc
+
+-- ---- the cut as the code has it: a window, a first guess, and the first rows of two tables
+
+abbrev pub cutTerms : Terms → (wide high stations : ℕ) → Terms
+cutTerms t wide high stations =
+    record {
+      nx = wide;
+      ny = high;
+      stations = stations;
+      scans = t .scans;
+      radius = t .radius;
+      limit = t .limit;
+      smooth = t .smooth;
+      time = t .time;
+      age = t .age;
+    }
+
+module _ (t : Terms) (guessed : List ℤ) (numbers : List (List ℤ)) (minutes : List (List ℕ)) where
+  abbrev whole : Request
+  whole = requestIn t guessed numbers minutes
+
+  module _ (sound : Sound whole) {w : Window} (on : OnGrid (t .nx) (t .ny) w) {here : Window} (e : here ≡ cutOf whole w) where
+    rows-long : length (whole .stations) ≡ t .stations
+    rows-long = length-tab (t .stations) (stationIn numbers minutes)
+
+    pub keep-ready : KeepReady here numbers (t .stations)
+    keep-ready = record { few = omega (arith, rows-long, sound .few-stations); on = small sound on e; placed = placed }
+      where
+        station : (k : ℕ) → k < t .stations → Stationed (stationIn numbers minutes k)
+        station k h = rw (← getD-tab (t .stations) (stationIn numbers minutes) k noStation h) (sound .stations k (omega (arith, rows-long)))
+
+        placed : (k : ℕ) → k < t .stations → Placed (getD numbers k [])
+        placed k h = unfold stationOf in record { x = station k h .x; y = station k h .y }
+
+    -- the request that the code makes of it, and the window on it
+    module _ {part : List ℤ} {kept : List (List ℤ)} {times : List (List ℕ)} {m : ℕ} {t' : Terms} {w' : Window}
+        (first-guess : part ≡ stored (pointsAlong (here .columns)) (pointsAlong (here .rows)) (partOf (pos 0) (t .nx) (here .columns .first) (here .rows .first) guessed))
+        (stays : Kept here numbers minutes kept times (t .stations) m)
+        (terms : t' ≡ cutTerms t (pointsAlong (here .columns)) (pointsAlong (here .rows)) m) (window : w' ≡ movedOn here w) where
+      is-cut : requestIn t' part kept times ≡ cut whole w
+      unfolding cut windowOf guess
+      is-cut = rw (terms, stays .stations, first-guess, e)
+
+      -- it is accepted, and answers the numbers of the whole grid
+      pub cut-accepted : {grid support : ℕ} → FitsWindow w grid support
+          → Sound (requestIn t' part kept times) × OnGrid (t' .nx) (t' .ny) w' × FitsWindow w' grid support
+      cut-accepted fits =
+          let x = across sound on e in
+          let y = down sound on e in (
+            subst Sound (sym is-cut) (cut-sound whole w sound on),
+            rw (terms, window)
+                (record {
+                  across = omega (arith, x .ordered);
+                  down = omega (arith, y .ordered);
+                  right = omega (arith, x .first, x .ordered, x .last);
+                  bottom = omega (arith, y .first, y .ordered, y .last);
+                }),
+            rw window
+                (record { grid-long = rw (same-points x, same-points y) (fits .grid-long); support-long = rw (same-points x, same-points y) (fits .support-long) }),
+          )
+
+      pub cut-answers : wholeAt (requestIn t' part kept times) w' ≡ wholeAt whole w
+      cut-answers = ap₂ wholeAt is-cut (window ∙ ap (λ (v : Window). movedOn v w) e) ∙ cut-whole whole w sound on

@@ -1,99 +1,113 @@
 // The window query over lent slices (document 01, "Reach of a window"): the analysis of the cut alone, and of it the window's points.
 ghost use mathlib.Core.Path.{_≡_};
+ghost use Prim.Native.Nat.{_≤_};
 ghost use lib.ListN.{length};
-ghost use Rattle.scheme.specs.Units.{asked, asking};
+ghost use Rattle.scheme.specs.Units.{asking};
+ghost use Rattle.scheme.specs.Refusals.{inOrder};
 ghost use Rattle.scheme.specs.Reach.{wholeAt};
-ghost use Rattle.scheme.specs.Promises.{sixColumns, windowAt, tile, Queries};
-ghost use Rattle.scheme.specs.Accepted.{QueryAccepted};
+ghost use Rattle.scheme.specs.Promises.{sixColumns, windowAt, tile, Settles, Queries};
+ghost use Rattle.scheme.specs.Accepted.{Sound, fromSix, Formed, FitsWindow, OnGrid};
+ghost use Rattle.request.specs.Tables.{requestIn, windowIn};
+ghost use Rattle.window.specs.Cut.{cutTerms, movedOn};
 
-// The work on an accepted query: the cut as a request of its own, on which the window stands as it stands on the grid.
+// ---- the work on an accepted query
+
+// The terms of the cut, as a request of its own: its sides and its number of stations, and else those of the whole.
+fn cut_terms(t: request::Terms, wide: usize, high: usize, stations: usize) -> request::Terms
+    ensures { λ r. ⌜ r ≡ cutTerms t wide high stations ⌝ }
+{
+    let radius = t.radius;
+    let limit = t.limit;
+    request::Terms {
+        nx: wide,
+        ny: high,
+        stations,
+        scans: t.scans,
+        radius,
+        limit,
+        smooth: t.smooth,
+        time: t.time,
+        age: t.age,
+    }
+}
+
+// The window on the cut, where it stands as it stands on the grid.
+fn moved(w: request::Window, c: request::Window) -> request::Window
+    requires { ⌜ (c .left ≤ w .left) × (w .left ≤ w .right) × (c .top ≤ w .top) × (w .top ≤ w .bottom) ⌝ }
+    ensures { λ r. ⌜ windowIn r ≡ movedOn (windowIn c) (windowIn w) ⌝ }
+{
+    request::Window {
+        left: w.left - c.left,
+        right: w.right - c.left,
+        top: w.top - c.top,
+        bottom: w.bottom - c.top,
+    }
+}
+
+// The whole grid's numbers at the window's points, from the analysis of the cut.
 fn work(
-    nx: usize,
-    ny: usize,
+    t: request::Terms,
+    w: request::Window,
     guess: &[i32],
-    left: usize,
-    right: usize,
-    top: usize,
-    bottom: usize,
-    x: &[i32],
-    y: &[i32],
-    value: &[i32],
-    observed: &[u32],
-    from: &[u32],
-    until: &[u32],
-    count: usize,
-    radius: &[i32],
-    limit: &[i32],
-    smooth: bool,
-    time: u32,
-    age: u32,
+    numbers: &[[i32; 3]; 512],
+    minutes: &[[u32; 3]; 512],
     grid: &mut [i32],
     support: &mut [u8],
 )
-    requires { ⌜ QueryAccepted (asking nx ny (now guess) (sixColumns (now x) (now y) (now value) (now observed) (now from) (now until)) count (now radius) (now limit) smooth time age) (windowAt left right top bottom) (length (now grid)) (length (now support)) ⌝ }
-    ensures { λ u. ⌜ tile (now (grid .exit)) (now (support .exit)) ≡ wholeAt (asked (asking nx ny (now (guess .entry)) (sixColumns (now (x .entry)) (now (y .entry)) (now (value .entry)) (now (observed .entry)) (now (from .entry)) (now (until .entry))) count (now (radius .entry)) (now (limit .entry)) smooth time age)) (windowAt left right top bottom) ⌝ }
+    requires { ⌜ Sound (requestIn t (now guess) (now numbers) (now minutes)) × OnGrid (t .nx) (t .ny) (windowIn w) × FitsWindow (windowIn w) (length (now grid)) (length (now support)) ⌝ }
+    ensures { λ u. ⌜ tile (now (grid .exit)) (now (support .exit)) ≡ wholeAt (requestIn t (now (guess .entry)) (now (numbers .entry)) (now (minutes .entry))) (windowIn w) ⌝ }
 {
-    let reach = window_spans::reach(radius, count, smooth);
-    let columns = window_spans::widened(reach, nx, left, right);
-    let rows = window_spans::widened(reach, ny, top, bottom);
-    let wide = columns.last - columns.first + 1;
-    let high = rows.last - rows.first + 1;
+    let reach = window_spans::reach(t);
+    let c = window_spans::widened(reach, t.nx, t.ny, w);
+    let wide = c.right - c.left + 1;
+    let high = c.bottom - c.top + 1;
     let points = wide * high;
     let mut part = [0i32; 4096];
-    window_cut::part_of_values(
-        &mut part[..points],
-        guess,
-        nx,
-        columns.first,
-        rows.first,
-        wide,
-        high,
-    );
-    let mut kx = [0i32; 512];
-    let mut ky = [0i32; 512];
-    let mut kvalue = [0i32; 512];
-    let mut kobserved = [0u32; 512];
-    let mut kfrom = [0u32; 512];
-    let mut kuntil = [0u32; 512];
-    let kept = window_cut::keep_stations(
-        &mut kx,
-        &mut ky,
-        &mut kvalue,
-        &mut kobserved,
-        &mut kfrom,
-        &mut kuntil,
-        columns,
-        rows,
-        x,
-        y,
-        value,
-        observed,
-        from,
-        until,
+    window_cut::part_of_values(&mut part[..points], guess, t.nx, c.left, c.top, wide, high);
+    let mut kept = [[0i32; 3]; 512];
+    let mut times = [[0u32; 3]; 512];
+    let stations = window_cut::keep_stations(
+        &mut kept,
+        &mut times,
+        c,
+        numbers,
+        minutes,
+        t.stations,
     );
     window_tile::whole_at(
-        wide,
-        high,
+        cut_terms(t, wide, high, stations),
+        moved(w, c),
         &part[..points],
-        left - columns.first,
-        right - columns.first,
-        top - rows.first,
-        bottom - rows.first,
-        &kx[..kept],
-        &ky[..kept],
-        &kvalue[..kept],
-        &kobserved[..kept],
-        &kfrom[..kept],
-        &kuntil[..kept],
-        count,
-        radius,
-        limit,
-        smooth,
-        time,
-        age,
+        &kept,
+        &times,
         grid,
         support,
     );
+}
+
+// ---- the call
+
+// A query that was loaded: rows 6 to 8 of the refusal table, or the work.
+pub fn settled(
+    t: request::Terms,
+    w: request::Window,
+    guess: &[i32],
+    numbers: &[[i32; 3]; 512],
+    minutes: &[[u32; 3]; 512],
+    grid: &mut [i32],
+    support: &mut [u8],
+) -> u32
+    requires { ⌜ Formed (requestIn t (now guess) (now numbers) (now minutes)) × OnGrid (t .nx) (t .ny) (windowIn w) × FitsWindow (windowIn w) (length (now grid)) (length (now support)) ⌝ }
+    ensures { λ r. ⌜ Settles (inOrder (fromSix (requestIn t (now (guess .entry)) (now (numbers .entry)) (now (minutes .entry)))))
+        (wholeAt (requestIn t (now (guess .entry)) (now (numbers .entry)) (now (minutes .entry))) (windowIn w))
+        (tile (now (grid .entry)) (now (support .entry))) r (tile (now (grid .exit)) (now (support .exit))) ⌝ }
+{
+    let found = refusal::of_request(t, guess, numbers, minutes);
+    if found != 0 {
+        return found;
+    }
+    work(t, w, guess, numbers, minutes, grid, support);
+    0
 }
 
 // The call: a refusal before anything is written, or the work. It answers refusal·65,536 + place.
@@ -122,51 +136,42 @@ pub fn query(
 ) -> u32
     ensures { λ r. ⌜ Queries (asking nx ny (now (guess .entry)) (sixColumns (now (x .entry)) (now (y .entry)) (now (value .entry)) (now (observed .entry)) (now (from .entry)) (now (until .entry))) count (now (radius .entry)) (now (limit .entry)) smooth time age) (windowAt left right top bottom) (tile (now (grid .entry)) (now (support .entry))) r (tile (now (grid .exit)) (now (support .exit))) ⌝ }
 {
-    let refused = refusal::of_window(
-        nx as usize,
-        ny as usize,
-        guess,
-        left as usize,
-        right as usize,
-        top as usize,
-        bottom as usize,
-        x,
-        y,
-        value,
-        observed,
-        from,
-        until,
-        count as usize,
-        radius,
-        limit,
-        grid.len(),
-        support.len(),
-    );
+    let lengths = refusal_shapes::Lengths {
+        nx: nx as usize,
+        ny: ny as usize,
+        guess: guess.len(),
+        x: x.len(),
+        y: y.len(),
+        value: value.len(),
+        observed: observed.len(),
+        from: from.len(),
+        until: until.len(),
+        scans: count as usize,
+        radius: radius.len(),
+        limit: limit.len(),
+    };
+    let w = request::Window {
+        left: left as usize,
+        right: right as usize,
+        top: top as usize,
+        bottom: bottom as usize,
+    };
+    let refused = refusal::of_window_lengths(lengths, w, grid.len(), support.len());
     if refused != 0 {
         return refused;
     }
-    work(
-        nx as usize,
-        ny as usize,
-        guess,
-        left as usize,
-        right as usize,
-        top as usize,
-        bottom as usize,
+    let mut numbers = [[0i32; 3]; 512];
+    let mut minutes = [[0u32; 3]; 512];
+    request::load(
+        &mut numbers,
+        &mut minutes,
         x,
         y,
         value,
         observed,
         from,
         until,
-        count as usize,
-        radius,
-        limit,
-        smooth,
-        time,
-        age,
-        grid,
-        support,
     );
-    0
+    let t = request::terms_of(nx, ny, x.len(), count, radius, limit, smooth, time, age);
+    settled(t, w, guess, &numbers, &minutes, grid, support)
 }

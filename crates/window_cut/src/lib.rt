@@ -1,86 +1,38 @@
 // What the cut holds: its stations, and its part of a field (document 01, "Reach of a window").
 ghost use mathlib.Core.Path.{_≡_};
-ghost use Prim.Native.Nat.{_+_, _<_};
+ghost use Prim.Native.Nat.{_+_};
 ghost use lib.ListN.{length};
 ghost use lib.IntN.{pos};
 ghost use Rattle.lists.specs.Filled.{Filled};
 ghost use Rattle.scheme.specs.Units.{stored, mostStations};
-ghost use Rattle.scheme.specs.Promises.{sixColumns, windowAt};
-ghost use Rattle.window_cut.specs.Kept.{putAt, Long, KeepReady, Kept};
+ghost use Rattle.request.specs.Tables.{windowIn};
+ghost use Rattle.window_cut.specs.Kept.{KeepReady, Kept};
 ghost use Rattle.window_cut.specs.Part.{copied, CopyReady, partOf, PartReady};
 
 // ---- the stations of the cut
 
-// One row of the kept columns.
-fn put_station(
-    kx: &mut [i32; 512],
-    ky: &mut [i32; 512],
-    kvalue: &mut [i32; 512],
-    kobserved: &mut [u32; 512],
-    kfrom: &mut [u32; 512],
-    kuntil: &mut [u32; 512],
-    m: usize,
-    x: i32,
-    y: i32,
-    value: i32,
-    observed: u32,
-    from: u32,
-    until: u32,
-)
-    requires { ⌜ m < mostStations ⌝ }
-    ensures { λ u. ⌜ sixColumns (now (kx .exit)) (now (ky .exit)) (now (kvalue .exit)) (now (kobserved .exit)) (now (kfrom .exit)) (now (kuntil .exit))
-        ≡ putAt (sixColumns (now (kx .entry)) (now (ky .entry)) (now (kvalue .entry)) (now (kobserved .entry)) (now (kfrom .entry)) (now (kuntil .entry))) m (record { x = x; y = y; value = value; observed = observed; from = from; until = until }) ⌝ }
-{
-    kx[m] = x;
-    ky[m] = y;
-    kvalue[m] = value;
-    kobserved[m] = observed;
-    kfrom[m] = from;
-    kuntil[m] = until;
-}
-
 // The stations of the cut, in order, with positions counted from its lower corner; and their number. Each station is put after those
 // kept, and the next takes its row if it is not on the cut.
 pub fn keep_stations(
-    kx: &mut [i32; 512],
-    ky: &mut [i32; 512],
-    kvalue: &mut [i32; 512],
-    kobserved: &mut [u32; 512],
-    kfrom: &mut [u32; 512],
-    kuntil: &mut [u32; 512],
-    columns: window_spans::Span,
-    rows: window_spans::Span,
-    x: &[i32],
-    y: &[i32],
-    value: &[i32],
-    observed: &[u32],
-    from: &[u32],
-    until: &[u32],
+    kept: &mut [[i32; 3]; 512],
+    times: &mut [[u32; 3]; 512],
+    c: request::Window,
+    numbers: &[[i32; 3]; 512],
+    minutes: &[[u32; 3]; 512],
+    n: usize,
 ) -> usize
-    requires { ⌜ KeepReady (windowAt (columns .first) (columns .last) (rows .first) (rows .last)) (sixColumns (now x) (now y) (now value) (now observed) (now from) (now until))
-        × Long (sixColumns (now kx) (now ky) (now kvalue) (now kobserved) (now kfrom) (now kuntil)) ⌝ }
-    ensures { λ m. ⌜ Long (sixColumns (now (kx .exit)) (now (ky .exit)) (now (kvalue .exit)) (now (kobserved .exit)) (now (kfrom .exit)) (now (kuntil .exit)))
-        × Kept (windowAt (columns .first) (columns .last) (rows .first) (rows .last)) (sixColumns (now (x .entry)) (now (y .entry)) (now (value .entry)) (now (observed .entry)) (now (from .entry)) (now (until .entry))) (sixColumns (now (kx .exit)) (now (ky .exit)) (now (kvalue .exit)) (now (kobserved .exit)) (now (kfrom .exit)) (now (kuntil .exit))) (length (now (x .entry))) m ⌝ }
+    requires { ⌜ KeepReady (windowIn c) (now numbers) n × (length (now kept) ≡ mostStations) × (length (now times) ≡ mostStations) ⌝ }
+    ensures { λ m. ⌜ Kept (windowIn c) (now (numbers .entry)) (now (minutes .entry)) (now (kept .exit)) (now (times .exit)) n m ⌝ }
 {
     let mut m: usize = 0;
     let mut k: usize = 0;
-    while k < x.len() {
-        put_station(
-            kx,
-            ky,
-            kvalue,
-            kobserved,
-            kfrom,
-            kuntil,
-            m,
-            window_spans::counted(x[k], columns.first),
-            window_spans::counted(y[k], rows.first),
-            value[k],
-            observed[k],
-            from[k],
-            until[k],
-        );
-        m += window_spans::one_if_on_cut(columns, rows, x[k], y[k]);
+    while k < n {
+        let row = numbers[k];
+        let moved = window_spans::counted(row, c);
+        kept[m] = moved;
+        let stamps = minutes[k];
+        times[m] = stamps;
+        m += window_spans::one_if_on_cut(c, row);
         k += 1;
     }
     m

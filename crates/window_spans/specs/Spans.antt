@@ -1,35 +1,23 @@
--- The reach, as a loop over the plan adds it up, and the spans of the cut.
+-- The reach, as a loop over the plan adds it up, and a station's row on the cut.
 use Prim.Native.Nat.{ℕ, _+_, _-_, _*_, _/_, _≤_, _<_}
 use native.Mathlib.Omega.{arith}
 use mathlib.Core.Path.{_≡_, refl, sym, ap, _∙_}
-use mathlib.Core.Bool.{Bool, true, false, cond}
-use mathlib.Core.List.{List}
+use mathlib.Core.Bool.{Bool, true, false, cond, _&&_}
+use mathlib.Core.List.{List, [], _∷_}
 use lib.Dec.{T}
-use lib.ListN.{length, getD}
-use lib.IntN.{ℤ, pos, negsuc, natAbs}
+use lib.ListN.{getD}
+use lib.IntN.{ℤ, pos, negsuc, natAbs, _-ℤ_}
 use lib.Signed.{ltZ, nonNeg}
 use Rattle.integers.specs.Order.{less-parts, not-less-parts}
 use Rattle.lists.specs.Sums.{upTo, upTo-next}
-use Rattle.scheme.specs.Units.{among, step, mostScans, mostRadius, Plan, R}
-use Rattle.scheme.specs.Refusals.{Span}
+use Rattle.scheme.specs.Units.{among, step, mostPosition, Plan, R}
+use Rattle.scheme.specs.Refusals.{Span, Window}
 use Rattle.scheme.specs.Reach.{steps, reach, onSpan}
-use Rattle.scheme.specs.Accepted.{Planned}
 
 abbrev pub fromTo : ℕ → ℕ → Span
 fromTo first last = record { first = first; last = last }
 
 -- ---- the reach
-
--- the radii of a plan without faults
-pub record Radii (radius : List ℤ) (count : ℕ) : Type 0 where
-  pub few : count ≤ mostScans
-  pub all : count ≤ length radius
-  pub natural : (m : ℕ) → m < count → getD radius m (pos 0) ≡ pos (natAbs (getD radius m (pos 0)))
-  pub close : (m : ℕ) → m < count → natAbs (getD radius m (pos 0)) ≤ mostRadius
-
-pub radii : (p : Plan) → Planned p → Radii (p .radius) (p .scans)
-unfolding R
-radii p h = record { few = h .scans-few; all = h .radii; natural = λ m l. h .scan m l .radius-is; close = λ m l. h .scan m l .radius-most }
 
 module _ (p : Plan) where
   -- before the first scan
@@ -38,9 +26,9 @@ module _ (p : Plan) where
   reach-none = refl
 
   -- one scan more
-  pub reach-next : (m t s : ℕ) → t ≡ upTo 0 _+_ m (steps p) → s ≡ (natAbs (getD (p .radius) m (pos 0)) + (step - 1)) / step + cond (p .smooth) 1 0
+  pub reach-next : (m t s : ℕ) → t ≡ upTo 0 _+_ m (steps p) → s ≡ (R p m + (step - 1)) / step + cond (p .smooth) 1 0
       → t + s ≡ upTo 0 _+_ (m + 1) (steps p)
-  unfolding steps R
+  unfolding steps
   reach-next m t s et es = rw (et, es) (sym (upTo-next 0 _+_ m _))
 
   -- all scans
@@ -64,3 +52,20 @@ pub along-span : (c : Span) (x : ℤ) → ltZ x (pos 0) ≡ false → (T (nonNeg
 unfolding onSpan
 along-span c (pos x) e = (tt, refl)
 along-span c (negsuc x) e = absurd (omega (arith, not-less-parts (negsuc x) (pos 0) e))
+
+-- ---- the numbers of a station's row: whether it is on the cut, and where it is there
+
+abbrev pub rowOn : Window → List ℤ → Bool
+rowOn w numbers = onSpan (w .columns) (getD numbers 0 (pos 0)) && onSpan (w .rows) (getD numbers 1 (pos 0))
+
+abbrev pub countedRow : Window → List ℤ → List ℤ
+countedRow w numbers =
+    (getD numbers 0 (pos 0) -ℤ pos (step * w .columns .first))
+    ∷ (getD numbers 1 (pos 0) -ℤ pos (step * w .rows .first))
+    ∷ getD numbers 2 (pos 0)
+    ∷ []
+
+-- positions as a station's may be
+pub record Placed (numbers : List ℤ) : Type 0 where
+  pub x : natAbs (getD numbers 0 (pos 0)) ≤ mostPosition
+  pub y : natAbs (getD numbers 1 (pos 0)) ≤ mostPosition

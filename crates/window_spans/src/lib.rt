@@ -1,16 +1,16 @@
-// The reach of a window and the spans of the cut (document 01, "Reach of a window"), along one axis at a time.
+// The reach of a window, the cut, and a station's row on it (document 01, "Reach of a window").
 ghost use mathlib.Core.Path.{_≡_};
 ghost use mathlib.Core.Bool.{cond};
-ghost use mathlib.Core.List.{List};
-ghost use Prim.Native.Nat.{_+_, _-_, _*_, _/_, _≤_, _<_, min};
-ghost use lib.IntN.{ℤ, pos, natAbs, _-ℤ_};
-ghost use Rattle.scheme.specs.Units.{mostSide, step, Station, mostPosition, mostRadius};
-ghost use Rattle.scheme.specs.Reach.{reach, widened, onSpan, onWindow};
-ghost use Rattle.scheme.specs.Promises.{windowAt};
+ghost use Prim.Native.Nat.{_+_, _-_, _*_, _/_, _≤_, min};
+ghost use lib.IntN.{pos, natAbs, _-ℤ_};
+ghost use Rattle.scheme.specs.Units.{mostSide, step, mostPosition, mostRadius};
+ghost use Rattle.scheme.specs.Reach.{reach, widened, onSpan};
 ghost use Rattle.scheme.specs.Most.{mostReach};
-ghost use Rattle.window_spans.specs.Spans.{fromTo, Radii};
+ghost use Rattle.scheme.specs.Accepted.{Planned, OnGrid};
+ghost use Rattle.request.specs.Tables.{planIn, windowIn};
+ghost use Rattle.window_spans.specs.Spans.{fromTo, rowOn, Placed, countedRow};
 
-// ---- the reach, and the spans of the cut
+// ---- the reach, and the cut
 
 // What one scan adds to the reach: R/64 rounded up, plus 1 if smoothing is on.
 fn steps(radius: u32, smooth: bool) -> usize
@@ -22,23 +22,17 @@ fn steps(radius: u32, smooth: bool) -> usize
 }
 
 // The total over the scans of the plan.
-pub fn reach(radius: &[i32], count: usize, smooth: bool) -> usize
-    requires { ⌜ Radii (now radius) count ⌝ }
-    ensures { λ r. ⌜ (r ≤ mostReach) × ((limit : List ℤ) → r ≡ reach (record { scans = count; radius = now (radius .entry); limit = limit; smooth = smooth })) ⌝ }
+pub fn reach(t: request::Terms) -> usize
+    requires { ⌜ Planned (planIn t) ⌝ }
+    ensures { λ r. ⌜ (r ≤ mostReach) × (r ≡ reach (planIn t)) ⌝ }
 {
     let mut total: usize = 0;
     let mut m: usize = 0;
-    while m < count {
-        total += steps(radius[m] as u32, smooth);
+    while m < t.scans {
+        total += steps(t.radius[m] as u32, t.smooth);
         m += 1;
     }
     total
-}
-
-// From first to last, along one axis.
-pub struct Span {
-    pub first: usize,
-    pub last: usize,
 }
 
 // a less b, and no less than 0.
@@ -54,50 +48,59 @@ fn lower(a: usize, b: usize) -> usize
     if a < b { a } else { b }
 }
 
-// The window widened by the reach, cut at the edge of a grid of n points along this axis.
-pub fn widened(reach: usize, n: usize, first: usize, last: usize) -> Span
-    requires { ⌜ (reach ≤ mostReach) × (last < n) × (n ≤ mostSide) ⌝ }
-    ensures { λ r. ⌜ fromTo (r .first) (r .last) ≡ widened reach n (fromTo first last) ⌝ }
+// The window widened by the reach, cut at the edges of the grid.
+pub fn widened(reach: usize, nx: usize, ny: usize, w: request::Window) -> request::Window
+    requires { ⌜ (reach ≤ mostReach) × OnGrid nx ny (windowIn w) × (nx ≤ mostSide) × (ny ≤ mostSide) ⌝ }
+    ensures { λ r. ⌜ windowIn r ≡ record { columns = widened reach nx (windowIn w .columns); rows = widened reach ny (windowIn w .rows) } ⌝ }
 {
-    Span {
-        first: less(first, reach),
-        last: lower(last + reach, n - 1),
+    request::Window {
+        left: less(w.left, reach),
+        right: lower(w.right + reach, nx - 1),
+        top: less(w.top, reach),
+        bottom: lower(w.bottom + reach, ny - 1),
     }
 }
 
-// ---- stations on the cut
+// ---- a station's row on the cut
 
-// On a span, its ends included.
-fn on_span(span: Span, x: i32) -> bool
-    requires { ⌜ (span .first ≤ mostSide - 1) × (span .last ≤ mostSide - 1) ⌝ }
-    ensures { λ r. ⌜ r ≡ onSpan (fromTo (span .first) (span .last)) x ⌝ }
+// On a span of the cut, its ends included.
+fn on_span(first: usize, last: usize, x: i32) -> bool
+    requires { ⌜ (first ≤ mostSide - 1) × (last ≤ mostSide - 1) ⌝ }
+    ensures { λ r. ⌜ r ≡ onSpan (fromTo first last) x ⌝ }
 {
     if x < 0 {
         return false;
     }
     let place = x as usize;
-    if place < 64 * span.first {
-        return false;
-    }
-    place <= 64 * span.last
+    (64 * first <= place) & (place <= 64 * last)
 }
 
 // 1 for a station on the cut, and else 0: what it adds to the number of those kept.
-pub fn one_if_on_cut(columns: Span, rows: Span, x: i32, y: i32) -> usize
-    requires { ⌜ (columns .first ≤ mostSide - 1) × (columns .last ≤ mostSide - 1) × (rows .first ≤ mostSide - 1) × (rows .last ≤ mostSide - 1) ⌝ }
-    ensures { λ r. ⌜ ((s : Station) → s .x ≡ x → s .y ≡ y → r ≡ cond (onWindow (windowAt (columns .first) (columns .last) (rows .first) (rows .last)) s) 1 0) ⌝ }
+pub fn one_if_on_cut(c: request::Window, numbers: [i32; 3]) -> usize
+    requires { ⌜ OnGrid mostSide mostSide (windowIn c) ⌝ }
+    ensures { λ r. ⌜ r ≡ cond (rowOn (windowIn c) numbers) 1 0 ⌝ }
 {
-    if on_span(columns, x) {
-        if on_span(rows, y) { 1 } else { 0 }
-    } else {
-        0
-    }
+    let on = on_span(c.left, c.right, numbers[request::X])
+        & on_span(c.top, c.bottom, numbers[request::Y]);
+    on as usize
 }
 
 // A position counted from the cut's lower corner, which is at `first` along this axis.
-pub fn counted(x: i32, first: usize) -> i32
+fn from_corner(x: i32, first: usize) -> i32
     requires { ⌜ (natAbs x ≤ mostPosition) × (first ≤ mostSide - 1) ⌝ }
     ensures { λ r. ⌜ r ≡ x -ℤ pos (step * first) ⌝ }
 {
     x - ((64 * first) as i32)
+}
+
+// A station's row, with both positions counted from there.
+pub fn counted(numbers: [i32; 3], c: request::Window) -> [i32; 3]
+    requires { ⌜ Placed numbers × OnGrid mostSide mostSide (windowIn c) ⌝ }
+    ensures { λ r. ⌜ r ≡ countedRow (windowIn c) numbers ⌝ }
+{
+    [
+        from_corner(numbers[request::X], c.left),
+        from_corner(numbers[request::Y], c.top),
+        numbers[request::VALUE],
+    ]
 }

@@ -1,43 +1,41 @@
--- `window_spans::counted` meets its contract: a position less at most a grid's length is small. Assumes nothing.
-use Prim.Native.Nat.{ℕ, _+_, _-_, _*_, _≤_}
-use native.Mathlib.Omega.{arith}
-use borrow.Author.Needs.{needs}
-use mathlib.Core.Path.{_≡_}
-use lib.IntN.{ℤ, pos, natAbs, _-ℤ_}
+-- `window_spans::counted` meets its contract. Assumes nothing.
+use borrow.Author.Needs.{needs, sfits-of}
+use mathlib.Core.Path.{_∙_}
 use mir.Syntax.{w32}
-use mir.Val.{toZ, ofZ}
-use mir.Facts.{toZ-pos}
-use Rattle.integers.specs.Sizes.{size-minus}
-use Rattle.integers.specs.Words.{fits-size, bits-back}
-use Rattle.scheme.specs.Units.{mostSide, step, mostPosition}
-use Rattle.scheme.specs.Most.{mostAlong}
+use mir.Facts.{toZ-ofZ}
 use Rattle.window_spans.proofs.counted.Statement.{statement}
 use Rattle.window_spans.proofs.counted.Tie as tie
 
-module _ (x : ℤ) (first : ℕ) (hx : natAbs x ≤ mostPosition) (hf : first ≤ mostSide - 1) where
-  bits : toZ w32 (ofZ w32 x) -ℤ toZ w32 (step * first) ≡ x -ℤ pos (step * first)
-  bits = rw (bits-back w32 x (omega arith), toZ-pos w32 {n = step * first} (omega arith))
+array-copy-out-from-corner : tie.Need-array-copy-out-from-corner
+array-copy-out-from-corner c = search needs
 
-  small : natAbs (x -ℤ pos (step * first)) ≤ mostPosition + mostAlong
-  small = omega (arith, size-minus x (pos (step * first)))
+from-corner-requires : tie.Need-from-corner-requires
+from-corner-requires c κs = search needs
 
-mul-result : tie.Need-mul-result
-mul-result c = search needs
+array-copy-out-from-corner-2 : tie.Need-array-copy-out-from-corner-2
+array-copy-out-from-corner-2 c = search needs
 
-cast-result : tie.Need-cast-result
-cast-result c = search needs
+from-corner-requires-2 : tie.Need-from-corner-requires-2
+from-corner-requires-2 c κs = search needs
 
-sub-result : tie.Need-sub-result
-sub-result c =
-    let a = c .args in
-    let h = small (a .x) (a .first) (c .pre .0) (c .pre .1) in
-    rw (bits (a .x) (a .first) (c .pre .0) (c .pre .1)) (fits-size w32 (a .x -ℤ pos (step * a .first)) (omega arith))
+array-copy-out-t14 : tie.Need-array-copy-out-t14
+array-copy-out-t14 c = search needs
 
 returns : tie.Need-returns
 returns c =
-    let a = c .args in
-    let h = small (a .x) (a .first) (c .pre .0) (c .pre .1) in
-    rw (bits (a .x) (a .first) (c .pre .0) (c .pre .1)) (bits-back w32 (a .x -ℤ pos (step * a .first)) (omega arith))
+    let b = c .before in
+    let a = b .before .before in
+    let x = toZ-ofZ {w = w32} (record { sfits = a .from-corner .ok }) ∙ rw (toZ-ofZ {w = w32} (sfits-of (a .before .from-corner-arg .given))) at (a .from-corner .ensures) in
+    let y = toZ-ofZ {w = w32} (record { sfits = b .from-corner2 .ok }) ∙ rw (toZ-ofZ {w = w32} (sfits-of (b .before .from-corner-arg2 .given))) at (b .from-corner2 .ensures) in
+    rw (x, y, toZ-ofZ {w = w32} (sfits-of (c .t14 .given)))
 
 pub counted-spec : {M : Type 1} → statement M
-counted-spec = tie.close (tie.spec mul-result cast-result sub-result returns)
+counted-spec =
+    tie.close
+    (tie.spec
+    array-copy-out-from-corner
+    from-corner-requires
+    array-copy-out-from-corner-2
+    from-corner-requires-2
+    array-copy-out-t14
+    returns)

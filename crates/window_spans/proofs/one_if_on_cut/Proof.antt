@@ -1,38 +1,47 @@
--- `window_spans::one_if_on_cut` meets its contract: each return knows what the tests found. Assumes nothing.
-use borrow.Author.Needs.{needs}
-use mathlib.Core.Path.{sym, _∙_}
+-- `window_spans::one_if_on_cut` meets its contract. Assumes nothing.
+use borrow.Author.Needs.{needs, sfits-of}
+use mathlib.Core.Path.{_≡_, refl, sym}
+use mathlib.Core.Bool.{Bool, true, false, cond, _&&_}
+use mir.Syntax.{w32}
+use mir.Val.{boolByte}
 use mir.Facts.{toZ-ofZ}
 use Rattle.window_spans.proofs.one_if_on_cut.Statement.{statement}
 use Rattle.window_spans.proofs.one_if_on_cut.Tie as tie
 
+as-number : (b : Bool) → boolByte b ≡ cond b 1 0
+as-number true = refl
+as-number false = refl
+
+array-copy-out-on-span : tie.Need-array-copy-out-on-span
+array-copy-out-on-span c = search needs
+
 on-span-requires : tie.Need-on-span-requires
 on-span-requires c κs = search needs
+
+array-copy-out-on-span-2 : tie.Need-array-copy-out-on-span-2
+array-copy-out-on-span-2 c = search needs
 
 on-span-requires-2 : tie.Need-on-span-requires-2
 on-span-requires-2 c κs = search needs
 
+cast-result : tie.Need-cast-result
+cast-result c = search needs
+
 returns : tie.Need-returns
 returns c =
-    let o = c .before .before .before in
-    let s = o .before in
-    let x = sym (rw (toZ-ofZ (s .fits .x)) at (o .on-span .ensures)) ∙ c .before .before .if1 .taken in
-    let y = sym (rw (toZ-ofZ (s .fits .y)) at (c .before .on-span2 .ensures)) ∙ c .if2 .taken in
-    λ here ex ey. rw (ex, ey, x, y)
-
-returns-2 : tie.Need-returns-2
-returns-2 c =
-    let o = c .before .before .before in
-    let s = o .before in
-    let x = sym (rw (toZ-ofZ (s .fits .x)) at (o .on-span .ensures)) ∙ c .before .before .if1 .taken in
-    let y = sym (rw (toZ-ofZ (s .fits .y)) at (c .before .on-span2 .ensures)) ∙ c .if2 .left in
-    λ here ex ey. rw (ex, ey, x, y)
-
-returns-3 : tie.Need-returns-3
-returns-3 c =
-    let s = c .before .before in
-    let x = sym (rw (toZ-ofZ (s .fits .x)) at (c .before .on-span .ensures)) ∙ c .if1 .left in
-    λ here ex ey. rw (ex, x)
+    let x = c .before .before in
+    rw (
+      sym (rw (toZ-ofZ {w = w32} (sfits-of (x .before .on-span-arg .given))) at (x .on-span .ensures)),
+      sym (rw (toZ-ofZ {w = w32} (sfits-of (c .before .on-span-arg2 .given))) at (c .on-span2 .ensures)),
+    ) (as-number (x .on-span .result && c .on-span2 .result))
 
 pub one-if-on-cut-spec : {M : Type 1} → statement M
 one-if-on-cut-spec =
-    tie.close (tie.spec on-span-requires on-span-requires-2 returns returns-2 returns-3)
+    tie.close
+    (tie.spec
+    array-copy-out-on-span
+    on-span-requires
+    array-copy-out-on-span-2
+    on-span-requires-2
+    cast-result
+    returns)

@@ -1,75 +1,62 @@
 -- `window_spans::reach` meets its contract. The loop's invariant: the total is that of the scans passed. Assumes nothing.
-use Prim.Native.Nat.{ℕ, _+_, _-_, _*_, _/_, _≤_}
+use Prim.Native.Nat.{_+_, _-_, _*_, _/_, _≤_}
 use native.Mathlib.Omega.{arith}
 use mathlib.Core.Path.{_≡_, ap, _∙_}
-use mathlib.Core.Bool.{Bool}
-use mathlib.Core.List.{List}
 use lib.ListN.{getD}
-use lib.IntN.{ℤ, pos, natAbs}
+use lib.IntN.{ℤ, pos}
 use mir.Syntax.{w32}
 use mir.Val.{toZ, ofZ}
 use Rattle.integers.specs.Words.{bits-back}
 use Rattle.lists.specs.Sums.{upTo}
-use Rattle.scheme.specs.Units.{step, mostRadius, Plan}
+use Rattle.scheme.specs.Units.{step, mostRadius, Plan, R}
 use Rattle.scheme.specs.Reach.{steps}
+use Rattle.scheme.specs.Accepted.{Scanned}
+use Rattle.request.specs.Tables.{planIn}
 use Rattle.window_spans.specs.Spans.{reach-none, reach-next, reach-all, one-most}
 use Rattle.window_spans.proofs.reach.Statement.{statement}
 use Rattle.window_spans.proofs.reach.Tie as tie
 
-abbrev plan : ℕ → (radius limit : List ℤ) → Bool → Plan
-plan count radius limit smooth = record { scans = count; radius = radius; limit = limit; smooth = smooth }
-
 abbrev Inv-loop : tie.InvT-loop
-Inv-loop radius count smooth total₀ m₀ total m =
-    (m ≤ count) × (total ≤ (mostRadius / step + 1) * m) × ((limit : List ℤ) → total ≡ upTo 0 _+_ m (steps (plan count radius limit smooth)))
+Inv-loop t total₀ m₀ total m = (m ≤ t .scans) × (total ≤ (mostRadius / step + 1) * m) × (total ≡ upTo 0 _+_ m (steps (planIn t)))
 
 abbrev μ-loop : tie.MeasureT-loop
-μ-loop radius count smooth total₀ m₀ total m = count - m
+μ-loop t total₀ m₀ total m = t .scans - m
 
--- the plan of a call
-abbrev here : tie.Start Inv-loop μ-loop → List ℤ → Plan
-here b limit = plan (b .args .count) (b .args .radius .now) limit (b .args .smooth)
-
--- a turn of the loop
+-- a turn of the loop, at scan m
 module _ (c : tie.In-loop Inv-loop μ-loop) where
-  abbrev s : tie.Start Inv-loop μ-loop
-  s = c .before .before
+  abbrev p : Plan
+  p = planIn (c .before .before .args .t1)
 
-  abbrev R : ℤ
-  R = getD (s .args .radius .now) (c .before .loop .m) (pos 0)
+  scan : Scanned p (c .before .loop .m)
+  scan = c .before .before .pre .scan (c .before .loop .m) (c .loop-test .taken)
 
-  radius-back : toZ w32 (ofZ w32 R) ≡ pos (natAbs R)
-  radius-back =
-      ap (λ (v : ℤ). toZ w32 (ofZ w32 v)) (s .pre .natural (c .before .loop .m) (c .loop-test .taken))
-      ∙ bits-back w32 (pos (natAbs R)) (omega (arith, s .pre .close (c .before .loop .m) (c .loop-test .taken)))
-
-  close : natAbs R ≤ mostRadius
-  close = s .pre .close (c .before .loop .m) (c .loop-test .taken)
+  radius-back : toZ w32 (ofZ w32 (getD (p .radius) (c .before .loop .m) (pos 0))) ≡ pos (R p (c .before .loop .m))
+  radius-back = ap (λ (v : ℤ). toZ w32 (ofZ w32 v)) (scan .radius-is) ∙ bits-back w32 (pos (R p (c .before .loop .m))) (omega (arith, scan .radius-most))
 
 loop-holds : tie.Need-loop-holds Inv-loop μ-loop
-loop-holds c = (omega arith, omega arith, λ limit. reach-none (here c limit))
+loop-holds c = (omega arith, omega arith, reach-none (planIn (c .args .t1)))
 
 mul-steps : tie.Need-mul-steps Inv-loop μ-loop
-mul-steps c = let h = s c .pre .few in omega arith
+mul-steps c = let h = c .before .before .pre .scans-few in omega arith
 
-shared-slice-copy-out-steps : tie.Need-shared-slice-copy-out-steps Inv-loop μ-loop
-shared-slice-copy-out-steps c = let h = s c .pre .all in omega arith
+element-copy-out-steps : tie.Need-element-copy-out-steps Inv-loop μ-loop
+element-copy-out-steps c = let h = c .before .before .pre .scans-few in omega arith
 
 cast-steps : tie.Need-cast-steps Inv-loop μ-loop
-cast-steps c = rw (radius-back (c .before)) (tt, record { fits = omega (arith, close (c .before)) })
+cast-steps c = rw (radius-back (c .before)) (tt, record { fits = omega (arith, scan (c .before) .radius-most) })
 
 steps-requires : tie.Need-steps-requires Inv-loop μ-loop
-steps-requires c κs = rw (radius-back (c .before)) (close (c .before))
+steps-requires c κs = rw (radius-back (c .before)) (scan (c .before) .radius-most)
 
 add-total : tie.Need-add-total Inv-loop μ-loop
 add-total c =
     let k = c .before .before in
-    let h = s k .pre .few in
+    let h = k .before .before .pre .scans-few in
     let e = rw (radius-back k) at (c .steps .ensures) in
-    omega (arith, close k, one-most (s k .args .smooth), k .loop-test .taken, k .before .loop .inv .1)
+    omega (arith, scan k .radius-most, one-most (p k .smooth), k .loop-test .taken, k .before .loop .inv .1)
 
 add-m : tie.Need-add-m Inv-loop μ-loop
-add-m c = let h = s (c .before .before) .pre .few in omega arith
+add-m c = let h = c .before .before .before .before .pre .scans-few in omega arith
 
 loop-less : tie.Need-loop-less Inv-loop μ-loop
 loop-less c = let h = c .before .before .loop-test .taken in omega arith
@@ -80,16 +67,16 @@ loop-again c =
     let l = k .before .loop in
     let e = rw (radius-back k) at (c .steps .ensures) in (
       omega (arith, k .loop-test .taken),
-      omega (arith, close k, one-most (s k .args .smooth), l .inv .1),
-      λ limit. reach-next (here (s k) limit) (l .m) (l .total) (c .steps .result) (l .inv .2 limit) e,
+      omega (arith, scan k .radius-most, one-most (p k .smooth), l .inv .1),
+      reach-next (p k) (l .m) (l .total) (c .steps .result) (l .inv .2) e,
     )
 
 returns : tie.Need-returns Inv-loop μ-loop
 returns c =
     let l = c .before .loop in
     let b = c .before .before in
-    let e : l .m ≡ b .args .count = omega arith in
-    (omega (arith, l .inv .1, b .pre .few), λ limit. reach-all (here b limit) (l .m) (l .total) e (l .inv .2 limit))
+    let e : l .m ≡ b .args .t1 .scans = omega arith in
+    (omega (arith, l .inv .1, b .pre .scans-few), reach-all (planIn (b .args .t1)) (l .m) (l .total) e (l .inv .2))
 
 pub reach-spec : {M : Type 1} → statement M
 reach-spec =
@@ -99,7 +86,7 @@ reach-spec =
     μ-loop
     loop-holds
     mul-steps
-    shared-slice-copy-out-steps
+    element-copy-out-steps
     cast-steps
     steps-requires
     add-total
