@@ -1,39 +1,56 @@
--- A call that passed the rows of lengths, and is loaded: what is left of it, settled, settles the call.
+-- A call that passed the rows of lengths is loaded, and what is left of it, settled, settles the call.
 use Prim.Native.Nat.{ℕ}
-use mathlib.Core.Path.{_≡_, sym, ap, _∙_}
+use mathlib.Core.Path.{_≡_, sym, _∙_}
 use mathlib.Core.List.{List}
 use lib.ListN.{length}
 use lib.IntN.{ℤ}
 use Rattle.lists.specs.Tab.{tab, length-tab}
 use Rattle.scheme.specs.Units.{stationsOf, Call, asked, Request}
-use Rattle.scheme.specs.Refusals.{inOrder, analysisRefusal}
+use Rattle.scheme.specs.Refusals.{inOrder, analysisRefusal, Window, windowRefusal}
 use Rattle.scheme.specs.Scan.{Analysis, analysis}
+use Rattle.scheme.specs.Reach.{Tile, wholeAt}
 use Rattle.scheme.specs.Promises.{Settles}
-use Rattle.scheme.specs.Accepted.{fromSix, Formed, Fits}
-use Rattle.refusal.specs.Lengths.{Passed}
+use Rattle.scheme.specs.Accepted.{fromSix, Formed, Fits, FitsWindow, OnGrid}
 use Rattle.request.specs.declared.Terms.{Terms}
 use Rattle.request.specs.Tables.{stationIn, requestIn}
-use Rattle.request.specs.Loaded.{Termed, held, formed, same-refusal, same-analysis}
+use Rattle.request.specs.Loaded.{Termed, Held, held, formed, same-refusal, same-analysis, same-window}
+use Rattle.refusal.specs.Lengths.{Handed, Passed, WindowPassed}
 
-module _ (c : Call) {grid support verdict : ℕ} (p : Passed c grid support verdict) (t : Terms) (numbers : List (List ℤ)) (minutes : List (List ℕ))
+module _ (c : Call) (t : Terms) (numbers : List (List ℤ)) (minutes : List (List ℕ))
     (says : Termed t (c .nx) (c .ny) (length (c .stations .x)) (c .plan) (c .T) (c .A))
     (rows : tab (length (c .stations .x)) (stationIn numbers minutes) ≡ stationsOf (c .stations)) where
   abbrev q : Request
   q = requestIn t (c .firstGuess) numbers minutes
 
-  pub ready : Formed q × Fits q grid support verdict
-  ready =
-      let h = p .handed in (
-        formed t c numbers minutes says rows (h .shape) (h .equal) (h .scans-some) (h .scans-few),
-        record {
-          grid-long = rw (says .nx-is, says .ny-is) (p .grid-long);
-          support-long = rw (says .nx-is, says .ny-is) (p .support-long);
-          verdict-long = p .verdict-long ∙ sym (length-tab (t .stations) (stationIn numbers minutes) ∙ says .stations-is);
-        },
-      )
+  loaded : Held t (c .firstGuess) numbers minutes (asked c)
+  loaded = held t c numbers minutes says rows
 
-  pub settles : (found : Analysis) {left : Analysis} {r : ℕ} → Settles (inOrder (fromSix q)) (analysis q) found r left
-      → Settles (analysisRefusal c grid support verdict) (analysis (asked c)) found r left
-  settles found s =
-      let h = held t c numbers minutes says rows in
-      rw (p .rest, ← (same-refusal h), ← (same-analysis h)) s
+  past-five : Handed c → Formed q
+  past-five h = formed t c numbers minutes says rows (h .shape) (h .equal) (h .scans-some) (h .scans-few)
+
+  -- ---- the whole analysis
+
+  module _ {grid support verdict : ℕ} (p : Passed c grid support verdict) where
+    pub ready : Formed q × Fits q grid support verdict
+    ready = (
+      past-five (p .handed),
+      record {
+        grid-long = rw (says .nx-is, says .ny-is) (p .grid-long);
+        support-long = rw (says .nx-is, says .ny-is) (p .support-long);
+        verdict-long = p .verdict-long ∙ sym (length-tab (t .stations) (stationIn numbers minutes) ∙ says .stations-is);
+      },
+    )
+
+    pub settles : (found : Analysis) {left : Analysis} {r : ℕ} → Settles (inOrder (fromSix q)) (analysis q) found r left
+        → Settles (analysisRefusal c grid support verdict) (analysis (asked c)) found r left
+    settles found s = rw (p .rest, ← (same-refusal loaded), ← (same-analysis loaded)) s
+
+  -- ---- the window query
+
+  module _ (w : Window) {grid support : ℕ} (p : WindowPassed c w grid support) where
+    pub window-ready : Formed q × OnGrid (t .nx) (t .ny) w × FitsWindow w grid support
+    window-ready = (past-five (p .handed), rw (says .nx-is, says .ny-is) (p .on-grid), p .fits)
+
+    pub window-settles : (found : Tile) {left : Tile} {r : ℕ} → Settles (inOrder (fromSix q)) (wholeAt q w) found r left
+        → Settles (windowRefusal c w grid support) (wholeAt (asked c) w) found r left
+    window-settles found s = rw (p .rest, ← (same-refusal loaded), ← (same-window loaded w)) s

@@ -1,7 +1,9 @@
-// The exports of the archive: each hands its arguments on, and promises what the call behind it promises. See include/sosnyavik.h.
+// The exports of the archive (include/sosnyavik.h). The two calls on station columns test what goes by lengths and counts, load the
+// columns once, and hand the request on; nothing is written before it is accepted. They answer refusal·65,536 + place.
 ghost use Rattle.scheme.specs.Units.{asking};
 ghost use Rattle.scheme.specs.Promises.{sixColumns, slices, Analyses, windowAt, tile, Queries, ReadsKind, ReadsValue, Summarises};
 use refusal_shapes::Lengths;
+use request::Window;
 use scheme::Summary;
 
 #[no_mangle]
@@ -87,29 +89,44 @@ pub extern "C" fn sosnyavik_window(
 ) -> u32
     ensures { λ r. ⌜ Queries (asking nx ny (now (guess .entry)) (sixColumns (now (x .entry)) (now (y .entry)) (now (value .entry)) (now (observed .entry)) (now (from .entry)) (now (until .entry))) count (now (radius .entry)) (now (limit .entry)) smooth time age) (windowAt left right top bottom) (tile (now (grid .entry)) (now (support .entry))) r (tile (now (grid .exit)) (now (support .exit))) ⌝ }
 {
-    window::query(
-        nx,
-        ny,
-        guess,
-        left,
-        right,
-        top,
-        bottom,
+    let l = Lengths {
+        nx: nx as usize,
+        ny: ny as usize,
+        guess: guess.len(),
+        x: x.len(),
+        y: y.len(),
+        value: value.len(),
+        observed: observed.len(),
+        from: from.len(),
+        until: until.len(),
+        scans: count as usize,
+        radius: radius.len(),
+        limit: limit.len(),
+    };
+    let w = Window {
+        left: left as usize,
+        right: right as usize,
+        top: top as usize,
+        bottom: bottom as usize,
+    };
+    let refused = refusal::of_window_lengths(l, w, grid.len(), support.len());
+    if refused != 0 {
+        return refused;
+    }
+    let mut numbers = [[0i32; 3]; 512];
+    let mut minutes = [[0u32; 3]; 512];
+    request::load(
+        &mut numbers,
+        &mut minutes,
         x,
         y,
         value,
         observed,
         from,
         until,
-        count,
-        radius,
-        limit,
-        smooth,
-        time,
-        age,
-        grid,
-        support,
-    )
+    );
+    let t = request::terms_of(nx, ny, x.len(), count, radius, limit, smooth, time, age);
+    window::settled(t, w, guess, &numbers, &minutes, grid, support)
 }
 
 #[no_mangle]

@@ -1,3 +1,2 @@
--- What the code of the window query computes, tied to document 01's definitions. Proved.
+-- The cut as a request of its own, tied to document 01's definitions. Proved.
 pub mod Cut
-pub mod Settled

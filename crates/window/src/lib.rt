@@ -1,16 +1,13 @@
-// The window query over lent slices (document 01, "Reach of a window"): the analysis of the cut alone, and of it the window's points.
+// A window query that is loaded (document 01, "Reach of a window"): the analysis of the cut alone, and of it the window's points.
 ghost use mathlib.Core.Path.{_≡_};
 ghost use Prim.Native.Nat.{_≤_};
 ghost use lib.ListN.{length};
-ghost use Rattle.scheme.specs.Units.{asking};
 ghost use Rattle.scheme.specs.Refusals.{inOrder};
 ghost use Rattle.scheme.specs.Reach.{wholeAt};
-ghost use Rattle.scheme.specs.Promises.{sixColumns, windowAt, tile, Settles, Queries};
+ghost use Rattle.scheme.specs.Promises.{tile, Settles};
 ghost use Rattle.scheme.specs.Accepted.{Sound, fromSix, Formed, FitsWindow, OnGrid};
 ghost use Rattle.request.specs.Tables.{requestIn, windowIn};
 ghost use Rattle.window.specs.Cut.{cutTerms, movedOn};
-
-// ---- the work on an accepted query
 
 // The terms of the cut, as a request of its own: its sides and its number of stations, and else those of the whole.
 fn cut_terms(t: request::Terms, wide: usize, high: usize, stations: usize) -> request::Terms
@@ -85,9 +82,7 @@ fn work(
     );
 }
 
-// ---- the call
-
-// A query that was loaded: rows 6 to 8 of the refusal table, or the work.
+// Rows 6 to 8 of the refusal table, which are all that is left to test; then the work. It answers refusal·65,536 + place.
 pub fn settled(
     t: request::Terms,
     w: request::Window,
@@ -102,76 +97,10 @@ pub fn settled(
         (wholeAt (requestIn t (now (guess .entry)) (now (numbers .entry)) (now (minutes .entry))) (windowIn w))
         (tile (now (grid .entry)) (now (support .entry))) r (tile (now (grid .exit)) (now (support .exit))) ⌝ }
 {
-    let found = refusal::of_request(t, guess, numbers, minutes);
-    if found != 0 {
-        return found;
-    }
-    work(t, w, guess, numbers, minutes, grid, support);
-    0
-}
-
-// The call: a refusal before anything is written, or the work. It answers refusal·65,536 + place.
-pub fn query(
-    nx: u32,
-    ny: u32,
-    guess: &[i32],
-    left: u32,
-    right: u32,
-    top: u32,
-    bottom: u32,
-    x: &[i32],
-    y: &[i32],
-    value: &[i32],
-    observed: &[u32],
-    from: &[u32],
-    until: &[u32],
-    count: u32,
-    radius: &[i32],
-    limit: &[i32],
-    smooth: bool,
-    time: u32,
-    age: u32,
-    grid: &mut [i32],
-    support: &mut [u8],
-) -> u32
-    ensures { λ r. ⌜ Queries (asking nx ny (now (guess .entry)) (sixColumns (now (x .entry)) (now (y .entry)) (now (value .entry)) (now (observed .entry)) (now (from .entry)) (now (until .entry))) count (now (radius .entry)) (now (limit .entry)) smooth time age) (windowAt left right top bottom) (tile (now (grid .entry)) (now (support .entry))) r (tile (now (grid .exit)) (now (support .exit))) ⌝ }
-{
-    let lengths = refusal_shapes::Lengths {
-        nx: nx as usize,
-        ny: ny as usize,
-        guess: guess.len(),
-        x: x.len(),
-        y: y.len(),
-        value: value.len(),
-        observed: observed.len(),
-        from: from.len(),
-        until: until.len(),
-        scans: count as usize,
-        radius: radius.len(),
-        limit: limit.len(),
-    };
-    let w = request::Window {
-        left: left as usize,
-        right: right as usize,
-        top: top as usize,
-        bottom: bottom as usize,
-    };
-    let refused = refusal::of_window_lengths(lengths, w, grid.len(), support.len());
+    let refused = refusal::of_request(t, guess, numbers, minutes);
     if refused != 0 {
         return refused;
     }
-    let mut numbers = [[0i32; 3]; 512];
-    let mut minutes = [[0u32; 3]; 512];
-    request::load(
-        &mut numbers,
-        &mut minutes,
-        x,
-        y,
-        value,
-        observed,
-        from,
-        until,
-    );
-    let t = request::terms_of(nx, ny, x.len(), count, radius, limit, smooth, time, age);
-    settled(t, w, guess, &numbers, &minutes, grid, support)
+    work(t, w, guess, numbers, minutes, grid, support);
+    0
 }

@@ -45,7 +45,7 @@ settled-requires c κs =
     let t = c .before .before .before .before .before in
     let e = t .before .before .before .before in
     let l = t .before .load in
-    ready (call (start e)) (passed e) (t .terms-of .result) (l .last .0) (l .last .1 .0) (t .terms-of .ensures) (l .ensures)
+    ready (call (start e)) (t .terms-of .result) (l .last .0) (l .last .1 .0) (t .terms-of .ensures) (l .ensures) (passed e)
 
 same-length : tie.Need-same-length
 same-length c = search needs
@@ -62,7 +62,7 @@ returns-2 c =
     let t = n .before .before .before .before .before .before in
     let e = t .before .before .before .before in
     let l = t .before .load in
-    settles (call (start e)) (passed e) (t .terms-of .result) (l .last .0) (l .last .1 .0) (t .terms-of .ensures) (l .ensures)
+    settles (call (start e)) (t .terms-of .result) (l .last .0) (l .last .1 .0) (t .terms-of .ensures) (l .ensures) (passed e)
     (slices (start e .args .grid .now) (start e .args .support .now) (start e .args .verdict .now)) (n .settled .ensures)
 
 pub sosnyavik-analyse-spec : {M : Type 1} → statement M
