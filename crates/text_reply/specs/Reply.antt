@@ -9,7 +9,7 @@ use lib.ListN.{length, take}
 use lib.Seq.{length-take-le, getD-take}
 use lib.IntN.{ℤ, pos}
 use Rattle.lists.specs.Tab.{length-tab}
-use Rattle.scheme.specs.Units.{mostStations, mostScans, Request}
+use Rattle.scheme.specs.Units.{mostStations, mostScans}
 use Rattle.scheme.specs.Text.{mostBytes, requestLines, firstTwo, replyText, inForm, answerText}
 use Rattle.scheme.specs.Most.{mostPoints}
 use Rattle.scheme.specs.Accepted.{Formed}

@@ -3,7 +3,7 @@ use borrow.Author.Needs.{needs}
 use Prim.Native.Nat.{ℕ, _-_, _≤_}
 use native.Mathlib.Omega.{arith}
 use mathlib.Core.Path.{_≡_, refl, ap, _∙_}
-use mathlib.Core.List.{List}
+use mathlib.Core.List.{List, [], _∷_}
 use lib.ListN.{length, drop}
 use Rattle.lists.specs.Tab.{tab, tab-grows}
 use Rattle.scheme.specs.Units.{mostStations, Station}
@@ -23,6 +23,11 @@ Inv-loop s at line n numbers₀ minutes₀ p₀ i₀ numbers minutes p i = (i �
 
 abbrev μ-loop : tie.MeasureT-loop
 μ-loop s at line n numbers₀ minutes₀ p₀ i₀ numbers minutes p i = n - i
+
+-- the station that was read
+module _ (c : tie.After-station-line Inv-loop μ-loop) where
+  abbrev station : Station
+  station = let l = c .station-line .last .1 .1 .1 in stationIn (l .0) (l .1 .0) (c .before .before .before .before .loop .i)
 
 loop-holds : tie.Need-loop-holds Inv-loop μ-loop
 unfolding tab
@@ -50,7 +55,7 @@ returns c =
     let r = c .before .before .station-line .ensures in
     record {
       said = stop stations (a .s .now) (drop (a .at) (a .s .now)) (a .n) (a .line) (l .loop .i) (l .loop .p) _ (omega arith) (l .loop .inv .3)
-          (lines-stop stationLine (drop (l .loop .p) (a .s .now)) (r .said ∙ ap (rowTold (a .s .now) _) (c .enum-told .given .1)));
+          (lines-stop stationLine (drop (l .loop .p) (a .s .now)) (r .said ∙ ap (rowTold (a .s .now) (station (c .before .before))) (c .enum-told .given .1)));
       numbers-long = r .numbers-long;
       minutes-long = r .minutes-long;
     }
@@ -71,9 +76,9 @@ loop-again c =
       omega arith,
       r .numbers-long,
       r .minutes-long,
-      turn stations (a .s .now) (drop (a .at) (a .s .now)) (a .n) (a .line) (l .loop .i) (l .loop .p) (tab (l .loop .i) (stationIn (l .loop .numbers) (l .loop .minutes))) (omega arith) (l .loop .inv .3) (v .0 .0) _ _
-          (lines-more stationLine (drop (l .loop .p) (a .s .now)) (drop (v .0 .0) (a .s .now)) _ (r .said ∙ ap (rowTold (a .s .now) _) (v .1)))
-          (tab-grows (l .loop .i) (stationIn (l .loop .numbers) (l .loop .minutes)) _ _ (r .earlier) refl),
+      turn stations (a .s .now) (drop (a .at) (a .s .now)) (a .n) (a .line) (l .loop .i) (l .loop .p) (tab (l .loop .i) (stationIn (l .loop .numbers) (l .loop .minutes))) (omega arith) (l .loop .inv .3) (v .0 .0) (station k ∷ []) _
+          (lines-more stationLine (drop (l .loop .p) (a .s .now)) (drop (v .0 .0) (a .s .now)) (station k) (r .said ∙ ap (rowTold (a .s .now) (station k)) (v .1)))
+          (tab-grows (l .loop .i) (stationIn (l .loop .numbers) (l .loop .minutes)) _ (station k) (r .earlier) refl),
     )
 
 returns-2 : tie.Need-returns-2 Inv-loop μ-loop
