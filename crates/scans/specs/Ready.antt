@@ -7,7 +7,10 @@ use mathlib.Core.List.{List}
 use borrow.Author.Tests.{eqb-true, eq-eqb}
 use lib.ListN.{length, getD}
 use lib.IntN.{ℤ, pos, natAbs}
+use mir.Syntax.{w32}
+use mir.Val.{toZ, ofZ}
 use Rattle.integers.specs.Sizes.{size-add}
+use Rattle.integers.specs.Words.{bits-back}
 use Rattle.lists.specs.Filled.{Filled, filled-all}
 use Rattle.scheme.specs.Units.{Field, stored, fieldOf, mostStations, mostScans, mostLimit, R, E}
 use Rattle.scheme.specs.Correction.{correction}
@@ -29,7 +32,15 @@ use Rattle.scans.specs.Scanned.{r2In, Scanned}
 abbrev pub mostBefore : ℕ
 mostBefore = mostField - mostLimit
 
--- what scan m + 1 needs
+-- scan m + 1 has an entry in the plan, in range
+abbrev pub EntryIn : Terms → ℕ → Type 0
+EntryIn t m = (m < mostScans) × accepted.Scanned (planIn t) m
+
+-- and as the code reads it, a natural number is itself
+pub entry-is : {v : ℤ} {n : ℕ} → v ≡ pos n → n < 2147483648 → toZ w32 (ofZ w32 v) ≡ pos n
+entry-is {n = n} e h = ap (λ (z : ℤ). toZ w32 (ofZ w32 z)) e ∙ bits-back w32 (pos n) (omega arith)
+
+-- what that scan needs
 pub record ScanReady (t : Terms) (numbers : List (List ℤ)) (m bit : ℕ) (z : List ℤ) (sup st : List ℕ) (ds : List ℤ) : Type 0 where
   pub shape : Shaped (t .nx) (t .ny) (length z)
   pub both : length sup ≡ length z
@@ -38,8 +49,7 @@ pub record ScanReady (t : Terms) (numbers : List (List ℤ)) (m bit : ℕ) (z : 
   pub few : t .stations ≤ mostStations
   pub len-st : length st ≡ t .stations
   pub long : length ds ≡ mostStations
-  pub entry : accepted.Scanned (planIn t) m
-  pub number-few : m + 1 ≤ mostScans
+  pub entry : EntryIn t m
   pub bit-is : bit ≡ 2 ^ m
   pub on-grid : AcceptedOnGrid t numbers st
 
@@ -56,7 +66,7 @@ module _ {t : Terms} {numbers : List (List ℤ)} {m bit : ℕ} {z : List ℤ} {s
         few = ok .few;
         len-st = ok .len-st;
         long = ok .long;
-        scan-few = ok .number-few;
+        scan-few = omega (arith, ok .entry .0);
         on-grid = ok .on-grid;
       }
 
@@ -75,7 +85,7 @@ module _ {t : Terms} {numbers : List (List ℤ)} {m bit : ℕ} {z : List ℤ} {s
         record {
           x-small = omega (arith, o .x .1, ok .shape .few-columns);
           y-small = omega (arith, o .y .1, ok .shape .few-rows);
-          d-small = rw (df .new k (omega arith) h, w) (omega (arith, passed (m + 1) (E (planIn t) m) _ (getD st k 0) a, ok .entry .limit-most));
+          d-small = rw (df .new k (omega arith) h, w) (omega (arith, passed (m + 1) (E (planIn t) m) _ (getD st k 0) a, ok .entry .1 .limit-most));
         }
 
     stations : Ready all
@@ -86,7 +96,7 @@ module _ {t : Terms} {numbers : List (List ℤ)} {m bit : ℕ} {z : List ℤ} {s
         record {
           shape = ok .shape;
           both = ok .both;
-          close = ok .entry .radius-most;
+          close = ok .entry .1 .radius-most;
           stations = stations;
           low = λ k. omega (arith, ok .low k);
           free = ok .free;

@@ -41,7 +41,7 @@ module _ {t : Terms} {guess : List ℤ} {numbers : List (List ℤ)} {minutes : L
 
   -- a further scan
   module _ (turn : m < t .scans) where
-    pub few-scans : m + 1 ≤ mostScans
+    pub few-scans : m < mostScans
     few-scans = omega (arith, now .sound .plan .scans-few)
 
     pub bit-small : 2 ^ m ≤ 32
@@ -57,8 +57,7 @@ module _ {t : Terms} {guess : List ℤ} {numbers : List (List ℤ)} {minutes : L
           few = omega (arith, length-tab (t .stations) (stationIn numbers minutes), now .sound .few-stations);
           len-st = now .holds .long;
           long = long;
-          entry = now .sound .plan .scan m turn;
-          number-few = few-scans;
+          entry = (few-scans, now .sound .plan .scan m turn);
           bit-is = bit-is;
           on-grid = now .on-grid;
         }

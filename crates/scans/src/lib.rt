@@ -4,15 +4,15 @@ ghost use mathlib.Core.Path.{_≡_};
 ghost use Prim.Native.Nat.{_*_, _≤_};
 ghost use lib.ListN.{length};
 ghost use Rattle.lists.specs.Tab.{tab};
-ghost use Rattle.scheme.specs.Units.{mostStations};
+ghost use Rattle.scheme.specs.Units.{mostStations, R, E};
 ghost use Rattle.scheme.specs.Scan.{analysis};
 ghost use Rattle.scheme.specs.Promises.{slices};
 ghost use Rattle.scheme.specs.Most.{mostPoints};
 ghost use Rattle.scheme.specs.Accepted.{Shaped, Sound, Fits};
-ghost use Rattle.request.specs.Tables.{requestIn};
+ghost use Rattle.request.specs.Tables.{planIn, requestIn};
 ghost use Rattle.scan_smoothing.specs.Pattern.{Small};
 ghost use Rattle.scans.specs.Scanned.{Scanned};
-ghost use Rattle.scans.specs.Ready.{ScanReady, smoothedIf};
+ghost use Rattle.scans.specs.Ready.{EntryIn, ScanReady, smoothedIf};
 ghost use Rattle.scans.specs.Run.{Reached};
 ghost use Rattle.scans.specs.Start.{firstAt};
 use request::Terms;
@@ -78,6 +78,21 @@ fn begin(
 
 // ---- the scans
 
+// The radius and the limit of scan number m + 1.
+fn radius_of(t: Terms, m: usize) -> u32
+    requires { ⌜ EntryIn t m ⌝ }
+    ensures { λ r. ⌜ r ≡ R (planIn t) m ⌝ }
+{
+    t.radius[m] as u32
+}
+
+fn limit_of(t: Terms, m: usize) -> u32
+    requires { ⌜ EntryIn t m ⌝ }
+    ensures { λ r. ⌜ r ≡ E (planIn t) m ⌝ }
+{
+    t.limit[m] as u32
+}
+
 // Smoothing, if it is on.
 fn smooth_if(z: &mut [i32], t: Terms)
     requires { ⌜ Shaped (t .nx) (t .ny) (length (now z)) × Small (now z) ⌝ }
@@ -103,8 +118,8 @@ fn scan(
     ensures { λ u. ⌜ Scanned t (now (numbers .entry)) m (now (z .entry)) (now (support .entry)) (now (verdict .entry)) (now (z .exit)) (now (support .exit)) (now (verdict .exit)) (now (d .exit))
         × (length (now (d .exit)) ≡ mostStations) ⌝ }
 {
-    scan_station::judge(z, verdict, d, t, numbers, t.limit[m] as u32, (m as u8) + 1);
-    scan_point::correct(z, support, verdict, d, t, numbers, t.radius[m] as u32, bit);
+    scan_station::judge(z, verdict, d, t, numbers, limit_of(t, m), (m as u8) + 1);
+    scan_point::correct(z, support, verdict, d, t, numbers, radius_of(t, m), bit);
     smooth_if(z, t);
 }
 

@@ -1,5 +1,5 @@
 -- `scan_point::correct` meets its contract. The loop's invariant: the rows passed are corrected. Assumes nothing.
-use Prim.Native.Nat.{ℕ, _+_, _-_, _*_, _≤_}
+use Prim.Native.Nat.{ℕ, _-_, _*_, _≤_}
 use native.Mathlib.Omega.{arith}
 use mathlib.Core.Path.{_≡_}
 use lib.ListN.{length-replicate}
