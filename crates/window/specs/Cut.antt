@@ -7,7 +7,7 @@ use mathlib.Core.List.{List, []}
 use lib.ListN.{length, getD}
 use lib.IntN.{ℤ, pos}
 use Rattle.lists.specs.Tab.{length-tab, getD-tab}
-use Rattle.scheme.specs.Units.{mostSide, Field, stored, mostStations, guess, Request}
+use Rattle.scheme.specs.Units.{mostSide, Field, stored, guess, Request}
 use Rattle.scheme.specs.Refusals.{Span, Window, pointsAlong}
 use Rattle.scheme.specs.Scan.{atEnd}
 use Rattle.scheme.specs.Reach.{reach, widened, cutOf, windowOf, cut, wholeAt}
@@ -17,7 +17,7 @@ use Rattle.scheme.specs.Stored.{stored-same}
 use Rattle.scheme.specs.Cut.{cut-sound}
 use Rattle.scheme.specs.Windows.{OfWindow, window-value, window-support}
 use Rattle.request.specs.declared.Terms.{Terms}
-use Rattle.request.specs.Tables.{stationOf, stationIn, planIn, requestIn}
+use Rattle.request.specs.Tables.{stationOf, stationIn, requestIn}
 use Rattle.window_spans.specs.Spans.{Placed}
 use Rattle.window_cut.specs.Kept.{KeepReady, Kept}
 use Rattle.window_cut.specs.Part.{partOf, PartReady, part-ready}
