@@ -12,9 +12,9 @@ use lib.Signed.{leZ, ltZ}
 use Rattle.lists.specs.Tests.{and-true, or-false, not-both}
 use Rattle.lists.specs.First.{Found, nowhere, at, first, firstIn, first-good, good-first, none-bad, all-fine}
 use Rattle.lists.specs.Members.{All, none, more}
-use Rattle.lists.specs.Tab.{length-tab, getD-tab}
+use Rattle.lists.specs.Tab.{length-tab}
 use Rattle.scheme.specs.Units.{among, within, mostValue, isMissing, leastSide, mostSide, mostStations, Station, mostPosition, Columns, stationAt, stationsOf, mostScans, mostRadius, mostLimit, Plan, R, E, Request, Call, asked}
-use Rattle.scheme.specs.Refusals.{Refusal, accepted, refused, inOrder, refusedIf, refusedAt, badShape, Span, Window, badSpan, badWindow, pointsAlong, badLengths, badColumns, badScans, rising, badScan, badGuess, badStation, fromFive, analysisRefusal, windowRefusal}
+use Rattle.scheme.specs.Refusals.{Refusal, accepted, refused, inOrder, refusedIf, refusedAt, badShape, Span, Window, badSpan, badWindow, pointsAlong, badLengths, badColumns, badScans, rising, badScan, badGuess, badStation, fromFive, analysisRefusal}
 
 -- ---- lists of tests
 
@@ -177,45 +177,10 @@ pub record Sound (q : Request) : Type 0 where
   pub first-guess : (k : ℕ) → k < length (q .firstGuess) → natAbs (getD (q .firstGuess) k (pos 0)) ≤ mostValue
   pub stations : (k : ℕ) → k < length (q .stations) → Stationed (getD (q .stations) k noStation)
 
-pub record SoundCall (c : Call) : Type 0 where
-  pub request : Sound (asked c)
-  pub columns : Equal (c .stations)
-  pub stations : (k : ℕ) → k < length (c .stations .x) → Stationed (stationAt (c .stations) k)
-
 -- the rows of a station list are those of its columns
 pub rows-of : (c : Columns) → length (stationsOf c) ≡ length (c .x)
 unfolding stationsOf
 rows-of c = length-tab (length (c .x)) (stationAt c)
-
-pub row-of : (c : Columns) (k : ℕ) (o : Station) → k < length (c .x) → getD (stationsOf c) k o ≡ stationAt c k
-unfolding stationsOf
-row-of c k o l = getD-tab (length (c .x)) (stationAt c) k o l
-
-planned : (p : Plan) → badScans p ≡ false → ((m : ℕ) → m < p .scans → badScan p m ≡ false) → Planned p
-unfolding badScans
-planned p five plan =
-    let (some, few, radii, limits) = scans-fit (p .scans) (length (p .radius)) (length (p .limit)) five in
-    record {
-      scans-some = some;
-      scans-few = few;
-      radii = radii;
-      limits = limits;
-      scan = λ m h. scanned p m (plan m h);
-      falls = λ m h. fallen p m (plan m (omega arith)) (plan (suc m) h);
-    }
-
--- from the rows of the table that are left when the shape and the number of stations are right
-pub sound : (q : Request) → badShape (q .nx) (q .ny) (length (q .firstGuess)) ≡ false → length (q .stations) ≤ mostStations
-    → All (λ r. r ≡ accepted) (fromFive q) → Sound q
-unfolding fromFive badGuess
-sound q one few (more five (more six (more seven (more eight none)))) =
-    record {
-      shape = shaped _ _ _ one;
-      few-stations = few;
-      plan = planned (q .plan) (not-refused 5 _ five) (first-good (q .plan .scans) (badScan (q .plan)) (nowhere-refused 6 _ six));
-      first-guess = λ k h. leb-true _ _ (not-false _ (none-bad badGuess (pos 0) (q .firstGuess) (nowhere-refused 7 _ seven) k h));
-      stations = λ k h. stationed _ (none-bad badStation noStation (q .stations) (nowhere-refused 8 _ eight) k h);
-    }
 
 -- ---- a request that no row before 6 refuses, and results of the right length
 
@@ -235,28 +200,28 @@ pub record Formed (q : Request) : Type 0 where
   pub radii : q .plan .scans ≤ length (q .plan .radius)
   pub limits : q .plan .scans ≤ length (q .plan .limit)
 
-pub formed-sound : (q : Request) → Formed q → inOrder (fromSix q) ≡ accepted → Sound q
+formed-all : (q : Request) → Formed q → All (λ r. r ≡ accepted) (fromSix q) → Sound q
 unfolding badGuess
-formed-sound q f e = go (all-accepted _ e)
-  where
-    go : All (λ r. r ≡ accepted) (fromSix q) → Sound q
-    go (more six (more seven (more eight none))) =
-        let scan = first-good (q .plan .scans) (badScan (q .plan)) (nowhere-refused 6 _ six) in
-        record {
-          shape = f .shape;
-          few-stations = f .few-stations;
-          plan =
-              record {
-                scans-some = f .scans-some;
-                scans-few = f .scans-few;
-                radii = f .radii;
-                limits = f .limits;
-                scan = λ m h. scanned (q .plan) m (scan m h);
-                falls = λ m h. fallen (q .plan) m (scan m (omega arith)) (scan (suc m) h);
-              };
-          first-guess = λ k h. leb-true _ _ (not-false _ (none-bad badGuess (pos 0) (q .firstGuess) (nowhere-refused 7 _ seven) k h));
-          stations = λ k h. stationed _ (none-bad badStation noStation (q .stations) (nowhere-refused 8 _ eight) k h);
-        }
+formed-all q f (more six (more seven (more eight none))) =
+    let scan = first-good (q .plan .scans) (badScan (q .plan)) (nowhere-refused 6 _ six) in
+    record {
+      shape = f .shape;
+      few-stations = f .few-stations;
+      plan =
+          record {
+            scans-some = f .scans-some;
+            scans-few = f .scans-few;
+            radii = f .radii;
+            limits = f .limits;
+            scan = λ m h. scanned (q .plan) m (scan m h);
+            falls = λ m h. fallen (q .plan) m (scan m (omega arith)) (scan (suc m) h);
+          };
+      first-guess = λ k h. leb-true _ _ (not-false _ (none-bad badGuess (pos 0) (q .firstGuess) (nowhere-refused 7 _ seven) k h));
+      stations = λ k h. stationed _ (none-bad badStation noStation (q .stations) (nowhere-refused 8 _ eight) k h);
+    }
+
+pub formed-sound : (q : Request) → Formed q → inOrder (fromSix q) ≡ accepted → Sound q
+formed-sound q f e = formed-all q f (all-accepted _ e)
 
 -- results as long as the grid, and a verdict for each station
 pub record Fits (q : Request) (grid support verdict : ℕ) : Type 0 where
@@ -269,61 +234,34 @@ pub record FitsWindow (w : Window) (grid support : ℕ) : Type 0 where
   pub grid-long : grid ≡ pointsAlong (w .columns) * pointsAlong (w .rows)
   pub support-long : support ≡ pointsAlong (w .columns) * pointsAlong (w .rows)
 
-sound-call : (c : Call) → badShape (c .nx) (c .ny) (length (c .firstGuess)) ≡ false → badColumns (c .stations) ≡ false
-    → All (λ r. r ≡ accepted) (fromFive (asked c)) → SoundCall c
-sound-call c one four rest =
-    let columns = equal (c .stations) four in
-    let s = sound (asked c) one (omega (arith, rows-of (c .stations), columns .few)) rest in
-    record {
-      request = s;
-      columns = columns;
-      stations = λ k h. rw (← row-of (c .stations) k noStation h) (s .stations k (omega (arith, rows-of (c .stations))));
-    }
-
--- the first rows of the table, as the two calls have them
-abbrev analysisRows : Call → (grid support verdict : ℕ) → List Refusal
-analysisRows c grid support verdict =
-    refusedIf 1 (badShape (c .nx) (c .ny) (length (c .firstGuess)))
-    ∷ refusedIf 3 (badLengths (c .nx * c .ny) grid support || not (eqb verdict (length (c .stations .x))))
-    ∷ refusedIf 4 (badColumns (c .stations))
-    ∷ fromFive (asked c)
-
-abbrev windowRows : Call → Window → (grid support : ℕ) → List Refusal
-windowRows c w grid support =
-    refusedIf 1 (badShape (c .nx) (c .ny) (length (c .firstGuess)))
-    ∷ refusedIf 2 (badWindow (c .nx) (c .ny) w)
-    ∷ refusedIf 3 (badLengths (pointsAlong (w .columns) * pointsAlong (w .rows)) grid support)
-    ∷ refusedIf 4 (badColumns (c .stations))
-    ∷ fromFive (asked c)
-
 -- results of the right length
 pub long : (points grid support : ℕ) → badLengths points grid support ≡ false → (grid ≡ points) × (support ≡ points)
 unfolding badLengths
 long points grid support e = let (g, s) = or-false _ _ e in (same _ _ g, same _ _ s)
 
-pub record CallAccepted (c : Call) (grid support verdict : ℕ) : Type 0 where
-  pub sound : SoundCall c
-  pub grid-long : grid ≡ c .nx * c .ny
-  pub support-long : support ≡ c .nx * c .ny
-  pub verdict-long : verdict ≡ length (c .stations .x)
-
-pub analysis-accepted : (c : Call) (grid support verdict : ℕ) → analysisRefusal c grid support verdict ≡ accepted → CallAccepted c grid support verdict
-unfolding analysisRefusal
-analysis-accepted c grid support verdict e = go (all-accepted _ e)
-  where
-    go : All (λ r. r ≡ accepted) (analysisRows c grid support verdict) → CallAccepted c grid support verdict
-    go (more one (more three (more four rest))) =
-        let (l, v) = or-false _ _ (not-refused 3 _ three) in
-        let (g, s) = long _ _ _ l in
-        record {
-          sound = sound-call c (not-refused 1 _ one) (not-refused 4 _ four) rest;
-          grid-long = g;
-          support-long = s;
-          verdict-long = same _ _ v;
-        }
-
+-- a call that is accepted asks a sound request
 pub analysis-sound : (c : Call) (grid support verdict : ℕ) → analysisRefusal c grid support verdict ≡ accepted → Sound (asked c)
-analysis-sound c grid support verdict e = analysis-accepted c grid support verdict e .sound .request
+unfolding analysisRefusal fromFive badScans
+analysis-sound c grid support verdict e = go (all-accepted _ e)
+  where
+    go : All (λ r. r ≡ accepted)
+        (refusedIf 1 (badShape (c .nx) (c .ny) (length (c .firstGuess)))
+        ∷ refusedIf 3 (badLengths (c .nx * c .ny) grid support || not (eqb verdict (length (c .stations .x))))
+        ∷ refusedIf 4 (badColumns (c .stations))
+        ∷ fromFive (asked c))
+        → Sound (asked c)
+    go (more one (more three (more four (more five rest)))) =
+        let (some, few, radii, limits) = scans-fit _ _ _ (not-refused 5 _ five) in
+        formed-all (asked c)
+        (record {
+          shape = shaped _ _ _ (not-refused 1 _ one);
+          few-stations = omega (arith, rows-of (c .stations), equal (c .stations) (not-refused 4 _ four) .few);
+          scans-some = some;
+          scans-few = few;
+          radii = radii;
+          limits = limits;
+        })
+        rest
 
 -- ---- 2 and 3: the window is on the grid, and its results are as long as it is
 
@@ -343,26 +281,6 @@ on-grid nx ny w e =
     let (across, right) = on-axis nx (w .columns) a in
     let (down, bottom) = on-axis ny (w .rows) b in
     record { across = across; down = down; right = right; bottom = bottom }
-
-pub record QueryAccepted (c : Call) (w : Window) (grid support : ℕ) : Type 0 where
-  pub sound : SoundCall c
-  pub on-grid : OnGrid (c .nx) (c .ny) w
-  pub grid-long : grid ≡ pointsAlong (w .columns) * pointsAlong (w .rows)
-  pub support-long : support ≡ pointsAlong (w .columns) * pointsAlong (w .rows)
-
-pub window-accepted : (c : Call) (w : Window) (grid support : ℕ) → windowRefusal c w grid support ≡ accepted → QueryAccepted c w grid support
-unfolding windowRefusal
-window-accepted c w grid support e = go (all-accepted _ e)
-  where
-    go : All (λ r. r ≡ accepted) (windowRows c w grid support) → QueryAccepted c w grid support
-    go (more one (more two (more three (more four rest)))) =
-        let (g, s) = long _ _ _ (not-refused 3 _ three) in
-        record {
-          sound = sound-call c (not-refused 1 _ one) (not-refused 4 _ four) rest;
-          on-grid = on-grid _ _ w (not-refused 2 _ two);
-          grid-long = g;
-          support-long = s;
-        }
 
 -- ---- and back: no test refuses a sound call
 

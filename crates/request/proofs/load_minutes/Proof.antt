@@ -1,7 +1,7 @@
 -- `request::load_minutes` meets its contract. The loop's invariant: the rows passed are those of the columns. Assumes nothing.
 use Prim.Native.Nat.{_+_, _-_, _≤_}
 use native.Mathlib.Omega.{arith}
-use mathlib.Core.Path.{_≡_, refl, _∙_}
+use mathlib.Core.Path.{_≡_, refl}
 use mathlib.Core.List.{[]}
 use lib.ListN.{length}
 use Rattle.lists.specs.Filled.{Filled, filled-none, filled-set}
