@@ -2,7 +2,6 @@
 // columns once, and hand the request on; nothing is written before it is accepted. They answer refusal·65,536 + place.
 ghost use Rattle.scheme.specs.Units.{asking};
 ghost use Rattle.scheme.specs.Promises.{sixColumns, slices, Analyses, windowAt, tile, Queries, ReadsKind, ReadsValue, Summarises};
-use refusal_shapes::Lengths;
 use request::Window;
 use scheme::Summary;
 
@@ -29,20 +28,20 @@ pub extern "C" fn sosnyavik_analyse(
 ) -> u32
     ensures { λ r. ⌜ Analyses (asking nx ny (now (guess .entry)) (sixColumns (now (x .entry)) (now (y .entry)) (now (value .entry)) (now (observed .entry)) (now (from .entry)) (now (until .entry))) count (now (radius .entry)) (now (limit .entry)) smooth time age) (slices (now (grid .entry)) (now (support .entry)) (now (verdict .entry))) r (slices (now (grid .exit)) (now (support .exit)) (now (verdict .exit))) ⌝ }
 {
-    let l = Lengths {
-        nx: nx as usize,
-        ny: ny as usize,
-        guess: guess.len(),
-        x: x.len(),
-        y: y.len(),
-        value: value.len(),
-        observed: observed.len(),
-        from: from.len(),
-        until: until.len(),
-        scans: count as usize,
-        radius: radius.len(),
-        limit: limit.len(),
-    };
+    let l = refusal_shapes::lengths_of(
+        nx,
+        ny,
+        guess,
+        x,
+        y,
+        value,
+        observed,
+        from,
+        until,
+        count,
+        radius,
+        limit,
+    );
     let refused = refusal::of_lengths(l, grid.len(), support.len(), verdict.len());
     if refused != 0 {
         return refused;
@@ -89,20 +88,20 @@ pub extern "C" fn sosnyavik_window(
 ) -> u32
     ensures { λ r. ⌜ Queries (asking nx ny (now (guess .entry)) (sixColumns (now (x .entry)) (now (y .entry)) (now (value .entry)) (now (observed .entry)) (now (from .entry)) (now (until .entry))) count (now (radius .entry)) (now (limit .entry)) smooth time age) (windowAt left right top bottom) (tile (now (grid .entry)) (now (support .entry))) r (tile (now (grid .exit)) (now (support .exit))) ⌝ }
 {
-    let l = Lengths {
-        nx: nx as usize,
-        ny: ny as usize,
-        guess: guess.len(),
-        x: x.len(),
-        y: y.len(),
-        value: value.len(),
-        observed: observed.len(),
-        from: from.len(),
-        until: until.len(),
-        scans: count as usize,
-        radius: radius.len(),
-        limit: limit.len(),
-    };
+    let l = refusal_shapes::lengths_of(
+        nx,
+        ny,
+        guess,
+        x,
+        y,
+        value,
+        observed,
+        from,
+        until,
+        count,
+        radius,
+        limit,
+    );
     let w = Window {
         left: left as usize,
         right: right as usize,

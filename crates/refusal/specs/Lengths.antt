@@ -13,28 +13,10 @@ use Rattle.scheme.specs.Units.{mostScans, Call, asked}
 use Rattle.scheme.specs.Refusals.{Refusal, accepted, inOrder, refusedIf, badShape, Window, badWindow, pointsAlong, badLengths, badColumns, badScans, fromFive, analysisRefusal, windowRefusal}
 use Rattle.scheme.specs.Accepted.{all-accepted, not-refused, Shaped, shaped, Equal, equal, scans-fit, fromSix, FitsWindow, long, OnGrid, on-grid}
 use Rattle.refusal_shapes.specs.declared.Lengths.{Lengths}
-use Rattle.refusal_shapes.specs.Tested.{unequalColumns, badScanCount}
+use Rattle.refusal_shapes.specs.Tested.{lengthsOf, unequalColumns, badScanCount}
 use Rattle.refusal.specs.Coded.{Coded, rest-decides, refused-before}
 
--- the lengths of a call
-abbrev pub lengthsOf : Call → Lengths
-lengthsOf c =
-    record {
-      nx = c .nx;
-      ny = c .ny;
-      guess = length (c .firstGuess);
-      x = length (c .stations .x);
-      y = length (c .stations .y);
-      value = length (c .stations .value);
-      observed = length (c .stations .observed);
-      from = length (c .stations .from);
-      until = length (c .stations .until);
-      scans = c .plan .scans;
-      radius = length (c .plan .radius);
-      limit = length (c .plan .limit);
-    }
-
--- the rows that are tested on them
+-- the rows that are tested on the lengths of a call
 abbrev pub fourAndFive : Lengths → List Refusal
 fourAndFive l = refusedIf 4 (unequalColumns l) ∷ refusedIf 5 (badScanCount l) ∷ []
 

@@ -1,8 +1,27 @@
--- The tests of rows 4 and 5 as the code makes them. Of the lengths of a call they are `badColumns` and `badScans`.
+-- The lengths of a call, and the tests of rows 4 and 5 as the code makes them, which on these are `badColumns` and `badScans`.
 use mathlib.Core.Bool.{Bool, not, _||_}
 use lib.Dec.{ltb, eqb}
-use Rattle.scheme.specs.Units.{among, mostStations, mostScans}
+use lib.ListN.{length}
+use Rattle.scheme.specs.Units.{among, mostStations, mostScans, Call}
 use Rattle.refusal_shapes.specs.declared.Lengths.{Lengths}
+
+-- the lengths of a call
+abbrev pub lengthsOf : Call → Lengths
+lengthsOf c =
+    record {
+      nx = c .nx;
+      ny = c .ny;
+      guess = length (c .firstGuess);
+      x = length (c .stations .x);
+      y = length (c .stations .y);
+      value = length (c .stations .value);
+      observed = length (c .stations .observed);
+      from = length (c .stations .from);
+      until = length (c .stations .until);
+      scans = c .plan .scans;
+      radius = length (c .plan .radius);
+      limit = length (c .plan .limit);
+    }
 
 abbrev pub unequalColumns : Lengths → Bool
 unequalColumns l =

@@ -1,11 +1,13 @@
 // Rows 1 to 5 of the refusal table (document 01), whose place is 0: a test for each, on lengths and counts alone.
 // Comparisons are joined by | and &, which make them all: there is no branch to prove, and each is the definition's.
 ghost use mathlib.Core.Path.{_≡_};
-ghost use mathlib.Core.Bool.{not, _||_};
+ghost use mathlib.Core.Bool.{not, _||_, false};
 ghost use lib.Dec.{eqb};
+ghost use Rattle.scheme.specs.Units.{asking};
+ghost use Rattle.scheme.specs.Promises.{sixColumns};
 ghost use Rattle.scheme.specs.Refusals.{badShape, badWindow, badLengths};
 ghost use Rattle.request.specs.Tables.{windowIn};
-ghost use Rattle.refusal_shapes.specs.Tested.{unequalColumns, badScanCount};
+ghost use Rattle.refusal_shapes.specs.Tested.{lengthsOf, unequalColumns, badScanCount};
 
 // What a call is handed, by lengths and counts.
 pub struct Lengths {
@@ -21,6 +23,39 @@ pub struct Lengths {
     pub scans: usize,
     pub radius: usize,
     pub limit: usize,
+}
+
+// The lengths of a call, by the slices that it is lent; what else it asks has none.
+pub fn lengths_of(
+    nx: u32,
+    ny: u32,
+    guess: &[i32],
+    x: &[i32],
+    y: &[i32],
+    value: &[i32],
+    observed: &[u32],
+    from: &[u32],
+    until: &[u32],
+    scans: u32,
+    radius: &[i32],
+    limit: &[i32],
+) -> Lengths
+    ensures { λ r. ⌜ r ≡ lengthsOf (asking nx ny (now (guess .entry)) (sixColumns (now (x .entry)) (now (y .entry)) (now (value .entry)) (now (observed .entry)) (now (from .entry)) (now (until .entry))) scans (now (radius .entry)) (now (limit .entry)) false 0 0) ⌝ }
+{
+    Lengths {
+        nx: nx as usize,
+        ny: ny as usize,
+        guess: guess.len(),
+        x: x.len(),
+        y: y.len(),
+        value: value.len(),
+        observed: observed.len(),
+        from: from.len(),
+        until: until.len(),
+        scans: scans as usize,
+        radius: radius.len(),
+        limit: limit.len(),
+    }
 }
 
 // 1: nx or ny out of 2..64, or the field is not nx·ny long

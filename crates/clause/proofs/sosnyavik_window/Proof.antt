@@ -1,12 +1,13 @@
 -- `clause::sosnyavik_window` meets its contract: a refusal by lengths, or the request that is loaded, settled. Assumes nothing.
 use borrow.Author.Needs.{needs}
-use mathlib.Core.Path.{refl}
+use mathlib.Core.Path.{_≡_, refl}
 use lib.ListN.{length}
 use Rattle.scheme.specs.Units.{Call, asking}
-use Rattle.scheme.specs.Refusals.{Window}
+use Rattle.scheme.specs.Refusals.{inOrder, Window}
 use Rattle.scheme.specs.Promises.{sixColumns, windowAt, tile}
-use Rattle.refusal.specs.Coded.{refuses}
-use Rattle.refusal.specs.Lengths.{WindowPassed, window-passed, window-refused}
+use Rattle.refusal_shapes.specs.Tested.{lengthsOf}
+use Rattle.refusal.specs.Coded.{Coded, refuses}
+use Rattle.refusal.specs.Lengths.{windowLengths, WindowPassed, window-passed, window-refused}
 use Rattle.clause.specs.Settled.{window-ready, window-settles}
 use Rattle.clause.proofs.sosnyavik_window.Statement.{statement}
 use Rattle.clause.proofs.sosnyavik_window.Tie as tie
@@ -20,28 +21,36 @@ call s =
 abbrev window : tie.Start → Window
 window s = let a = s .args in windowAt (a .left) (a .right) (a .top) (a .bottom)
 
+lengths-of-requires : tie.Need-lengths-of-requires
+lengths-of-requires c κs = search needs
+
 of-window-lengths-requires : tie.Need-of-window-lengths-requires
 of-window-lengths-requires c κs = search needs
 
+-- the tests on the lengths of the call
+module _ (o : tie.After-of-window-lengths) where
+  abbrev start : tie.Start
+  start = o .before .before .before .before .before .before
+
+  tested : Coded (o .of-window-lengths .result) (inOrder (windowLengths (lengthsOf (call start)) (window start) (length (start .args .grid .now)) (length (start .args .support .now))))
+  tested = rw (o .before .lengths-of .ensures) at (o .of-window-lengths .ensures)
+
+  passed : o .of-window-lengths .result ≡ 0 → WindowPassed (call start) (window start) (length (start .args .grid .now)) (length (start .args .support .now))
+  passed none = window-passed (call start) (window start) (length (start .args .grid .now)) (length (start .args .support .now)) (tested .only none)
+
 returns : tie.Need-returns
 returns c =
-    let s = c .before .before .before .before .before .before in
-    refuses _ _ (window-refused (call s) (window s) (length (s .args .grid .now)) (length (s .args .support .now)) (c .before .of-window-lengths .ensures) (c .if1 .taken)) (c .if1 .taken)
-
--- a call that passed
-module _ (e : tie.Else1) where
-  abbrev start : tie.Start
-  start = e .before .before .before .before .before .before
-
-  passed : WindowPassed (call start) (window start) (length (start .args .grid .now)) (length (start .args .support .now))
-  passed = window-passed (call start) (window start) (length (start .args .grid .now)) (length (start .args .support .now)) (e .before .of-window-lengths .ensures .only (e .if1 .left))
+    let o = c .before in
+    let a = start o .args in
+    refuses _ _ (window-refused (call (start o)) (window (start o)) (length (a .grid .now)) (length (a .support .now)) (tested o) (c .if1 .taken)) (c .if1 .taken)
 
 load-requires : tie.Need-load-requires
-load-requires c κs = (passed (c .before .before) .handed .equal, refl, refl)
+load-requires c κs = (passed (c .before .before .before) (c .before .before .if1 .left) .handed .equal, refl, refl)
 
 terms-of-requires : tie.Need-terms-of-requires
 terms-of-requires c κs =
-    let h = passed (c .before .before .before) .handed in
+    let e = c .before .before .before in
+    let h = passed (e .before) (e .if1 .left) .handed in
     (h .scans-few, h .radii, h .limits)
 
 settled-requires : tie.Need-settled-requires
@@ -49,7 +58,7 @@ settled-requires c κs =
     let t = c .before .before .before .before in
     let e = t .before .before .before .before in
     let l = t .before .load in
-    window-ready (call (start e)) (t .terms-of .result) (l .last .0) (l .last .1 .0) (t .terms-of .ensures) (l .ensures) (window (start e)) (passed e)
+    window-ready (call (start (e .before))) (t .terms-of .result) (l .last .0) (l .last .1 .0) (t .terms-of .ensures) (l .ensures) (window (start (e .before))) (passed (e .before) (e .if1 .left))
 
 same-length : tie.Need-same-length
 same-length c = search needs
@@ -63,13 +72,14 @@ returns-2 c =
     let t = n .before .before .before .before .before in
     let e = t .before .before .before .before in
     let l = t .before .load in
-    window-settles (call (start e)) (t .terms-of .result) (l .last .0) (l .last .1 .0) (t .terms-of .ensures) (l .ensures) (window (start e)) (passed e)
-    (tile (start e .args .grid .now) (start e .args .support .now)) (n .settled .ensures)
+    window-settles (call (start (e .before))) (t .terms-of .result) (l .last .0) (l .last .1 .0) (t .terms-of .ensures) (l .ensures) (window (start (e .before))) (passed (e .before) (e .if1 .left))
+    (tile (start (e .before) .args .grid .now) (start (e .before) .args .support .now)) (n .settled .ensures)
 
 pub sosnyavik-window-spec : {M : Type 1} → statement M
 sosnyavik-window-spec =
     tie.close
     (tie.spec
+    lengths-of-requires
     of-window-lengths-requires
     returns
     load-requires
