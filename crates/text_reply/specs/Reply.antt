@@ -13,11 +13,10 @@ use Rattle.scheme.specs.Units.{mostStations, mostScans}
 use Rattle.scheme.specs.Text.{mostBytes, requestLines, firstTwo, replyText, inForm, answerText}
 use Rattle.scheme.specs.Most.{mostPoints}
 use Rattle.scheme.specs.Accepted.{Formed}
-use Rattle.request.specs.declared.Terms.{Terms}
 use Rattle.request.specs.Tables.{stationIn, requestIn}
 use Rattle.request.specs.Loaded.{Held, same-refusal, same-analysis}
 use Rattle.text_head.specs.declared.Head.{Head}
-use Rattle.text_head.specs.Head.{Limits}
+use Rattle.text_head.specs.Head.{Limits, termsRead}
 use Rattle.text_request.specs.declared.RequestRead.{RequestRead}
 use Rattle.text_request.specs.declared.RequestRead.the-variants.{Value, NotInForm}
 use Rattle.text_request.specs.Whole.{requestRead, requestTold}
@@ -32,12 +31,7 @@ module _ (text : List ℕ) where
   unfolding answerText
   as-read h = rw (le-ltb 65536 (length text) h)
 
--- what was read, as terms
-abbrev pub termsRead : Head → ℕ → (radius limit : List ℤ) → Terms
-termsRead h n radius limit =
-    record { nx = h .nx; ny = h .ny; stations = n; scans = h .scans; radius = radius; limit = limit; smooth = h .smooth; time = h .time; age = h .age }
-
--- its first guess is a front of what was lent
+-- the first guess that was read is a front of what was lent
 pub inside : (h : Head) (guess : List ℤ) → Limits h → length guess ≡ mostPoints → h .ny * h .nx ≤ length guess
 inside h guess limits points = omega (arith, mul-le-mul (limits .few-rows) (limits .few-columns))
 

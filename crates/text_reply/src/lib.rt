@@ -8,9 +8,7 @@ ghost use Rattle.scheme.specs.Promises.{Stands, Replies};
 ghost use Rattle.scheme.specs.Accepted.{Formed};
 ghost use Rattle.request.specs.Tables.{requestIn};
 ghost use Rattle.text_request.specs.Whole.{Fits, requestTold};
-ghost use Rattle.text_reply.specs.Reply.{termsRead};
 use request::Terms;
-use text_head::Head;
 use text_request::RequestRead;
 
 // The answer to a request, at the start of out; how many bytes it has. Here is room for the result.
@@ -40,23 +38,6 @@ fn reply_to(
     )
 }
 
-// What was read, as terms.
-fn terms_read(h: Head, stations: u32, radius: [i32; 6], limit: [i32; 6]) -> Terms
-    ensures { λ t. ⌜ t ≡ termsRead h stations radius limit ⌝ }
-{
-    Terms {
-        nx: h.nx as usize,
-        ny: h.ny as usize,
-        stations: stations as usize,
-        scans: h.scans as usize,
-        radius,
-        limit,
-        smooth: h.smooth,
-        time: h.time,
-        age: h.age,
-    }
-}
-
 // The answer to what was read. A request's first guess is the front of what was lent.
 fn reply_to_read(
     read: RequestRead,
@@ -74,7 +55,7 @@ fn reply_to_read(
         RequestRead::NotInForm(line) => text_print::first_two(out, 0, 9, line),
         RequestRead::Value(h, stations, _) => {
             let points = (h.ny as usize) * (h.nx as usize);
-            let t = terms_read(h, stations, radius, limit);
+            let t = text_head::terms_read(h, stations, radius, limit);
             reply_to(t, &guess[..points], numbers, minutes, out)
         }
     }
