@@ -102,9 +102,9 @@ module _ (guess radius limit : List ℤ) (numbers : List (List ℤ)) (minutes : 
           same-analysis held,
         )
 
-    pub in-form : (read : RequestRead) (k : ℕ) → read ≡ Value h n k
+    pub in-form : (read : RequestRead) → read ≡ Value h n
         → inForm (requestTold guess radius limit numbers minutes read) ≡ replyText (requestIn (termsRead h n radius limit) front numbers minutes)
-    in-form read k e = rw e same-reply
+    in-form read e = rw e same-reply
 
 -- ---- what is lent and what is written
 

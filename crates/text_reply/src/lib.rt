@@ -53,7 +53,7 @@ fn reply_to_read(
 {
     match read {
         RequestRead::NotInForm(line) => text_print::first_two(out, 0, 9, line),
-        RequestRead::Value(h, stations, _) => {
+        RequestRead::Value(h, stations) => {
             let points = (h.ny as usize) * (h.nx as usize);
             let t = text_head::terms_read(h, stations, radius, limit);
             reply_to(t, &guess[..points], numbers, minutes, out)
