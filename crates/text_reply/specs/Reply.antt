@@ -106,10 +106,7 @@ module _ (guess radius limit : List ℤ) (numbers : List (List ℤ)) (minutes : 
         → inForm (requestTold guess radius limit numbers minutes read) ≡ replyText (requestIn (termsRead h n radius limit) front numbers minutes)
     in-form read e = rw e same-reply
 
--- ---- what is lent and what is written
-
-pub front-long : {A : Type 0} (n m : ℕ) (l : List A) → n ≤ m → m ≤ length l → n ≡ length (take n l)
-front-long n m l h k = sym (length-take-le n l (omega arith))
+-- ---- what is written
 
 pub two-fit : (number place room : ℕ) → number < 2 ^ 32 → place < 2 ^ 32 → room ≡ mostBytes → length (firstTwo number place) ≤ room
 two-fit number place room h k e = omega (arith, two-short number place h k)

@@ -3,40 +3,10 @@ ghost use mathlib.Core.Path.{_≡_};
 ghost use lib.ListN.{length};
 ghost use Rattle.scheme.specs.Units.{mostScans};
 ghost use Rattle.scheme.specs.Most.{mostPoints};
-ghost use Rattle.scheme.specs.Text.{mostBytes, requestLines, replyText, inForm};
+ghost use Rattle.scheme.specs.Text.{mostBytes, requestLines, inForm};
 ghost use Rattle.scheme.specs.Promises.{Stands, Replies};
-ghost use Rattle.scheme.specs.Accepted.{Formed};
-ghost use Rattle.request.specs.Tables.{requestIn};
 ghost use Rattle.text_request.specs.Whole.{Fits, requestTold};
-use request::Terms;
 use text_request::RequestRead;
-
-// The answer to a request, at the start of out; how many bytes it has. Here is room for the result.
-fn reply_to(
-    t: Terms,
-    guess: &[i32],
-    numbers: &[[i32; 3]; 512],
-    minutes: &[[u32; 3]; 512],
-    out: &mut [u8],
-) -> usize
-    requires { ⌜ Formed (requestIn t (now guess) (now numbers) (now minutes)) × (length (now out) ≡ mostBytes) ⌝ }
-    ensures { λ r. ⌜ Stands (replyText (requestIn t (now (guess .entry)) (now (numbers .entry)) (now (minutes .entry)))) (now (out .entry)) r (now (out .exit)) ⌝ }
-{
-    let points = t.nx * t.ny;
-    let mut grid = [0i32; 4096];
-    let mut support = [0u8; 4096];
-    let mut verdict = [0u8; 512];
-    text_answer::answered(
-        t,
-        guess,
-        numbers,
-        minutes,
-        &mut grid[..points],
-        &mut support[..points],
-        &mut verdict[..t.stations],
-        out,
-    )
-}
 
 // The answer to what was read. A request's first guess is the front of what was lent.
 fn reply_to_read(
@@ -56,7 +26,7 @@ fn reply_to_read(
         RequestRead::Value(h, stations) => {
             let points = (h.ny as usize) * (h.nx as usize);
             let t = text_head::terms_read(h, stations, radius, limit);
-            reply_to(t, &guess[..points], numbers, minutes, out)
+            text_answer::reply_to(t, &guess[..points], numbers, minutes, out)
         }
     }
 }
