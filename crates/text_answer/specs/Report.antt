@@ -5,8 +5,8 @@ use native.Mathlib.Nat.{mul-comm}
 use mathlib.Core.Path.{_≡_, refl, sym, ap, subst, _∙_}
 use mathlib.Core.List.{List, [], _∷_, _++_}
 use borrow.Author.Tests.{le-leb, le-ltb}
-use lib.ListN.{length, drop, length-append, length-map}
-use lib.Seq.{sets-eq}
+use lib.ListN.{length, take, drop, length-append, length-map}
+use lib.Seq.{sets-eq, length-take-le}
 use Rattle.lists.specs.First.{Found, nowhere, at}
 use Rattle.lists.specs.Members.{All, none, more}
 use Rattle.scheme.specs.Units.{Station, mostScans, Request}
@@ -168,3 +168,8 @@ module _ (q : Request) (formed : Formed q) where
           support = sym (s ∙ fits .support-long ∙ e);
           all = λ zero. omega (arith, accepted-short zero);
         }
+
+-- ---- what is lent
+
+pub front-long : {A : Type 0} (n m : ℕ) (l : List A) → n ≤ m → m ≤ length l → n ≡ length (take n l)
+front-long n m l h k = sym (length-take-le n l (omega arith))

@@ -27,8 +27,8 @@ fn tell(
     text_print::analysis_text(out, 0, nx, ny, grid, support, verdict)
 }
 
-// The answer to a request, at the start of out; how many bytes it has. The analysis goes into grid, support and verdict.
-pub fn answered(
+// The answer to a request. The analysis goes into grid, support and verdict.
+fn answered(
     t: Terms,
     guess: &[i32],
     numbers: &[[i32; 3]; 512],
@@ -43,4 +43,31 @@ pub fn answered(
 {
     let refused = analysis::settled(t, guess, numbers, minutes, grid, support, verdict);
     tell(refused, t.nx, t.ny, grid, support, verdict, out)
+}
+
+// The answer to a request, at the start of out; how many bytes it has. Here is room for the result.
+pub fn reply_to(
+    t: Terms,
+    guess: &[i32],
+    numbers: &[[i32; 3]; 512],
+    minutes: &[[u32; 3]; 512],
+    out: &mut [u8],
+) -> usize
+    requires { ⌜ Formed (requestIn t (now guess) (now numbers) (now minutes)) × (length (now out) ≡ mostBytes) ⌝ }
+    ensures { λ r. ⌜ Stands (replyText (requestIn t (now (guess .entry)) (now (numbers .entry)) (now (minutes .entry)))) (now (out .entry)) r (now (out .exit)) ⌝ }
+{
+    let points = t.nx * t.ny;
+    let mut grid = [0i32; 4096];
+    let mut support = [0u8; 4096];
+    let mut verdict = [0u8; 512];
+    answered(
+        t,
+        guess,
+        numbers,
+        minutes,
+        &mut grid[..points],
+        &mut support[..points],
+        &mut verdict[..t.stations],
+        out,
+    )
 }

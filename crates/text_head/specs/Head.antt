@@ -5,12 +5,14 @@ use mathlib.Core.Bool.{Bool}
 use mathlib.Core.List.{List}
 use lib.Dec.{eqb}
 use lib.ListN.{drop}
+use lib.IntN.{ℤ}
 use Rattle.scheme.specs.Units.{leastSide, mostSide, mostScans, Request}
 use Rattle.scheme.specs.Text.{defaultAge}
 use Rattle.scheme.specs.Text.Reader.{fails, _>>=_, gives, _or_}
 use Rattle.scheme.specs.Text.Lines.{gridLine}
 use Rattle.scheme.specs.Text.Order.{Text, line}
 use Rattle.scheme.specs.RoundTrip.{timeLine, ageLine, smoothLine, scansLine}
+use Rattle.request.specs.declared.Terms.{Terms}
 use Rattle.text_head.specs.declared.Head.{Head}
 use Rattle.text_head.specs.declared.HeadRead.{HeadRead}
 use Rattle.text_head.specs.declared.HeadRead.the-variants.{Value as HeadValue, NotInForm as NotHead}
@@ -46,3 +48,8 @@ pub record HeadIs (s : List ℕ) (h : Head) : Type 0 where
 abbrev pub Heads : List ℕ → HeadRead → Type 0
 Heads s (HeadValue h) = HeadIs s h
 Heads s (NotHead k) = (next : (nx ny time age : ℕ) → Bool → (scans : ℕ) → Text Request) → headThen next (1, s) ≡ fails k
+
+-- a request whose head was read, as terms
+abbrev pub termsRead : Head → ℕ → (radius limit : List ℤ) → Terms
+termsRead h n radius limit =
+    record { nx = h .nx; ny = h .ny; stations = n; scans = h .scans; radius = radius; limit = limit; smooth = h .smooth; time = h .time; age = h .age }

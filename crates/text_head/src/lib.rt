@@ -3,7 +3,8 @@ ghost use mathlib.Core.Path.{_≡_};
 ghost use Prim.Native.Nat.{_≤_};
 ghost use lib.ListN.{drop};
 ghost use Rattle.scheme.specs.Text.Reader.{reads};
-ghost use Rattle.text_head.specs.Head.{ageOr, Heads};
+ghost use Rattle.text_head.specs.Head.{ageOr, Heads, termsRead};
+use request::Terms;
 use text_lines::SizeRead;
 use text_pieces::UnsignedRead;
 
@@ -83,4 +84,21 @@ pub fn head_lines(s: &[u8]) -> HeadRead
         next,
     };
     HeadRead::Value(h)
+}
+
+// A request whose head was read, as terms.
+pub fn terms_read(h: Head, stations: u32, radius: [i32; 6], limit: [i32; 6]) -> Terms
+    ensures { λ t. ⌜ t ≡ termsRead h stations radius limit ⌝ }
+{
+    Terms {
+        nx: h.nx as usize,
+        ny: h.ny as usize,
+        stations: stations as usize,
+        scans: h.scans as usize,
+        radius,
+        limit,
+        smooth: h.smooth,
+        time: h.time,
+        age: h.age,
+    }
 }

@@ -9,7 +9,7 @@ use lib.Seq.{take-suc-set, take-all}
 use lib.IntN.{ℤ}
 use Rattle.scheme.specs.Text.Reader.{fails, reads, onward, gives, _before_}
 use Rattle.scheme.specs.Text.Pieces.{Piece, word, signed, mark, values}
-use Rattle.text_pieces.specs.Told.{Parsed}
+use Rattle.text_pieces.specs.Told.{Parsed, follows, before-told}
 
 -- a value that has so many after it
 abbrev pub cell : ℕ → Piece ℤ
@@ -18,6 +18,10 @@ cell more = signed before word (mark more ∷ [])
 pub some-left : (more : ℕ) → (more ≡ 0 → ⊥) → mark more ≡ 44
 some-left zero h = absurd (h refl)
 some-left (suc more) h = refl
+
+-- such a value, as code reads it
+pub cell-told : {m r v : Parsed ℤ} (more b : ℕ) (bs : List ℕ) → b ≡ mark more → signed bs ≡ m → follows m (word (b ∷ [])) ≡ r → r ≡ v → cell more bs ≡ v
+cell-told more b bs e f g h = ap (λ (x : ℕ). (signed before word (x ∷ [])) bs) (sym e) ∙ before-told (word (b ∷ [])) f g h
 
 -- values that were read before others
 abbrev pub prefixed : List ℤ → Parsed (List ℤ) → Parsed (List ℤ)

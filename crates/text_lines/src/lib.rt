@@ -31,26 +31,20 @@ pub enum EntryRead {
     NotInForm,
 }
 
-// ---- a number that has so many after it in its line: a comma follows, or the line feed
+// ---- a number, and the byte that must follow it
 
-fn count_in_line(s: &[u8], at: usize, low: u32, high: u32, more: usize) -> UnsignedRead
-    ensures { λ r. ⌜ ((count low high before word (mark more ∷ [])) (drop at (now (s .entry))) ≡ unsignedTold (now (s .entry)) r) × Within low high r ⌝ }
+fn count_in_line(s: &[u8], at: usize, low: u32, high: u32, mark: u8) -> UnsignedRead
+    ensures { λ r. ⌜ ((count low high before word (mark ∷ [])) (drop at (now (s .entry))) ≡ unsignedTold (now (s .entry)) r) × Within low high r ⌝ }
 {
     let n = text_pieces::count_at(s, at, low, high);
-    if more == 0 {
-        return text_pieces::unsigned_before(s, n, b"\n");
-    }
-    text_pieces::unsigned_before(s, n, b",")
+    text_pieces::unsigned_before(s, n, mark)
 }
 
-fn signed_in_line(s: &[u8], at: usize, more: usize) -> SignedRead
-    ensures { λ r. ⌜ (signed before word (mark more ∷ [])) (drop at (now (s .entry))) ≡ signedTold (now (s .entry)) r ⌝ }
+fn signed_in_line(s: &[u8], at: usize, mark: u8) -> SignedRead
+    ensures { λ r. ⌜ (signed before word (mark ∷ [])) (drop at (now (s .entry))) ≡ signedTold (now (s .entry)) r ⌝ }
 {
     let v = text_pieces::signed_at(s, at);
-    if more == 0 {
-        return text_pieces::signed_before(s, v, b"\n");
-    }
-    text_pieces::signed_before(s, v, b",")
+    text_pieces::signed_before(s, v, mark)
 }
 
 // ---- lines
@@ -62,7 +56,7 @@ pub fn number_line(s: &[u8], at: usize, key: &[u8], low: u32, high: u32) -> Unsi
     let WordRead::At(p) = text_pieces::word_at(s, at, key) else {
         return UnsignedRead::NotInForm;
     };
-    count_in_line(s, p, low, high, 0)
+    count_in_line(s, p, low, high, b'\n')
 }
 
 pub fn grid_line(s: &[u8], at: usize) -> SizeRead
@@ -71,10 +65,10 @@ pub fn grid_line(s: &[u8], at: usize) -> SizeRead
     let WordRead::At(p) = text_pieces::word_at(s, at, b"grid=") else {
         return SizeRead::NotInForm;
     };
-    let UnsignedRead::Value(nx, q) = count_in_line(s, p, 2, 64, 1) else {
+    let UnsignedRead::Value(nx, q) = count_in_line(s, p, 2, 64, b',') else {
         return SizeRead::NotInForm;
     };
-    let UnsignedRead::Value(ny, next) = count_in_line(s, q, 2, 64, 0) else {
+    let UnsignedRead::Value(ny, next) = count_in_line(s, q, 2, 64, b'\n') else {
         return SizeRead::NotInForm;
     };
     SizeRead::Value(nx, ny, next)
@@ -86,10 +80,10 @@ pub fn scan_line(s: &[u8], at: usize) -> EntryRead
     let WordRead::At(p) = text_pieces::word_at(s, at, b"scan=") else {
         return EntryRead::NotInForm;
     };
-    let SignedRead::Value(radius, q) = signed_in_line(s, p, 1) else {
+    let SignedRead::Value(radius, q) = signed_in_line(s, p, b',') else {
         return EntryRead::NotInForm;
     };
-    let SignedRead::Value(limit, next) = signed_in_line(s, q, 0) else {
+    let SignedRead::Value(limit, next) = signed_in_line(s, q, b'\n') else {
         return EntryRead::NotInForm;
     };
     EntryRead::Value(radius, limit, next)
@@ -123,13 +117,13 @@ fn numbers_at(s: &[u8], at: usize, k: usize, numbers: &mut [[i32; 3]; 512]) -> W
     let WordRead::At(p) = text_pieces::word_at(s, at, b"st=") else {
         return WordRead::NotInForm;
     };
-    let SignedRead::Value(x, q) = signed_in_line(s, p, 1) else {
+    let SignedRead::Value(x, q) = signed_in_line(s, p, b',') else {
         return WordRead::NotInForm;
     };
-    let SignedRead::Value(y, u) = signed_in_line(s, q, 1) else {
+    let SignedRead::Value(y, u) = signed_in_line(s, q, b',') else {
         return WordRead::NotInForm;
     };
-    let SignedRead::Value(value, next) = text_pieces::signed_before(s, observation_at(s, u), b",")
+    let SignedRead::Value(value, next) = text_pieces::signed_before(s, observation_at(s, u), b',')
     else {
         return WordRead::NotInForm;
     };
@@ -143,13 +137,13 @@ fn minutes_at(s: &[u8], at: usize, k: usize, minutes: &mut [[u32; 3]; 512]) -> W
     requires { ⌜ (k < mostStations) × (length (now minutes) ≡ mostStations) ⌝ }
     ensures { λ r. ⌜ RowIs stationMinutes (now (s .entry)) at k (now (minutes .entry)) (now (minutes .exit)) r ⌝ }
 {
-    let UnsignedRead::Value(observed, p) = count_in_line(s, at, 0, 4294967295, 1) else {
+    let UnsignedRead::Value(observed, p) = count_in_line(s, at, 0, 4294967295, b',') else {
         return WordRead::NotInForm;
     };
-    let UnsignedRead::Value(from, q) = count_in_line(s, p, 0, 4294967295, 1) else {
+    let UnsignedRead::Value(from, q) = count_in_line(s, p, 0, 4294967295, b',') else {
         return WordRead::NotInForm;
     };
-    let UnsignedRead::Value(until, next) = text_pieces::unsigned_before(s, end_at(s, q), b"\n")
+    let UnsignedRead::Value(until, next) = text_pieces::unsigned_before(s, end_at(s, q), b'\n')
     else {
         return WordRead::NotInForm;
     };
@@ -175,6 +169,13 @@ pub fn station_line(
     minutes_at(s, p, k, minutes)
 }
 
+// What follows a value that has so many after it.
+fn mark_of(more: usize) -> u8
+    ensures { λ r. ⌜ r ≡ mark more ⌝ }
+{
+    if more == 0 { b'\n' } else { b',' }
+}
+
 // As many values as z is long, into z.
 fn values_at(s: &[u8], at: usize, z: &mut [i32]) -> WordRead
     ensures { λ r. ⌜ values (length (now (z .entry))) (drop at (now (s .entry))) ≡ valuesTold (now (s .entry)) (now (z .exit)) r ⌝ }
@@ -182,7 +183,9 @@ fn values_at(s: &[u8], at: usize, z: &mut [i32]) -> WordRead
     let mut p = at;
     let mut i: usize = 0;
     while i < z.len() {
-        let SignedRead::Value(v, next) = signed_in_line(s, p, z.len() - 1 - i) else {
+        let n = text_pieces::signed_at(s, p);
+        let mark = mark_of(z.len() - 1 - i);
+        let SignedRead::Value(v, next) = text_pieces::signed_before(s, n, mark) else {
             return WordRead::NotInForm;
         };
         z[i] = v;

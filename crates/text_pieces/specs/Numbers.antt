@@ -7,7 +7,7 @@ use mathlib.Core.Bool.{Bool, true, false, and-false}
 use mathlib.Core.Logic.{_⊎_, inl, inr}
 use mathlib.Core.List.{List, [], _∷_}
 use borrow.Author.Tests.{le-leb, lt-leb, leb-true}
-use lib.Dec.{leb, lit<}
+use lib.Dec.{leb}
 use lib.Pow.{pow-pos}
 use lib.IntN.{pos, negℤ, _-ℤ_, +ℤ-idl}
 use lib.ListN.{length, drop, getD, drop-of-length-le}
@@ -23,7 +23,7 @@ use Rattle.text_pieces.specs.declared.NaturalRead.{NaturalRead}
 use Rattle.text_pieces.specs.declared.NaturalRead.the-variants.{Value as Natural, NotInForm as NotNatural}
 use Rattle.text_pieces.specs.declared.UnsignedRead.{UnsignedRead}
 use Rattle.text_pieces.specs.declared.UnsignedRead.the-variants.{Value as Unsigned, NotInForm as NotUnsigned}
-use Rattle.text_pieces.specs.Words.{word-other}
+use Rattle.text_pieces.specs.Words.{byte-other}
 use Rattle.text_pieces.specs.Told.{Parsed, naturalTold, unsignedTold, Lies, most, capped}
 
 -- ---- digits
@@ -93,7 +93,7 @@ module _ (s : List ℕ) (at : ℕ) where
 
   pub natural-other : at < length s → (getD s at 0 ≡ 48 → ⊥) → natural (drop at s) ≡ positive (drop at s)
   unfolding natural
-  natural-other h n = rw (word-other (48 ∷ []) s 0 at (lit< tt) h n, _or_)
+  natural-other h n = rw (byte-other 48 s at h n, _or_)
 
 -- ---- its range
 
@@ -152,7 +152,7 @@ module _ (s : List ℕ) (at : ℕ) where
 
   pub signed-other : at < length s → (getD s at 0 ≡ 45 → ⊥) → count 0 (2 ^ 31 - 1) (drop at s) ≡ fails tt → signed (drop at s) ≡ fails tt
   unfolding signed
-  signed-other h n e = rw (e, _or_, word-other (45 ∷ []) s 0 at (lit< tt) h n)
+  signed-other h n e = rw (e, _or_, byte-other 45 s at h n)
 
   pub negative-count : {n : ℕ} {rest : List ℕ} → onward (positive (drop at s)) (between 0 (2 ^ 31)) ≡ reads n rest → negative (drop at s) ≡ reads (negℤ (pos n)) rest
   unfolding negative

@@ -1,5 +1,6 @@
 // Pieces of a line of the request text (document 01): a word and the numbers of each type, read at a place of the text.
 ghost use mathlib.Core.Path.{_≡_};
+ghost use mathlib.Core.List.{[], _∷_};
 ghost use Prim.Native.Nat.{ℕ, _+_, _-_, _*_, _≤_, min};
 ghost use lib.ListN.{drop};
 ghost use Rattle.scheme.specs.Text.Reader.{reads};
@@ -52,6 +53,19 @@ pub fn word_at(s: &[u8], at: usize, key: &[u8]) -> WordRead
         i += 1;
     }
     WordRead::At(p)
+}
+
+// Exactly this byte.
+fn byte_at(s: &[u8], at: usize, b: u8) -> WordRead
+    ensures { λ r. ⌜ word (b ∷ []) (drop at (now (s .entry))) ≡ wordTold (now (s .entry)) r ⌝ }
+{
+    if s.len() <= at {
+        return WordRead::NotInForm;
+    }
+    if s[at] != b {
+        return WordRead::NotInForm;
+    }
+    WordRead::At(at + 1)
 }
 
 // ---- numbers: decimal, no plus, no leading zero, no -0
@@ -174,27 +188,27 @@ pub fn signed_at(s: &[u8], at: usize) -> SignedRead
     }
 }
 
-// ---- a number, and what must follow it
+// ---- a number, and the byte that must follow it
 
-pub fn unsigned_before(s: &[u8], n: UnsignedRead, mark: &[u8]) -> UnsignedRead
-    ensures { λ r. ⌜ (follows (unsignedTold (now (s .entry)) n) (word (now (mark .entry))) ≡ unsignedTold (now (s .entry)) r) × ((low high : ℕ) → Within low high n → Within low high r) ⌝ }
+pub fn unsigned_before(s: &[u8], n: UnsignedRead, mark: u8) -> UnsignedRead
+    ensures { λ r. ⌜ (follows (unsignedTold (now (s .entry)) n) (word (mark ∷ [])) ≡ unsignedTold (now (s .entry)) r) × ((low high : ℕ) → Within low high n → Within low high r) ⌝ }
 {
     let UnsignedRead::Value(v, at) = n else {
         return UnsignedRead::NotInForm;
     };
-    let WordRead::At(next) = word_at(s, at, mark) else {
+    let WordRead::At(next) = byte_at(s, at, mark) else {
         return UnsignedRead::NotInForm;
     };
     UnsignedRead::Value(v, next)
 }
 
-pub fn signed_before(s: &[u8], n: SignedRead, mark: &[u8]) -> SignedRead
-    ensures { λ r. ⌜ follows (signedTold (now (s .entry)) n) (word (now (mark .entry))) ≡ signedTold (now (s .entry)) r ⌝ }
+pub fn signed_before(s: &[u8], n: SignedRead, mark: u8) -> SignedRead
+    ensures { λ r. ⌜ follows (signedTold (now (s .entry)) n) (word (mark ∷ [])) ≡ signedTold (now (s .entry)) r ⌝ }
 {
     let SignedRead::Value(v, at) = n else {
         return SignedRead::NotInForm;
     };
-    let WordRead::At(next) = word_at(s, at, mark) else {
+    let WordRead::At(next) = byte_at(s, at, mark) else {
         return SignedRead::NotInForm;
     };
     SignedRead::Value(v, next)

@@ -13,11 +13,10 @@ use Rattle.scheme.specs.Units.{mostStations, mostScans}
 use Rattle.scheme.specs.Text.{mostBytes, requestLines, firstTwo, replyText, inForm, answerText}
 use Rattle.scheme.specs.Most.{mostPoints}
 use Rattle.scheme.specs.Accepted.{Formed}
-use Rattle.request.specs.declared.Terms.{Terms}
 use Rattle.request.specs.Tables.{stationIn, requestIn}
 use Rattle.request.specs.Loaded.{Held, same-refusal, same-analysis}
 use Rattle.text_head.specs.declared.Head.{Head}
-use Rattle.text_head.specs.Head.{Limits}
+use Rattle.text_head.specs.Head.{Limits, termsRead}
 use Rattle.text_request.specs.declared.RequestRead.{RequestRead}
 use Rattle.text_request.specs.declared.RequestRead.the-variants.{Value, NotInForm}
 use Rattle.text_request.specs.Whole.{requestRead, requestTold}
@@ -32,12 +31,7 @@ module _ (text : List ℕ) where
   unfolding answerText
   as-read h = rw (le-ltb 65536 (length text) h)
 
--- what was read, as terms
-abbrev pub termsRead : Head → ℕ → (radius limit : List ℤ) → Terms
-termsRead h n radius limit =
-    record { nx = h .nx; ny = h .ny; stations = n; scans = h .scans; radius = radius; limit = limit; smooth = h .smooth; time = h .time; age = h .age }
-
--- its first guess is a front of what was lent
+-- the first guess that was read is a front of what was lent
 pub inside : (h : Head) (guess : List ℤ) → Limits h → length guess ≡ mostPoints → h .ny * h .nx ≤ length guess
 inside h guess limits points = omega (arith, mul-le-mul (limits .few-rows) (limits .few-columns))
 
@@ -108,14 +102,11 @@ module _ (guess radius limit : List ℤ) (numbers : List (List ℤ)) (minutes : 
           same-analysis held,
         )
 
-    pub in-form : (read : RequestRead) (k : ℕ) → read ≡ Value h n k
+    pub in-form : (read : RequestRead) → read ≡ Value h n
         → inForm (requestTold guess radius limit numbers minutes read) ≡ replyText (requestIn (termsRead h n radius limit) front numbers minutes)
-    in-form read k e = rw e same-reply
+    in-form read e = rw e same-reply
 
--- ---- what is lent and what is written
-
-pub front-long : {A : Type 0} (n m : ℕ) (l : List A) → n ≤ m → m ≤ length l → n ≡ length (take n l)
-front-long n m l h k = sym (length-take-le n l (omega arith))
+-- ---- what is written
 
 pub two-fit : (number place room : ℕ) → number < 2 ^ 32 → place < 2 ^ 32 → room ≡ mostBytes → length (firstTwo number place) ≤ room
 two-fit number place room h k e = omega (arith, two-short number place h k)

@@ -3,59 +3,10 @@ ghost use mathlib.Core.Path.{_≡_};
 ghost use lib.ListN.{length};
 ghost use Rattle.scheme.specs.Units.{mostScans};
 ghost use Rattle.scheme.specs.Most.{mostPoints};
-ghost use Rattle.scheme.specs.Text.{mostBytes, requestLines, replyText, inForm};
+ghost use Rattle.scheme.specs.Text.{mostBytes, requestLines, inForm};
 ghost use Rattle.scheme.specs.Promises.{Stands, Replies};
-ghost use Rattle.scheme.specs.Accepted.{Formed};
-ghost use Rattle.request.specs.Tables.{requestIn};
 ghost use Rattle.text_request.specs.Whole.{Fits, requestTold};
-ghost use Rattle.text_reply.specs.Reply.{termsRead};
-use request::Terms;
-use text_head::Head;
 use text_request::RequestRead;
-
-// The answer to a request, at the start of out; how many bytes it has. Here is room for the result.
-fn reply_to(
-    t: Terms,
-    guess: &[i32],
-    numbers: &[[i32; 3]; 512],
-    minutes: &[[u32; 3]; 512],
-    out: &mut [u8],
-) -> usize
-    requires { ⌜ Formed (requestIn t (now guess) (now numbers) (now minutes)) × (length (now out) ≡ mostBytes) ⌝ }
-    ensures { λ r. ⌜ Stands (replyText (requestIn t (now (guess .entry)) (now (numbers .entry)) (now (minutes .entry)))) (now (out .entry)) r (now (out .exit)) ⌝ }
-{
-    let points = t.nx * t.ny;
-    let mut grid = [0i32; 4096];
-    let mut support = [0u8; 4096];
-    let mut verdict = [0u8; 512];
-    text_answer::answered(
-        t,
-        guess,
-        numbers,
-        minutes,
-        &mut grid[..points],
-        &mut support[..points],
-        &mut verdict[..t.stations],
-        out,
-    )
-}
-
-// What was read, as terms.
-fn terms_read(h: Head, stations: u32, radius: [i32; 6], limit: [i32; 6]) -> Terms
-    ensures { λ t. ⌜ t ≡ termsRead h stations radius limit ⌝ }
-{
-    Terms {
-        nx: h.nx as usize,
-        ny: h.ny as usize,
-        stations: stations as usize,
-        scans: h.scans as usize,
-        radius,
-        limit,
-        smooth: h.smooth,
-        time: h.time,
-        age: h.age,
-    }
-}
 
 // The answer to what was read. A request's first guess is the front of what was lent.
 fn reply_to_read(
@@ -72,10 +23,10 @@ fn reply_to_read(
 {
     match read {
         RequestRead::NotInForm(line) => text_print::first_two(out, 0, 9, line),
-        RequestRead::Value(h, stations, _) => {
+        RequestRead::Value(h, stations) => {
             let points = (h.ny as usize) * (h.nx as usize);
-            let t = terms_read(h, stations, radius, limit);
-            reply_to(t, &guess[..points], numbers, minutes, out)
+            let t = text_head::terms_read(h, stations, radius, limit);
+            text_answer::reply_to(t, &guess[..points], numbers, minutes, out)
         }
     }
 }

@@ -20,8 +20,6 @@ use Rattle.text_head.specs.declared.Head.{Head}
 use Rattle.text_head.specs.Head.{headThen, Limits, HeadIs}
 use Rattle.text_request.specs.declared.LinesRead.{LinesRead}
 use Rattle.text_request.specs.declared.LinesRead.the-variants.{Next, NotInForm as NotLines}
-use Rattle.text_request.specs.declared.StationsRead.{StationsRead}
-use Rattle.text_request.specs.declared.StationsRead.the-variants.{Value as StationsValue, NotInForm as NotStations}
 use Rattle.text_request.specs.declared.RequestRead.{RequestRead}
 use Rattle.text_request.specs.declared.RequestRead.the-variants.{Value as RequestValue, NotInForm as NotRequest}
 use Rattle.text_request.specs.Told.{Read, linesTold, entryAt, ScansAre, StationRows}
@@ -75,17 +73,22 @@ pub record GridIs (s : List ℕ) (h : Head) (guess radius limit : List ℤ) (r :
   pub radii : length radius ≡ mostScans
   pub limits : length limit ≡ mostScans
 
-abbrev stationsTold : (List Station → Request) → List (List ℤ) → List (List ℕ) → StationsRead → Read Request
-stationsTold held numbers minutes (StationsValue n k) = reads (held (tab n (stationIn numbers minutes))) (k, [])
-stationsTold held numbers minutes (NotStations k) = fails k
+-- the number of the line after so many stations
+abbrev afterAll : Head → ℕ → ℕ
+afterAll h n = afterGrid h + 1 + n
 
-abbrev Few : StationsRead → Type 0
-Few (StationsValue n k) = n ≤ mostStations
-Few (NotStations k) = Unit {0}
+abbrev stationsTold : Head → (List Station → Request) → List (List ℤ) → List (List ℕ) → RequestRead → Read Request
+stationsTold h held numbers minutes (RequestValue g n) = reads (held (tab n (stationIn numbers minutes))) (afterAll h n, [])
+stationsTold h held numbers minutes (NotRequest k) = fails k
 
-pub record StationsAre (s : List ℕ) (at k : ℕ) (numbers : List (List ℤ)) (minutes : List (List ℕ)) (r : StationsRead) : Type 0 where
-  pub said : (held : List Station → Request) → stationsThen held (k, drop at s) ≡ stationsTold held numbers minutes r
-  pub few : Few r
+-- the head is handed on
+abbrev Few : Head → RequestRead → Type 0
+Few h (RequestValue g n) = (g ≡ h) × (n ≤ mostStations)
+Few h (NotRequest k) = Unit {0}
+
+pub record StationsAre (s : List ℕ) (at : ℕ) (h : Head) (numbers : List (List ℤ)) (minutes : List (List ℕ)) (r : RequestRead) : Type 0 where
+  pub said : (held : List Station → Request) → stationsThen held (afterGrid h, drop at s) ≡ stationsTold h held numbers minutes r
+  pub few : Few h r
 
 -- the request, its lists the fronts of what was lent
 abbrev pub requestRead : List ℤ → List ℤ → List ℤ → List (List ℤ) → List (List ℕ) → Head → ℕ → Request
@@ -93,12 +96,12 @@ requestRead guess radius limit numbers minutes h n =
     asking (h .nx) (h .ny) (take (h .ny * h .nx) guess) (tab n (stationIn numbers minutes)) (h .scans) (take (h .scans) radius) (take (h .scans) limit) (h .smooth) (h .time) (h .age)
 
 abbrev pub requestTold : List ℤ → List ℤ → List ℤ → List (List ℤ) → List (List ℕ) → RequestRead → Read Request
-requestTold guess radius limit numbers minutes (RequestValue h n k) = reads (requestRead guess radius limit numbers minutes h n) (k, [])
+requestTold guess radius limit numbers minutes (RequestValue h n) = reads (requestRead guess radius limit numbers minutes h n) (afterAll h n, [])
 requestTold guess radius limit numbers minutes (NotRequest k) = fails k
 
 -- the fronts lie inside what was lent, and the grid has a side of two at least
 abbrev pub Fits : RequestRead → Type 0
-Fits (RequestValue h n k) = Limits h × (n ≤ mostStations)
+Fits (RequestValue h n) = Limits h × (n ≤ mostStations)
 Fits (NotRequest k) = Unit {0}
 
 -- what follows the head
@@ -154,25 +157,25 @@ surplus : (k q : ℕ) (s : List ℕ) → q < length s → nothingAfter (k, drop 
 unfolding nothingAfter
 surplus k q s h = rw (drop-cons s q 0 h)
 
-module _ (s : List ℕ) (at k : ℕ) (numbers : List (List ℤ)) (minutes : List (List ℕ)) where
-  pub no-count : stationsLine (drop at s) ≡ fails tt → StationsAre s at k numbers minutes (NotStations k)
+module _ (s : List ℕ) (at : ℕ) (h : Head) (numbers : List (List ℤ)) (minutes : List (List ℕ)) where
+  pub no-count : stationsLine (drop at s) ≡ fails tt → StationsAre s at h numbers minutes (NotRequest (afterGrid h))
   no-count e = record { said = λ held. rw (e, line); few = tt }
 
-  module _ (n p : ℕ) (count : stationsLine (drop at s) ≡ reads n (drop p s)) (few : n ≤ mostStations) (r : LinesRead) (is : StationRows s p (k + 1) n numbers minutes r) where
-    counted : (held : List Station → Request) → stationsThen held (k, drop at s) ≡ linesAfter s r (k + 1 + n) (nothingAfter >> gives (held (tab n (stationIn numbers minutes))))
+  module _ (n p : ℕ) (count : stationsLine (drop at s) ≡ reads n (drop p s)) (few : n ≤ mostStations) (r : LinesRead) (is : StationRows s p (afterGrid h + 1) n numbers minutes r) where
+    counted : (held : List Station → Request) → stationsThen held (afterGrid h, drop at s) ≡ linesAfter s r (afterAll h n) (nothingAfter >> gives (held (tab n (stationIn numbers minutes))))
     counted held =
-        rw (count, line, ← add-one k)
-        (part s r p (k + 1) (k + 1 + n) (lines n stationLine) (tab n (stationIn numbers minutes)) (λ stations. nothingAfter >> gives (held stations)) (is .said))
+        rw (count, line, ← add-one (afterGrid h))
+        (part s r p (afterGrid h + 1) (afterAll h n) (lines n stationLine) (tab n (stationIn numbers minutes)) (λ stations. nothingAfter >> gives (held stations)) (is .said))
 
-    pub no-station : (j : ℕ) → r ≡ NotLines j → StationsAre s at k numbers minutes (NotStations j)
+    pub no-station : (j : ℕ) → r ≡ NotLines j → StationsAre s at h numbers minutes (NotRequest j)
     no-station j e = record { said = λ held. rw e at (counted held); few = tt }
 
     module _ (q : ℕ) (e : r ≡ Next q) where
-      pub too-long : q < length s → StationsAre s at k numbers minutes (NotStations (k + 1 + n))
-      too-long h = record { said = λ held. (rw e at (counted held)) ∙ rw (surplus (k + 1 + n) q s h); few = tt }
+      pub too-long : q < length s → StationsAre s at h numbers minutes (NotRequest (afterAll h n))
+      too-long l = record { said = λ held. (rw e at (counted held)) ∙ rw (surplus (afterAll h n) q s l); few = tt }
 
-      pub stations-are : length s ≤ q → StationsAre s at k numbers minutes (StationsValue n (k + 1 + n))
-      stations-are h = record { said = λ held. (rw e at (counted held)) ∙ rw (nothing-left (k + 1 + n) q s h); few = few }
+      pub stations-are : length s ≤ q → StationsAre s at h numbers minutes (RequestValue h n)
+      stations-are l = record { said = λ held. (rw e at (counted held)) ∙ rw (nothing-left (afterAll h n) q s l); few = (refl, few) }
 
 -- ---- the whole
 
@@ -198,21 +201,19 @@ module _ (s : List ℕ) (h : Head) (guess radius limit : List ℤ) (numbers : Li
   pub no-grid : (k : ℕ) → r ≡ NotLines k → BodyIs s h guess radius limit numbers minutes (NotRequest k)
   no-grid k e = record { said = rw e at begun; fits = tt; radii = grid .radii; limits = grid .limits }
 
-  module _ (p : ℕ) (e : r ≡ Next p) (end : StationsRead) (stations : StationsAre s p (afterGrid h) numbers minutes end) where
-    ended : middleOf h (h .line, drop (h .next) s) ≡ stationsTold held numbers minutes end
-    ended = (rw e at begun) ∙ stations .said held
+  ended : (end : RequestRead) → middleOf h (h .line, drop (h .next) s) ≡ stationsTold h held numbers minutes end → Few h end → BodyIs s h guess radius limit numbers minutes end
+  ended (NotRequest k) f few = record { said = f; fits = tt; radii = grid .radii; limits = grid .limits }
+  ended (RequestValue g n) f (same, few) =
+      rw same
+      record {
+        said = f ∙ ap (λ (q : Request). reads q (afterAll h n, [])) (held-is n);
+        fits = (limits, few);
+        radii = grid .radii;
+        limits = grid .limits;
+      }
 
-    pub no-stations : (k : ℕ) → end ≡ NotStations k → BodyIs s h guess radius limit numbers minutes (NotRequest k)
-    no-stations k f = record { said = rw f at ended; fits = tt; radii = grid .radii; limits = grid .limits }
-
-    pub body-is : (n k : ℕ) → end ≡ StationsValue n k → BodyIs s h guess radius limit numbers minutes (RequestValue h n k)
-    body-is n k f =
-        record {
-          said = (rw f at ended) ∙ ap (λ (q : Request). reads q (k, [])) (held-is n);
-          fits = (limits, rw f at (stations .few));
-          radii = grid .radii;
-          limits = grid .limits;
-        }
+  pub body-is : (p : ℕ) → r ≡ Next p → (end : RequestRead) → StationsAre s p h numbers minutes end → BodyIs s h guess radius limit numbers minutes end
+  body-is p e end stations = ended end ((rw e at begun) ∙ stations .said held) (stations .few)
 
 module _ (s : List ℕ) (guess radius limit : List ℤ) (numbers : List (List ℤ)) (minutes : List (List ℕ)) where
   pub no-head : (k : ℕ) → ((next : (nx ny time age : ℕ) → Bool → (scans : ℕ) → Text Request) → headThen next (1, s) ≡ fails k)

@@ -21,15 +21,9 @@ enum LinesRead {
     NotInForm(u32),
 }
 
-// How many stations there are, and the number of the line after the last; or the first line not in form.
-enum StationsRead {
-    Value(u32, u32),
-    NotInForm(u32),
-}
-
-// What the head says, how many stations there are, and the number of the line after the last; or the first line not in form.
+// What the head says and how many stations there are, or the first line not in form.
 pub enum RequestRead {
-    Value(Head, u32, u32),
+    Value(Head, u32),
     NotInForm(u32),
 }
 
@@ -122,27 +116,28 @@ fn grid_lines(
     }
 }
 
-// The stations, whose count is line number line, and nothing after them.
+// The stations, in the lines after the first guess, and nothing after them.
 fn stations_at(
     s: &[u8],
     at: usize,
-    line: u32,
+    h: Head,
     numbers: &mut [[i32; 3]; 512],
     minutes: &mut [[u32; 3]; 512],
-) -> StationsRead
-    requires { ⌜ (line + 513 < 2 ^ 32) × (length (now numbers) ≡ mostStations) × (length (now minutes) ≡ mostStations) ⌝ }
-    ensures { λ r. ⌜ StationsAre (now (s .entry)) at line (now (numbers .exit)) (now (minutes .exit)) r ⌝ }
+) -> RequestRead
+    requires { ⌜ Limits h × (length (now numbers) ≡ mostStations) × (length (now minutes) ≡ mostStations) ⌝ }
+    ensures { λ r. ⌜ StationsAre (now (s .entry)) at h (now (numbers .exit)) (now (minutes .exit)) r ⌝ }
 {
+    let line = h.line + h.scans + h.ny;
     let UnsignedRead::Value(count, p) = text_lines::number_line(s, at, b"stations=", 0, 512) else {
-        return StationsRead::NotInForm(line);
+        return RequestRead::NotInForm(line);
     };
     match station_lines(s, p, line + 1, count as usize, numbers, minutes) {
-        LinesRead::NotInForm(k) => StationsRead::NotInForm(k),
+        LinesRead::NotInForm(k) => RequestRead::NotInForm(k),
         LinesRead::Next(next) => {
             if next < s.len() {
-                return StationsRead::NotInForm(line + 1 + count);
+                return RequestRead::NotInForm(line + 1 + count);
             }
-            StationsRead::Value(count, line + 1 + count)
+            RequestRead::Value(h, count)
         }
     }
 }
@@ -162,10 +157,7 @@ fn body(
 {
     match grid_lines(s, h, guess, radius, limit) {
         LinesRead::NotInForm(k) => RequestRead::NotInForm(k),
-        LinesRead::Next(p) => match stations_at(s, p, h.line + h.scans + h.ny, numbers, minutes) {
-            StationsRead::NotInForm(k) => RequestRead::NotInForm(k),
-            StationsRead::Value(count, line) => RequestRead::Value(h, count, line),
-        },
+        LinesRead::Next(p) => stations_at(s, p, h, numbers, minutes),
     }
 }
 

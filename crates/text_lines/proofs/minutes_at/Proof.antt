@@ -64,9 +64,6 @@ returns-2 c =
 end-at-requires : tie.Need-end-at-requires
 end-at-requires c κs = search needs
 
-slice-aggregate-unsigned-before : tie.Need-slice-aggregate-unsigned-before
-slice-aggregate-unsigned-before c = search needs
-
 unsigned-before-requires : tie.Need-unsigned-before-requires
 unsigned-before-requires c κs = search needs
 
@@ -79,14 +76,14 @@ enum-told-3 c = search needs
 returns-3 : tie.Need-returns-3
 unfolding stationMinutes
 returns-3 c =
-    let m = c .before .before .before .before .before .before in
+    let m = c .before .before .before .before .before in
     let k = after-observed m in
     let s = start k in
     no-row stationMinutes (s .args .s .now) (s .args .at) (s .args .k) (s .args .minutes .now) (s .pre .1)
     (rw (
       observed-read k,
       from-read m,
-      before-told lineFeed (c .before .before .before .before .end-at .ensures) (c .before .before .unsigned-before .ensures .0) (ap (unsignedTold (text k)) (c .enum-told3 .given .1)),
+      before-told lineFeed (c .before .before .before .end-at .ensures) (c .before .before .unsigned-before .ensures .0) (ap (unsignedTold (text k)) (c .enum-told3 .given .1)),
     ))
 
 mul-row : tie.Need-mul-row
@@ -99,14 +96,14 @@ returns-4 : tie.Need-returns-4
 unfolding stationMinutes
 returns-4 c =
     let n = c .before in
-    let m = n .before .before .before .before .before .before in
+    let m = n .before .before .before .before .before in
     let k = after-observed m in
     let s = start k in
     row-read stationMinutes (text k) (s .args .at) (s .args .k) (s .args .minutes .now) (s .pre .1) (k .observed .given .0 .0 ∷ m .from .given .0 .0 ∷ n .until .given .0 .0 ∷ []) (n .until .given .0 .1 .0) (s .pre .0)
     (rw (
       observed-read k,
       from-read m,
-      before-told lineFeed (n .before .before .before .before .end-at .ensures) (n .before .before .unsigned-before .ensures .0) (ap (unsignedTold (text k)) (n .until .given .1)),
+      before-told lineFeed (n .before .before .before .end-at .ensures) (n .before .before .unsigned-before .ensures .0) (ap (unsignedTold (text k)) (n .until .given .1)),
     ))
 
 pub minutes-at-spec : {M : Type 1} → statement M
@@ -122,7 +119,6 @@ minutes-at-spec =
     enum-told-2
     returns-2
     end-at-requires
-    slice-aggregate-unsigned-before
     unsigned-before-requires
     enum-known-until
     enum-told-3

@@ -91,9 +91,6 @@ returns-3 c =
 observation-at-requires : tie.Need-observation-at-requires
 observation-at-requires c κs = search needs
 
-slice-aggregate-signed-before : tie.Need-slice-aggregate-signed-before
-slice-aggregate-signed-before c = search needs
-
 signed-before-requires : tie.Need-signed-before-requires
 signed-before-requires c κs = search needs
 
@@ -106,7 +103,7 @@ enum-told-4 c = search needs
 returns-4 : tie.Need-returns-4
 unfolding stationNumbers
 returns-4 c =
-    let m = c .before .before .before .before .before .before in
+    let m = c .before .before .before .before .before in
     let k = after-p (after-x m) in
     let s = start k in
     no-row stationNumbers (s .args .s .now) (s .args .at) (s .args .k) (s .args .numbers .now) (s .pre .1)
@@ -114,7 +111,7 @@ returns-4 c =
       key-read k,
       x-read (after-x m),
       y-read m,
-      before-told comma (c .before .before .before .before .observation-at .ensures) (c .before .before .signed-before .ensures) (ap (signedTold (text k)) (c .enum-told4 .given .1)),
+      before-told comma (c .before .before .before .observation-at .ensures) (c .before .before .signed-before .ensures) (ap (signedTold (text k)) (c .enum-told4 .given .1)),
     ))
 
 mul-row : tie.Need-mul-row
@@ -127,12 +124,12 @@ returns-5 : tie.Need-returns-5
 unfolding stationNumbers
 returns-5 c =
     let n = c .before in
-    let m = n .before .before .before .before .before .before in
+    let m = n .before .before .before .before .before in
     let l = after-x m in
     let k = after-p l in
     let s = start k in
     let x : SFits w32 (l .x .given .0 .0) = record { sfits = m .before .before .before .known-told2 .given .0 .1 } in
-    let y : SFits w32 (m .y .given .0 .0) = record { sfits = n .before .before .before .before .before .known-told3 .given .0 .1 } in
+    let y : SFits w32 (m .y .given .0 .0) = record { sfits = n .before .before .before .before .known-told3 .given .0 .1 } in
     let v : SFits w32 (n .value .given .0 .0) = record { sfits = c .known-told4 .given .0 .1 } in
     rw (toZ-ofZ x, toZ-ofZ y, toZ-ofZ v)
     (row-read stationNumbers (text k) (s .args .at) (s .args .k) (s .args .numbers .now) (s .pre .1) (l .x .given .0 .0 ∷ m .y .given .0 .0 ∷ n .value .given .0 .0 ∷ []) (n .value .given .0 .1 .0) (s .pre .0)
@@ -140,7 +137,7 @@ returns-5 c =
       key-read k,
       x-read l,
       y-read m,
-      before-told comma (n .before .before .before .before .observation-at .ensures) (n .before .before .signed-before .ensures) (ap (signedTold (text k)) (n .value .given .1)),
+      before-told comma (n .before .before .before .observation-at .ensures) (n .before .before .signed-before .ensures) (ap (signedTold (text k)) (n .value .given .1)),
     )))
 
 pub numbers-at-spec : {M : Type 1} → statement M
@@ -161,7 +158,6 @@ numbers-at-spec =
     enum-told-3
     returns-3
     observation-at-requires
-    slice-aggregate-signed-before
     signed-before-requires
     enum-known-value
     enum-told-4

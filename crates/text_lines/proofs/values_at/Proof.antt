@@ -9,7 +9,7 @@ use mir.Val.{SFits}
 use mir.Facts.{toZ-ofZ}
 use Rattle.scheme.specs.Text.Pieces.{values}
 use Rattle.text_pieces.specs.Told.{signedTold}
-use Rattle.text_lines.specs.Values.{prefixed, values-turn, values-off, values-begin, values-done}
+use Rattle.text_lines.specs.Values.{cell-told, prefixed, values-turn, values-off, values-begin, values-done}
 use Rattle.text_lines.proofs.values_at.Statement.{statement}
 use Rattle.text_lines.proofs.values_at.Tie as tie
 
@@ -22,14 +22,20 @@ abbrev μ-loop : tie.MeasureT-loop
 loop-holds : tie.Need-loop-holds Inv-loop μ-loop
 loop-holds c = let a = c .before .args in (omega arith, refl, values-begin (length (a .z .now)) (drop (a .at) (a .s .now)) (a .z .now))
 
-sub-signed-in-line : tie.Need-sub-signed-in-line Inv-loop μ-loop
-sub-signed-in-line c = search needs
+signed-at-requires : tie.Need-signed-at-requires Inv-loop μ-loop
+signed-at-requires c κs = search needs
 
-sub-signed-in-line-2 : tie.Need-sub-signed-in-line-2 Inv-loop μ-loop
-sub-signed-in-line-2 c = search needs
+sub-mark-of : tie.Need-sub-mark-of Inv-loop μ-loop
+sub-mark-of c = search needs
 
-signed-in-line-requires : tie.Need-signed-in-line-requires Inv-loop μ-loop
-signed-in-line-requires c κs = search needs
+sub-mark-of-2 : tie.Need-sub-mark-of-2 Inv-loop μ-loop
+sub-mark-of-2 c = search needs
+
+mark-of-requires : tie.Need-mark-of-requires Inv-loop μ-loop
+mark-of-requires c κs = search needs
+
+signed-before-requires : tie.Need-signed-before-requires Inv-loop μ-loop
+signed-before-requires c κs = search needs
 
 enum-known-v : tie.Need-enum-known-v Inv-loop μ-loop
 enum-known-v c = search needs
@@ -38,14 +44,15 @@ enum-told : tie.Need-enum-told Inv-loop μ-loop
 enum-told c = search needs
 
 same-length : tie.Need-same-length Inv-loop μ-loop
-same-length c = c .before .before .before .before .loop .inv .1
+same-length c = c .before .before .before .before .before .before .loop .inv .1
 
 returns : tie.Need-returns Inv-loop μ-loop
 returns c =
-    let l = c .before .before .before .before in
+    let m = c .before .before .before .mark-of in
+    let l = c .before .before .before .before .before .before in
     let a = l .before .before .args in
     values-off (a .s .now) (drop (a .at) (a .s .now)) (length (a .z .now)) (l .loop .i) (l .loop .p) (l .loop .z) (l .loop .inv .1) (omega arith) (l .loop .inv .2)
-    (c .before .before .signed-in-line .ensures ∙ ap (signedTold (a .s .now)) (c .enum-told .given .1))
+    (cell-told (length (l .loop .z) - 1 - l .loop .i) (m .result) (drop (l .loop .p) (a .s .now)) (m .ensures) (c .before .before .before .before .signed-at .ensures) (c .before .before .signed-before .ensures) (ap (signedTold (a .s .now)) (c .enum-told .given .1)))
 
 mul-v : tie.Need-mul-v Inv-loop μ-loop
 mul-v c = search needs
@@ -61,7 +68,8 @@ loop-less c = simp length-set (omega arith)
 
 loop-again : tie.Need-loop-again Inv-loop μ-loop
 loop-again c =
-    let l = c .before .before .before .before .before in
+    let m = c .before .before .before .before .mark-of in
+    let l = c .before .before .before .before .before .before .before in
     let a = l .before .before .args in
     let v = c .before .v .given in
     let f : SFits w32 (v .0 .0) = record { sfits = c .known-told .given .0 .1 } in
@@ -70,7 +78,7 @@ loop-again c =
       omega (arith, e),
       e ∙ l .loop .inv .1,
       values-turn (a .s .now) (drop (a .at) (a .s .now)) (length (a .z .now)) (l .loop .i) (l .loop .p) (l .loop .z) (l .loop .inv .1) (omega arith) (l .loop .inv .2)
-          (v .0 .1 .0) (v .0 .0) (c .before .before .before .signed-in-line .ensures ∙ ap (signedTold (a .s .now)) (v .1)),
+          (v .0 .1 .0) (v .0 .0) (cell-told (length (l .loop .z) - 1 - l .loop .i) (m .result) (drop (l .loop .p) (a .s .now)) (m .ensures) (c .before .before .before .before .before .signed-at .ensures) (c .before .before .before .signed-before .ensures) (ap (signedTold (a .s .now)) (v .1))),
     )
 
 same-length-2 : tie.Need-same-length-2 Inv-loop μ-loop
@@ -89,9 +97,11 @@ values-at-spec =
     Inv-loop
     μ-loop
     loop-holds
-    sub-signed-in-line
-    sub-signed-in-line-2
-    signed-in-line-requires
+    signed-at-requires
+    sub-mark-of
+    sub-mark-of-2
+    mark-of-requires
+    signed-before-requires
     enum-known-v
     enum-told
     same-length

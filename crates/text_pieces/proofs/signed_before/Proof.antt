@@ -17,8 +17,8 @@ enum-told c = search needs
 returns : tie.Need-returns
 returns c = search needs
 
-word-at-requires : tie.Need-word-at-requires
-word-at-requires c κs = search needs
+byte-at-requires : tie.Need-byte-at-requires
+byte-at-requires c κs = search needs
 
 enum-known-next : tie.Need-enum-known-next
 enum-known-next c = search needs
@@ -28,15 +28,15 @@ enum-told-2 c = search needs
 
 returns-2 : tie.Need-returns-2
 returns-2 c =
-    let a = c .before .before .before .before .before .before .before .before .args in
-    rw (c .before .before .before .before .n .given .1, c .before .before .word-at .ensures ∙ ap (wordTold (a .s .now)) (c .enum-told2 .given .1))
+    let a = c .before .before .before .before .before .before .before .args in
+    rw (c .before .before .before .before .n .given .1, c .before .before .byte-at .ensures ∙ ap (wordTold (a .s .now)) (c .enum-told2 .given .1))
 
 returns-3 : tie.Need-returns-3
 returns-3 c =
     let n = c .before .before .before .before .before .n .given in
-    let a = c .before .before .before .before .before .before .before .before .before .args in
+    let a = c .before .before .before .before .before .before .before .before .args in
     let f : SFits w32 (n .0 .0) = record { sfits = c .before .before .before .before .known-told .given .0 .1 } in
-    rw (n .1, toZ-ofZ f, c .before .before .before .word-at .ensures ∙ ap (wordTold (a .s .now)) (c .before .next .given .1))
+    rw (n .1, toZ-ofZ f, c .before .before .before .byte-at .ensures ∙ ap (wordTold (a .s .now)) (c .before .next .given .1))
 
 pub signed-before-spec : {M : Type 1} → statement M
 signed-before-spec =
@@ -45,7 +45,7 @@ signed-before-spec =
     enum-known-n
     enum-told
     returns
-    word-at-requires
+    byte-at-requires
     enum-known-next
     enum-told-2
     returns-2

@@ -14,8 +14,8 @@ enum-told c = search needs
 returns : tie.Need-returns
 returns c = search needs
 
-word-at-requires : tie.Need-word-at-requires
-word-at-requires c κs = search needs
+byte-at-requires : tie.Need-byte-at-requires
+byte-at-requires c κs = search needs
 
 enum-known-next : tie.Need-enum-known-next
 enum-known-next c = search needs
@@ -25,14 +25,14 @@ enum-told-2 c = search needs
 
 returns-2 : tie.Need-returns-2
 returns-2 c =
-    let a = c .before .before .before .before .before .before .before .before .args in
-    (rw (c .before .before .before .before .n .given .1, c .before .before .word-at .ensures ∙ ap (wordTold (a .s .now)) (c .enum-told2 .given .1)), λ low high w. tt)
+    let a = c .before .before .before .before .before .before .before .args in
+    (rw (c .before .before .before .before .n .given .1, c .before .before .byte-at .ensures ∙ ap (wordTold (a .s .now)) (c .enum-told2 .given .1)), λ low high w. tt)
 
 returns-3 : tie.Need-returns-3
 returns-3 c =
     let n = c .before .before .before .before .before .n .given in
-    let a = c .before .before .before .before .before .before .before .before .before .args in
-    (rw (n .1, c .before .before .before .word-at .ensures ∙ ap (wordTold (a .s .now)) (c .before .next .given .1)), λ low high w. subst (Within low high) (n .1) w)
+    let a = c .before .before .before .before .before .before .before .before .args in
+    (rw (n .1, c .before .before .before .byte-at .ensures ∙ ap (wordTold (a .s .now)) (c .before .next .given .1)), λ low high w. subst (Within low high) (n .1) w)
 
 pub unsigned-before-spec : {M : Type 1} → statement M
 unsigned-before-spec =
@@ -41,7 +41,7 @@ unsigned-before-spec =
     enum-known-n
     enum-told
     returns
-    word-at-requires
+    byte-at-requires
     enum-known-next
     enum-told-2
     returns-2

@@ -11,8 +11,8 @@ use Rattle.text_head.specs.declared.Head.{Head}
 use Rattle.text_head.specs.Head.{Limits}
 use Rattle.scheme.specs.Units.{mostStations}
 use Rattle.text_request.specs.Whole.{Fits}
-use Rattle.text_answer.specs.Report.{at-start, stands, stands-as}
-use Rattle.text_reply.specs.Reply.{inside, formed, front-long, two-fit, not-in-form, in-form}
+use Rattle.text_answer.specs.Report.{at-start, stands, stands-as, front-long}
+use Rattle.text_reply.specs.Reply.{inside, formed, two-fit, not-in-form, in-form}
 use Rattle.text_reply.proofs.reply_to_read.Statement.{statement}
 use Rattle.text_reply.proofs.reply_to_read.Tie as tie
 
@@ -86,7 +86,7 @@ returns-2 c =
     let a = s .args in
     let t = c .before .before .before .before .before .terms-read in
     stands-as (a .out .now)
-    (in-form (a .guess .now) (a .radius) (a .limit) (a .numbers .now) (a .minutes .now) (h k) (k .read2 .given .0 .1 .0) (fits k .0) (fits k .1) (s .pre .1) (s .pre .2) (s .pre .3) (a .read) (k .read2 .given .0 .1 .1 .0) (k .read2 .given .1)
+    (in-form (a .guess .now) (a .radius) (a .limit) (a .numbers .now) (a .minutes .now) (h k) (k .read2 .given .0 .1 .0) (fits k .0) (fits k .1) (s .pre .1) (s .pre .2) (s .pre .3) (a .read) (k .read2 .given .1)
     ∙ ap (λ (u : Terms). replyText (requestIn u (take (h k .ny * h k .nx) (a .guess .now)) (a .numbers .now) (a .minutes .now))) (sym (t .ensures)))
     (c .before .before .reply-to .ensures)
 

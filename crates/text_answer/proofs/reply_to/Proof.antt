@@ -1,4 +1,4 @@
--- `text_reply::reply_to` meets its contract: the fronts of the results are as long as the grid and the station list. Assumes nothing.
+-- `text_answer::reply_to` meets its contract: the fronts of the results are as long as the grid and the station list. Assumes nothing.
 use borrow.Author.Needs.{needs}
 use Prim.Native.Nat.{ℕ, _*_, _≤_}
 use native.Mathlib.Omega.{arith}
@@ -10,9 +10,9 @@ use Rattle.lists.specs.Tab.{length-tab}
 use Rattle.scheme.specs.Units.{mostStations}
 use Rattle.scheme.specs.Most.{mostPoints}
 use Rattle.request.specs.Tables.{stationIn}
-use Rattle.text_reply.specs.Reply.{front-long}
-use Rattle.text_reply.proofs.reply_to.Statement.{statement}
-use Rattle.text_reply.proofs.reply_to.Tie as tie
+use Rattle.text_answer.specs.Report.{front-long}
+use Rattle.text_answer.proofs.reply_to.Statement.{statement}
+use Rattle.text_answer.proofs.reply_to.Tie as tie
 
 module _ (s : tie.Start) where
   few-points : s .args .t .nx * s .args .t .ny ≤ mostPoints
