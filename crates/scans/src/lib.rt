@@ -11,6 +11,7 @@ ghost use Rattle.scheme.specs.Most.{mostPoints};
 ghost use Rattle.scheme.specs.Accepted.{Shaped, Sound, Fits};
 ghost use Rattle.request.specs.Tables.{planIn, requestIn};
 ghost use Rattle.scan_smoothing.specs.Pattern.{Small};
+ghost use Rattle.scan_point.specs.Near.{Roomy};
 ghost use Rattle.scans.specs.Scanned.{Scanned};
 ghost use Rattle.scans.specs.Ready.{EntryIn, ScanReady, smoothedIf};
 ghost use Rattle.scans.specs.Run.{Reached};
@@ -109,17 +110,32 @@ fn scan(
     support: &mut [u8],
     verdict: &mut [u8],
     d: &mut [i64; 512],
+    lx: &mut [i32; 512],
+    ly: &mut [u32; 512],
+    ld: &mut [i64; 512],
     t: Terms,
     numbers: &[[i32; 3]; 512],
     m: usize,
     bit: u8,
 )
-    requires { ⌜ ScanReady t (now numbers) m bit (now z) (now support) (now verdict) (now d) ⌝ }
+    requires { ⌜ ScanReady t (now numbers) m bit (now z) (now support) (now verdict) (now d) × Roomy (now lx) (now ly) (now ld) ⌝ }
     ensures { λ u. ⌜ Scanned t (now (numbers .entry)) m (now (z .entry)) (now (support .entry)) (now (verdict .entry)) (now (z .exit)) (now (support .exit)) (now (verdict .exit)) (now (d .exit))
-        × (length (now (d .exit)) ≡ mostStations) ⌝ }
+        × (length (now (d .exit)) ≡ mostStations) × Roomy (now (lx .exit)) (now (ly .exit)) (now (ld .exit)) ⌝ }
 {
     scan_station::judge(z, verdict, d, t, numbers, limit_of(t, m), (m as u8) + 1);
-    scan_point::correct(z, support, verdict, d, t, numbers, radius_of(t, m), bit);
+    scan_point::correct(
+        z,
+        support,
+        verdict,
+        d,
+        t,
+        numbers,
+        lx,
+        ly,
+        ld,
+        radius_of(t, m),
+        bit,
+    );
     smooth_if(z, t);
 }
 
@@ -138,10 +154,25 @@ pub fn run(
 {
     begin(t, guess, numbers, minutes, grid, support, verdict);
     let mut d = [0i64; 512];
+    let mut lx = [0i32; 512];
+    let mut ly = [0u32; 512];
+    let mut ld = [0i64; 512];
     let mut bit: u8 = 1;
     let mut m: usize = 0;
     while m < t.scans {
-        scan(grid, support, verdict, &mut d, t, numbers, m, bit);
+        scan(
+            grid,
+            support,
+            verdict,
+            &mut d,
+            &mut lx,
+            &mut ly,
+            &mut ld,
+            t,
+            numbers,
+            m,
+            bit,
+        );
         bit = bit * 2;
         m += 1;
     }
