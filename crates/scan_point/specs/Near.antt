@@ -2,7 +2,7 @@
 use Prim.Native.Nat.{ℕ, zero, suc, _+_, _*_, _≤_, _<_}
 use native.Mathlib.Omega.{arith}
 use native.Mathlib.Numerals.{add-one}
-use native.Mathlib.Nat.{mul-le-mul-left, zero-add, add-zero, add-comm}
+use native.Mathlib.Nat.{mul-le-mul-left, zero-add, add-zero}
 use mathlib.Core.Path.{_≡_, refl, sym, ap, _∙_}
 use mathlib.Core.Logic.{_⊎_, inl, inr}
 use mathlib.Core.Bool.{Bool, true, false, cond}
@@ -22,7 +22,7 @@ use Rattle.scheme.specs.Correction.{Sums, nothing, plus, gift}
 use Rattle.scheme.specs.Most.{mostAlong, mostSquare}
 use Rattle.scheme.specs.Weights.{weight-most}
 use Rattle.scheme.specs.Gifts.{weighed, gift-outside, gift-weighed, gift-size}
-use Rattle.scheme.specs.Adding.{nothing-plus, plus-nothing, plus-assoc}
+use Rattle.scheme.specs.Adding.{plus-nothing}
 
 -- ---- from all the stations: what the one of row k gives to point (i, j)
 
@@ -170,24 +170,15 @@ pub roomy-new : Roomy (replicate mostStations (pos 0)) (replicate mostStations 0
 roomy-new =
     record { x-long = length-replicate mostStations (pos 0); y-long = length-replicate {A = ℕ} mostStations 0; d-long = length-replicate mostStations (pos 0) }
 
--- with the first k rows, the n near ones among those behind give to each point of row j what all rows give
+-- the n near ones among the first k rows give to each point of row j what the k rows give
 pub record Near (lx : List ℤ) (ly : List ℕ) (ld : List ℤ) (n : ℕ) (all : Stations) (r2 j k : ℕ) : Type 0 where
-  pub no-more : k + n ≤ all .count
+  pub no-more : n ≤ k
   pub sized : (t : ℕ) → t < n → Sized lx ly ld t
-  pub same : (i : ℕ) → sumsOver all r2 i j ≡ plus (upTo nothing plus k (shareAt all r2 i j)) (upTo nothing plus n (nearShare lx ly ld r2 i))
+  pub same : (i : ℕ) → upTo nothing plus n (nearShare lx ly ld r2 i) ≡ upTo nothing plus k (shareAt all r2 i j)
 
-pub near-none : (lx : List ℤ) (ly : List ℕ) (ld : List ℤ) (all : Stations) (r2 j : ℕ) → Near lx ly ld 0 all r2 j (all .count)
-unfolding upTo sumsOver
-near-none lx ly ld all r2 j =
-    record { no-more = omega arith; sized = λ t h. absurd (omega arith); same = λ i. sym (plus-nothing (upTo nothing plus (all .count) (shareAt all r2 i j))) }
-
-pub near-all : (lx : List ℤ) (ly : List ℕ) (ld : List ℤ) (n : ℕ) (all : Stations) (r2 j : ℕ) → Near lx ly ld n all r2 j 0
-    → (i : ℕ) → upTo nothing plus n (nearShare lx ly ld r2 i) ≡ sumsOver all r2 i j
+pub near-none : (lx : List ℤ) (ly : List ℕ) (ld : List ℤ) (all : Stations) (r2 j : ℕ) → Near lx ly ld 0 all r2 j 0
 unfolding upTo
-near-all lx ly ld n all r2 j near i = sym (near .same i ∙ nothing-plus (upTo nothing plus n (nearShare lx ly ld r2 i)))
-
-plus-comm : (a b : Sums) → plus a b ≡ plus b a
-plus-comm a b = cc (add-comm (a .weights) (b .weights), +ℤ-comm (a .pulls) (b .pulls))
+near-none lx ly ld all r2 j = record { no-more = omega arith; sized = λ t h. absurd (omega arith); same = λ i. refl }
 
 -- a row that is not nearer than R to the grid row gives nothing
 far-gives-nothing : (all : Stations) (r2 i j k : ℕ) → r2 ≤ rowGap (verdictAt all k) (yAt all k) j r2
@@ -225,10 +216,7 @@ roomy-set lx ly ld n x y d r =
     }
 
 module _ (all : Stations) (r2 j : ℕ) (bounded : r2 ≤ mostSquare) (ok : Ready all)
-    (lx : List ℤ) (ly : List ℕ) (ld : List ℤ) (room : Roomy lx ly ld) (n k above : ℕ) (next-is : above ≡ k + 1) (behind : Near lx ly ld n all r2 j above) where
-  near : Near lx ly ld n all r2 j (k + 1)
-  near = rw next-is at behind
-
+    (lx : List ℤ) (ly : List ℕ) (ld : List ℤ) (room : Roomy lx ly ld) (n k : ℕ) (turn : k < all .count) (near : Near lx ly ld n all r2 j k) where
   abbrev gap : ℕ
   gap = rowGap (verdictAt all k) (yAt all k) j r2
 
@@ -255,10 +243,10 @@ module _ (all : Stations) (r2 j : ℕ) (bounded : r2 ≤ mostSquare) (ok : Ready
         d-small = rw (getD-set-other ld n t (dAt all k) (pos 0) o) (s .d-small);
       }
 
-  kept-sums : (i : ℕ) → upTo nothing plus n (nearShare lx' ly' ld' r2 i) ≡ upTo nothing plus n (nearShare lx ly ld r2 i)
+  kept-sums : (i : ℕ) → upTo nothing plus n (nearShare lx' ly' ld' r2 i) ≡ upTo nothing plus k (shareAt all r2 i j)
   unfolding nearShare
   kept-sums i =
-      upTo-same nothing plus n (nearShare lx' ly' ld' r2 i) (nearShare lx ly ld r2 i) same
+      upTo-same nothing plus n (nearShare lx' ly' ld' r2 i) (nearShare lx ly ld r2 i) same ∙ near .same i
     where
       same : (t : ℕ) → t < n → nearShare lx' ly' ld' r2 i t ≡ nearShare lx ly ld r2 i t
       same t h =
@@ -266,23 +254,17 @@ module _ (all : Stations) (r2 j : ℕ) (bounded : r2 ≤ mostSquare) (ok : Ready
           unfold nearShare in
           (rw (getD-set-other lx n t (xAt all k) (pos 0) o, getD-set-other ly n t gap 0 o, getD-set-other ld n t (dAt all k) (pos 0) o))
 
-  -- what the rows before k give, row k apart
-  split-sums : (i : ℕ) → sumsOver all r2 i j ≡ plus (plus (upTo nothing plus k (shareAt all r2 i j)) (shareAt all r2 i j k)) (upTo nothing plus n (nearShare lx' ly' ld' r2 i))
-  split-sums i =
-      near .same i
-      ∙ ap (λ (s : Sums). plus s (upTo nothing plus n (nearShare lx ly ld r2 i))) (upTo-next nothing plus k (shareAt all r2 i j))
-      ∙ ap (plus (plus (upTo nothing plus k (shareAt all r2 i j)) (shareAt all r2 i j k))) (sym (kept-sums i))
-
   -- a far row is written over
-  far-step : r2 ≤ gap → Near lx' ly' ld' n all r2 j k
+  far-step : r2 ≤ gap → Near lx' ly' ld' n all r2 j (k + 1)
   far-step h =
       record {
         no-more = omega (arith, near .no-more);
         sized = kept-sized;
         same =
-            λ i. split-sums i
-            ∙ ap (λ (s : Sums). plus s (upTo nothing plus n (nearShare lx' ly' ld' r2 i)))
-            (ap (plus (upTo nothing plus k (shareAt all r2 i j))) (far-gives-nothing all r2 i j k h) ∙ plus-nothing (upTo nothing plus k (shareAt all r2 i j)));
+            λ i. kept-sums i
+            ∙ sym (upTo-next nothing plus k (shareAt all r2 i j)
+            ∙ ap (plus (upTo nothing plus k (shareAt all r2 i j))) (far-gives-nothing all r2 i j k h)
+            ∙ plus-nothing (upTo nothing plus k (shareAt all r2 i j)));
       }
 
   -- a near row is gathered
@@ -312,37 +294,35 @@ module _ (all : Stations) (r2 j : ℕ) (bounded : r2 ≤ mostSquare) (ok : Ready
         go (inl l) = kept-sized t l
         go (inr l) =
             let e : t ≡ n = omega arith in
-            let c = ok .inside k (omega (arith, near .no-more)) accepted in
+            let c = ok .inside k turn accepted in
             rw e (record {
               x-small = rw new-x (c .x-small);
               y-small = rw new-y (omega arith);
               d-small = rw new-d (c .d-small);
             })
 
-    near-gathered : Near lx' ly' ld' (n + 1) all r2 j k
+    near-gathered : Near lx' ly' ld' (n + 1) all r2 j (k + 1)
     near-gathered =
         record {
           no-more = omega (arith, near .no-more);
           sized = new-sized;
           same =
-              λ i. split-sums i
-              ∙ plus-assoc (upTo nothing plus k (shareAt all r2 i j)) (shareAt all r2 i j k) (upTo nothing plus n (nearShare lx' ly' ld' r2 i))
-              ∙ ap (plus (upTo nothing plus k (shareAt all r2 i j)))
-              (plus-comm (shareAt all r2 i j k) (upTo nothing plus n (nearShare lx' ly' ld' r2 i))
-              ∙ ap (plus (upTo nothing plus n (nearShare lx' ly' ld' r2 i))) (sym (new-share i))
-              ∙ sym (upTo-next nothing plus n (nearShare lx' ly' ld' r2 i)));
+              λ i. upTo-next nothing plus n (nearShare lx' ly' ld' r2 i)
+              ∙ ap (λ (s : Sums). plus s (nearShare lx' ly' ld' r2 i n)) (kept-sums i)
+              ∙ ap (plus (upTo nothing plus k (shareAt all r2 i j))) (new-share i)
+              ∙ sym (upTo-next nothing plus k (shareAt all r2 i j));
         }
 
-  near-step : Near lx' ly' ld' (n + cond (ltb gap r2) 1 0) all r2 j k
+  near-step : Near lx' ly' ld' (n + cond (ltb gap r2) 1 0) all r2 j (k + 1)
   near-step = go (lt-or-le gap r2)
     where
-      go : (gap < r2) ⊎ (r2 ≤ gap) → Near lx' ly' ld' (n + cond (ltb gap r2) 1 0) all r2 j k
+      go : (gap < r2) ⊎ (r2 ≤ gap) → Near lx' ly' ld' (n + cond (ltb gap r2) 1 0) all r2 j (k + 1)
       go (inl h) = rw (lt-ltb gap r2 h) (near-gathered h)
       go (inr h) = rw (le-ltb gap r2 h, add-zero n) (far-step h)
 
   -- a turn, of the values that the code has
   pub near-turn : {x d : ℤ} {g one : ℕ} → x ≡ xAt all k → d ≡ dAt all k → g ≡ gap → one ≡ cond (ltb g r2) 1 0
-      → Roomy (set lx n x) (set ly n g) (set ld n d) × Near (set lx n x) (set ly n g) (set ld n d) (n + one) all r2 j k
+      → Roomy (set lx n x) (set ly n g) (set ld n d) × Near (set lx n x) (set ly n g) (set ld n d) (n + one) all r2 j (k + 1)
   near-turn ex ed eg eo = rw (eo, eg, ex, ed) (roomy-set lx ly ld n (xAt all k) gap (dAt all k) room, near-step)
 
 -- the sums over all rows are small too

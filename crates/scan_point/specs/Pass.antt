@@ -15,7 +15,7 @@ use Rattle.scheme.specs.Units.{mostSide, Field, stored, fieldOf, mostStations, 
 use Rattle.scheme.specs.Correction.{Sums, nothing, plus, correction}
 use Rattle.scheme.specs.Most.{mostPoints, mostSquare, mostWeights, mostField}
 use Rattle.scheme.specs.Accepted.{Shaped}
-use Rattle.scan_point.specs.Near.{nearShare, Sized, near-small, Stations, sumsOver, Ready, Near, near-all}
+use Rattle.scan_point.specs.Near.{nearShare, Sized, near-small, Stations, sumsOver, Ready, Near}
 
 -- ---- one row, whose points stand at base, base + 1, ..
 
@@ -126,7 +126,7 @@ module _ {z₀ : List ℤ} {sup₀ : List ℕ} {nx ny : ℕ} {all : Stations} {r
 
   module _ {j : ℕ} (hj : j < ny) {z : List ℤ} {sup : List ℕ}
       (pz : Filled (pos 0) (passZ z₀ nx all r2) 0 (j * nx) z₀ z) (ps : Filled 0 (passS sup₀ nx all r2 bit) 0 (j * nx) sup₀ sup)
-      {lx : List ℤ} {ly : List ℕ} {ld : List ℤ} {n : ℕ} (near : Near lx ly ld n all r2 j 0) where
+      {lx : List ℤ} {ly : List ℕ} {ld : List ℤ} {n : ℕ} (near : Near lx ly ld n all r2 j (all .count)) where
     pub row-ready : RowReady z sup (j * nx) nx lx ly ld n r2 bit
     row-ready =
         record {
@@ -153,14 +153,14 @@ module _ {z₀ : List ℤ} {sup₀ : List ℕ} {nx ny : ℕ} {all : Stations} {r
       at-row = ap (λ (m : ℕ). m / nx) split ∙ digits-div j (omega arith)
 
       same-z : rowZ z lx ly ld n r2 (j * nx) k ≡ passZ z₀ nx all r2 k
-      unfolding rowZ corrected fieldOf
+      unfolding rowZ corrected fieldOf sumsOver
       same-z =
-          rw (at-column, at-row, ← split) (rw (pz .rest k h, near-all lx ly ld n all r2 j near (k - j * nx)))
+          rw (at-column, at-row, ← split) (rw (pz .rest k h, near .same (k - j * nx)))
 
       same-s : rowS sup lx ly ld n r2 bit (j * nx) k ≡ passS sup₀ nx all r2 bit k
-      unfolding rowS backed fieldOf
+      unfolding rowS backed fieldOf sumsOver
       same-s =
-          rw (at-column, at-row, ← split) (rw (ps .rest k h, near-all lx ly ld n all r2 j near (k - j * nx)))
+          rw (at-column, at-row, ← split) (rw (ps .rest k h, near .same (k - j * nx)))
 
     next-row : j * nx + nx ≡ (j + 1) * nx
     next-row = omega (arith, suc-mul j nx)

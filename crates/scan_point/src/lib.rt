@@ -122,8 +122,7 @@ fn one_if_below(gap: u32, r2: u32) -> usize
     if gap < r2 { 1 } else { 0 }
 }
 
-// Gathers the stations near grid row j, once for all its points, from the last row to the first: each turn stores at the next free place,
-// which only a near one takes.
+// Gathers the stations near grid row j, once for all its points: each turn stores at the next free place, which only a near one takes.
 fn near_row(
     lx: &mut [i32; 512],
     ly: &mut [u32; 512],
@@ -137,18 +136,18 @@ fn near_row(
 ) -> usize
     requires { ⌜ (r2 ≤ mostSquare) × (j < mostSide) × Ready (stationsWith stations (now numbers) (now verdict) (now d)) × Roomy (now lx) (now ly) (now ld) ⌝ }
     ensures { λ n. ⌜ Roomy (now (lx .exit)) (now (ly .exit)) (now (ld .exit))
-        × Near (now (lx .exit)) (now (ly .exit)) (now (ld .exit)) n (stationsWith stations (now (numbers .entry)) (now (verdict .entry)) (now (d .entry))) r2 j 0 ⌝ }
+        × Near (now (lx .exit)) (now (ly .exit)) (now (ld .exit)) n (stationsWith stations (now (numbers .entry)) (now (verdict .entry)) (now (d .entry))) r2 j stations ⌝ }
 {
     let mut n: usize = 0;
-    let mut k = stations;
-    while 0 < k {
-        k -= 1;
+    let mut k: usize = 0;
+    while k < stations {
         let row = numbers[k];
         let gap = row_gap(verdict[k], row[request::Y], j, r2);
         lx[n] = row[request::X];
         ly[n] = gap;
         ld[n] = d[k];
         n += one_if_below(gap, r2);
+        k += 1;
     }
     n
 }

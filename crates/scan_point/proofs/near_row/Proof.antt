@@ -1,5 +1,5 @@
--- `scan_point::near_row` meets its contract. The loop's invariant: the stations gathered give what the rows behind give. Assumes nothing.
-use Prim.Native.Nat.{ℕ, _+_, _-_, _≤_, _<_}
+-- `scan_point::near_row` meets its contract. The loop's invariant: the stations gathered give what the rows passed give. Assumes nothing.
+use Prim.Native.Nat.{ℕ, _-_, _≤_, _<_}
 use native.Mathlib.Omega.{arith}
 use borrow.Author.Needs.{needs, sfits-of}
 use mathlib.Core.Path.{_≡_, ap, _∙_}
@@ -15,12 +15,12 @@ use Rattle.scan_point.proofs.near_row.Tie as tie
 
 abbrev Inv-loop : tie.InvT-loop
 Inv-loop lx₀ ly₀ ld₀ stations numbers verdict d r2 j n₀ k₀ lx ly ld n k =
-    Roomy lx ly ld × Near lx ly ld n (stationsWith stations numbers verdict d) r2 j k
+    (k ≤ stations) × Roomy lx ly ld × Near lx ly ld n (stationsWith stations numbers verdict d) r2 j k
 
 abbrev μ-loop : tie.MeasureT-loop
-μ-loop lx₀ ly₀ ld₀ stations numbers verdict d r2 j n₀ k₀ lx ly ld n k = k
+μ-loop lx₀ ly₀ ld₀ stations numbers verdict d r2 j n₀ k₀ lx ly ld n k = stations - k
 
--- a turn, at row k, with the rows behind it
+-- a turn, at row k
 module _ (c : tie.In-loop Inv-loop μ-loop) where
   abbrev start : tie.Start Inv-loop μ-loop
   start = c .before .before .before
@@ -29,19 +29,13 @@ module _ (c : tie.In-loop Inv-loop μ-loop) where
   all = stationsWith (start .args .stations) (start .args .numbers .now) (start .args .verdict .now) (start .args .d .now)
 
   abbrev k : ℕ
-  k = c .before .loop .k - 1
-
-  next-is : c .before .loop .k ≡ k + 1
-  next-is = let h = c .loop-test .taken in omega arith
-
-  inside : k < start .args .stations
-  inside = omega (arith, next-is, c .before .loop .inv .1 .no-more)
+  k = c .before .loop .k
 
   few : k < mostStations
-  few = omega (arith, inside, start .pre .2 .few)
+  few = omega (arith, c .loop-test .taken, start .pre .2 .few)
 
   room : c .before .loop .n < mostStations
-  room = omega (arith, next-is, c .before .loop .inv .1 .no-more, start .pre .2 .few)
+  room = omega (arith, few, c .before .loop .inv .2 .no-more)
 
 at-most-one : (b : Bool) → cond b 1 0 ≤ 1
 at-most-one true = omega arith
@@ -54,10 +48,7 @@ turn c = c .before .before .before .before .before .before .before
 loop-holds : tie.Need-loop-holds Inv-loop μ-loop
 loop-holds c =
     let a = c .before .args in
-    (c .before .pre .3, near-none (a .lx .now) (a .ly .now) (a .ld .now) (stationsWith (a .stations) (a .numbers .now) (a .verdict .now) (a .d .now)) (a .r2) (a .j))
-
-sub-k : tie.Need-sub-k Inv-loop μ-loop
-sub-k c = let h = c .loop-test .taken in omega arith
+    (omega arith, c .before .pre .3, near-none (a .lx .now) (a .ly .now) (a .ld .now) (stationsWith (a .stations) (a .numbers .now) (a .verdict .now) (a .d .now)) (a .r2) (a .j))
 
 mul-row : tie.Need-mul-row Inv-loop μ-loop
 mul-row c = omega (arith, few c)
@@ -66,7 +57,7 @@ element-copy-out-row : tie.Need-element-copy-out-row Inv-loop μ-loop
 element-copy-out-row c = few c
 
 shared-slice-read-row-gap : tie.Need-shared-slice-read-row-gap Inv-loop μ-loop
-shared-slice-read-row-gap c = let t = c .before .before in omega (arith, inside t, start t .pre .2 .len-st)
+shared-slice-read-row-gap c = let t = c .before .before in omega (arith, t .loop-test .taken, start t .pre .2 .len-st)
 
 array-copy-out-row-gap : tie.Need-array-copy-out-row-gap Inv-loop μ-loop
 array-copy-out-row-gap c = search needs
@@ -74,7 +65,7 @@ array-copy-out-row-gap c = search needs
 row-gap-requires : tie.Need-row-gap-requires Inv-loop μ-loop
 row-gap-requires c κs =
     let t = c .before .before .before in
-    (start t .pre .1, λ e. rw (toZ-ofZ {w = w32} (sfits-of {z = yAt (all t) (k t)} (c .row-gap-arg .given))) (start t .pre .2 .inside (k t) (inside t) e .y-small))
+    (start t .pre .1, λ e. rw (toZ-ofZ {w = w32} (sfits-of {z = yAt (all t) (k t)} (c .row-gap-arg .given))) (start t .pre .2 .inside (k t) (t .loop-test .taken) e .y-small))
 
 array-copy-out-lx : tie.Need-array-copy-out-lx Inv-loop μ-loop
 array-copy-out-lx c = search needs
@@ -109,8 +100,11 @@ one-if-below-requires c κs = search needs
 add-n : tie.Need-add-n Inv-loop μ-loop
 add-n c = omega (arith, room (turn c), c .one-if-below .ensures, at-most-one (ltb (c .before .before .before .row-gap .result) (start (turn c) .args .r2)))
 
+add-k : tie.Need-add-k Inv-loop μ-loop
+add-k c = omega (arith, few (turn c))
+
 loop-less : tie.Need-loop-less Inv-loop μ-loop
-loop-less c = let h = next-is (turn c) in omega arith
+loop-less c = let h = turn c .loop-test .taken in omega arith
 
 loop-again : tie.Need-loop-again Inv-loop μ-loop
 loop-again c =
@@ -119,15 +113,17 @@ loop-again c =
     let p = start t .pre in
     let g = c .before .before .before in
     let y-is = toZ-ofZ {w = w32} (sfits-of {z = yAt (all t) (k t)} (g .before .row-gap-arg .given)) in
-    near-turn (all t) (start t .args .r2) (start t .args .j) (p .0) (p .2) (l .lx) (l .ly) (l .ld) (l .inv .0) (l .n) (k t) (l .k) (next-is t) (l .inv .1)
+    let (roomy, near) =
+    near-turn (all t) (start t .args .r2) (start t .args .j) (p .0) (p .2) (l .lx) (l .ly) (l .ld) (l .inv .1) (l .n) (k t) (t .loop-test .taken) (l .inv .2)
     (toZ-ofZ {w = w32} (sfits-of {z = xAt (all t) (k t)} (c .before .before .lx .given))) (toZ-ofZ {w = w64} (sfits-of {z = dAt (all t) (k t)} (c .before .ld .given)))
-    (g .row-gap .ensures ∙ ap (λ (y : ℤ). rowGap (verdictAt (all t) (k t)) y (start t .args .j) (start t .args .r2)) y-is) (c .one-if-below .ensures)
+    (g .row-gap .ensures ∙ ap (λ (y : ℤ). rowGap (verdictAt (all t) (k t)) y (start t .args .j) (start t .args .r2)) y-is) (c .one-if-below .ensures) in
+    (omega (arith, t .loop-test .taken), roomy, near)
 
 returns : tie.Need-returns Inv-loop μ-loop
 returns c =
     let l = c .before .loop in
-    let e : l .k ≡ 0 = omega arith in
-    (l .inv .0, rw e at (l .inv .1))
+    let e : l .k ≡ c .before .before .before .args .stations = omega arith in
+    (l .inv .1, rw e at (l .inv .2))
 
 pub near-row-spec : {M : Type 1} → statement M
 near-row-spec =
@@ -136,7 +132,6 @@ near-row-spec =
     Inv-loop
     μ-loop
     loop-holds
-    sub-k
     mul-row
     element-copy-out-row
     shared-slice-read-row-gap
@@ -153,6 +148,7 @@ near-row-spec =
     element-set-from-ld
     one-if-below-requires
     add-n
+    add-k
     loop-less
     loop-again
     returns)
