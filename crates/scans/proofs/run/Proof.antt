@@ -10,7 +10,8 @@ use Rattle.lists.specs.Tab.{length-tab}
 use Rattle.scheme.specs.Units.{mostStations}
 use Rattle.request.specs.Tables.{stationIn}
 use Rattle.scan_point.specs.Near.{Roomy, roomy-new}
-use Rattle.scans.specs.Run.{Reached, z-long, sup-long, few-scans, bit-small, scan-ready, next, whole}
+use Rattle.scan_start.specs.Reached.{Reached}
+use Rattle.scans.specs.Run.{z-long, sup-long, few-scans, bit-small, scan-ready, next, whole}
 use Rattle.scans.proofs.run.Statement.{statement}
 use Rattle.scans.proofs.run.Tie as tie
 
