@@ -12,7 +12,7 @@ use Rattle.scheme.specs.Units.{mostStations, mostScans, Request}
 use Rattle.scheme.specs.Difference.{Row}
 use Rattle.scheme.specs.Scan.{after, atEnd, analysis}
 use Rattle.scheme.specs.Promises.{slices}
-use Rattle.scheme.specs.Accepted.{Sound, same-shape}
+use Rattle.scheme.specs.Accepted.{same-shape}
 use Rattle.scheme.specs.Bounds.{after-within}
 use Rattle.scheme.specs.Support.{support-small}
 use Rattle.scheme.specs.Stored.{length-stored, stored-all}

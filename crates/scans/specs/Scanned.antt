@@ -14,7 +14,7 @@ use Rattle.scheme.specs.Units.{Field, stored, fieldOf, R, E, Request}
 use Rattle.scheme.specs.Verdicts.{isAccepted}
 use Rattle.scheme.specs.Rounding.{rounded}
 use Rattle.scheme.specs.Value.{valueAt}
-use Rattle.scheme.specs.Difference.{Row, difference, afterTest, judged}
+use Rattle.scheme.specs.Difference.{difference, afterTest, judged}
 use Rattle.scheme.specs.Adding.{nothing-plus, plus-nothing, plus-assoc}
 use Rattle.scheme.specs.Correction.{nothing, plus, share, backedBy}
 use Rattle.scheme.specs.Smoothing.{smoothed}
