@@ -9,7 +9,7 @@ use mathlib.Core.Bool.{Bool, true, false, cond}
 use mathlib.Core.List.{List, []}
 use borrow.Author.Tests.{lt-ltb, le-ltb, eqb-true}
 use lib.Dec.{ltb}
-use lib.ListN.{length, getD, set, length-set}
+use lib.ListN.{length, getD, set, length-set, replicate, length-replicate}
 use lib.Seq.{getD-set-same, getD-set-other}
 use lib.IntN.{ℤ, pos, natAbs, _+ℤ_, _-ℤ_, _*ℤ_, +ℤ-idl, +ℤ-idr, +ℤ-assoc, +ℤ-comm}
 use Rattle.integers.specs.Sizes.{size-add, size-mul}
@@ -165,6 +165,10 @@ pub record Roomy (lx : List ℤ) (ly : List ℕ) (ld : List ℤ) : Type 0 where
   pub x-long : length lx ≡ mostStations
   pub y-long : length ly ≡ mostStations
   pub d-long : length ld ≡ mostStations
+
+pub roomy-new : Roomy (replicate mostStations (pos 0)) (replicate mostStations 0) (replicate mostStations (pos 0))
+roomy-new =
+    record { x-long = length-replicate mostStations (pos 0); y-long = length-replicate {A = ℕ} mostStations 0; d-long = length-replicate mostStations (pos 0) }
 
 -- the n near ones among the first k rows give to each point of row j what the k rows give
 pub record Near (lx : List ℤ) (ly : List ℕ) (ld : List ℤ) (n : ℕ) (all : Stations) (r2 j k : ℕ) : Type 0 where

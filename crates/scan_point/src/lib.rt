@@ -179,7 +179,8 @@ fn correct_row(
     }
 }
 
-// One correction of the whole grid, in place: the differences d were all taken before, so that no point sees another's correction.
+// One correction of the whole grid, in place: the differences d were all taken before, so that no point sees another's correction. The lists
+// are room for the stations near a row, lent so that they are cleared once for all scans.
 pub fn correct(
     z: &mut [i32],
     support: &mut [u8],
@@ -187,31 +188,21 @@ pub fn correct(
     d: &[i64; 512],
     t: Terms,
     numbers: &[[i32; 3]; 512],
+    lx: &mut [i32; 512],
+    ly: &mut [u32; 512],
+    ld: &mut [i64; 512],
     radius: u32,
     bit: u8,
 )
-    requires { ⌜ PassReady (now z) (now support) (t .nx) (t .ny) (stationsWith (t .stations) (now numbers) (now verdict) (now d)) radius bit ⌝ }
-    ensures { λ u. ⌜ (now (z .exit) ≡ stored (t .nx) (t .ny) (corrected (now (z .entry)) (t .nx) (stationsWith (t .stations) (now (numbers .entry)) (now (verdict .entry)) (now (d .entry))) (radius * radius)))
+    requires { ⌜ PassReady (now z) (now support) (t .nx) (t .ny) (stationsWith (t .stations) (now numbers) (now verdict) (now d)) radius bit × Roomy (now lx) (now ly) (now ld) ⌝ }
+    ensures { λ u. ⌜ Roomy (now (lx .exit)) (now (ly .exit)) (now (ld .exit)) × (now (z .exit) ≡ stored (t .nx) (t .ny) (corrected (now (z .entry)) (t .nx) (stationsWith (t .stations) (now (numbers .entry)) (now (verdict .entry)) (now (d .entry))) (radius * radius)))
         × (now (support .exit) ≡ stored (t .nx) (t .ny) (backed (now (support .entry)) (t .nx) (stationsWith (t .stations) (now (numbers .entry)) (now (verdict .entry)) (now (d .entry))) (radius * radius) bit)) ⌝ }
 {
     let r2 = radius * radius;
-    let mut lx = [0i32; 512];
-    let mut ly = [0u32; 512];
-    let mut ld = [0i64; 512];
     let mut j: usize = 0;
     while j < t.ny {
-        let n = near_row(
-            &mut lx,
-            &mut ly,
-            &mut ld,
-            t.stations,
-            numbers,
-            verdict,
-            d,
-            r2,
-            j,
-        );
-        correct_row(z, support, j * t.nx, t.nx, &lx, &ly, &ld, n, r2, bit);
+        let n = near_row(lx, ly, ld, t.stations, numbers, verdict, d, r2, j);
+        correct_row(z, support, j * t.nx, t.nx, lx, ly, ld, n, r2, bit);
         j += 1;
     }
 }

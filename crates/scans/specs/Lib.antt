@@ -2,4 +2,3 @@
 pub mod Scanned
 pub mod Ready
 pub mod Run
-pub mod Start

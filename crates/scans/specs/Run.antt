@@ -12,21 +12,15 @@ use Rattle.scheme.specs.Units.{mostStations, mostScans, Request}
 use Rattle.scheme.specs.Difference.{Row}
 use Rattle.scheme.specs.Scan.{after, atEnd, analysis}
 use Rattle.scheme.specs.Promises.{slices}
-use Rattle.scheme.specs.Accepted.{Sound, same-shape}
+use Rattle.scheme.specs.Accepted.{same-shape}
 use Rattle.scheme.specs.Bounds.{after-within}
 use Rattle.scheme.specs.Support.{support-small}
 use Rattle.scheme.specs.Stored.{length-stored, stored-all}
 use Rattle.request.specs.declared.Terms.{Terms}
 use Rattle.request.specs.Tables.{stationIn, requestIn}
-use Rattle.scan_station.specs.Judge.{AcceptedOnGrid}
-use Rattle.scans.specs.Scanned.{rowIn, Holds, Scanned, scan-holds, scan-on-grid}
+use Rattle.scan_start.specs.Reached.{rowIn, Reached}
+use Rattle.scans.specs.Scanned.{Scanned, scan-holds, scan-on-grid}
 use Rattle.scans.specs.Ready.{mostBefore, ScanReady}
-
--- the slices hold the state after m scans, in which an accepted row is on the grid
-pub record Reached (t : Terms) (guess : List ℤ) (numbers : List (List ℤ)) (minutes : List (List ℕ)) (m : ℕ) (z : List ℤ) (sup st : List ℕ) : Type 0 where
-  pub sound : Sound (requestIn t guess numbers minutes)
-  pub holds : Holds t numbers minutes (after (requestIn t guess numbers minutes) m) z sup st
-  pub on-grid : AcceptedOnGrid t numbers st
 
 module _ {t : Terms} {guess : List ℤ} {numbers : List (List ℤ)} {minutes : List (List ℕ)} {m : ℕ} {z : List ℤ} {sup st : List ℕ}
     (now : Reached t guess numbers minutes m z sup st) where

@@ -14,7 +14,7 @@ use Rattle.scheme.specs.Units.{Field, stored, fieldOf, R, E, Request}
 use Rattle.scheme.specs.Verdicts.{isAccepted}
 use Rattle.scheme.specs.Rounding.{rounded}
 use Rattle.scheme.specs.Value.{valueAt}
-use Rattle.scheme.specs.Difference.{Row, difference, afterTest, judged}
+use Rattle.scheme.specs.Difference.{difference, afterTest, judged}
 use Rattle.scheme.specs.Adding.{nothing-plus, plus-nothing, plus-assoc}
 use Rattle.scheme.specs.Correction.{nothing, plus, share, backedBy}
 use Rattle.scheme.specs.Smoothing.{smoothed}
@@ -25,20 +25,10 @@ use Rattle.scheme.specs.Bounds.{was-accepted}
 use Rattle.scheme.specs.Stored.{Same, field-stored, stored-same, sum-same}
 use Rattle.request.specs.declared.Terms.{Terms}
 use Rattle.request.specs.Tables.{stationOf, stationIn, planIn, requestIn}
+use Rattle.scan_start.specs.Reached.{rowIn, Holds}
 use Rattle.scan_station.specs.Judge.{mast, AcceptedOnGrid, diffOf, diffAt, verdictAt}
 use Rattle.scan_point.specs.Near.{Stations, stationsWith, shareAt, sumsOver}
 use Rattle.scan_point.specs.Pass.{corrected, backed}
-
--- row k of the tables, with its verdict
-abbrev pub rowIn : List (List ℤ) → List (List ℕ) → List ℕ → ℕ → Row
-rowIn numbers minutes st k = record { station = stationIn numbers minutes k; verdict = getD st k 0 }
-
--- the three slices hold a state of the run
-pub record Holds (t : Terms) (numbers : List (List ℤ)) (minutes : List (List ℕ)) (s : State) (z : List ℤ) (sup st : List ℕ) : Type 0 where
-  pub field : z ≡ stored (t .nx) (t .ny) (s .field)
-  pub support : sup ≡ stored (t .nx) (t .ny) (s .support)
-  pub rows : s .rows ≡ tab (t .stations) (rowIn numbers minutes st)
-  pub long : length st ≡ t .stations
 
 -- the squared radius of scan m + 1
 abbrev pub r2In : Terms → ℕ → ℕ

@@ -1,82 +1,16 @@
-// The work on an accepted request (document 01, "Verdicts before the first scan" and "One scan"): the start, then the scans of the plan, in
-// the slices that the results go to.
+// The work on an accepted request (document 01, "One scan"): the start, then the scans of the plan, in the slices that the results go to.
 ghost use mathlib.Core.Path.{_≡_};
-ghost use Prim.Native.Nat.{_*_, _≤_};
 ghost use lib.ListN.{length};
-ghost use Rattle.lists.specs.Tab.{tab};
 ghost use Rattle.scheme.specs.Units.{mostStations, R, E};
 ghost use Rattle.scheme.specs.Scan.{analysis};
 ghost use Rattle.scheme.specs.Promises.{slices};
-ghost use Rattle.scheme.specs.Most.{mostPoints};
 ghost use Rattle.scheme.specs.Accepted.{Shaped, Sound, Fits};
 ghost use Rattle.request.specs.Tables.{planIn, requestIn};
 ghost use Rattle.scan_smoothing.specs.Pattern.{Small};
+ghost use Rattle.scan_point.specs.Near.{Roomy};
 ghost use Rattle.scans.specs.Scanned.{Scanned};
 ghost use Rattle.scans.specs.Ready.{EntryIn, ScanReady, smoothedIf};
-ghost use Rattle.scans.specs.Run.{Reached};
-ghost use Rattle.scans.specs.Start.{firstAt};
 use request::Terms;
-
-// ---- before the first scan
-
-fn copy(to: &mut [i32], from: &[i32])
-    requires { ⌜ (length (now to) ≡ length (now from)) × (length (now from) ≤ mostPoints) ⌝ }
-    ensures { λ u. ⌜ now (to .exit) ≡ now (from .entry) ⌝ }
-{
-    let mut k: usize = 0;
-    while k < from.len() {
-        to[k] = from[k];
-        k += 1;
-    }
-}
-
-fn clear(to: &mut [u8])
-    requires { ⌜ length (now to) ≤ mostPoints ⌝ }
-    ensures { λ u. ⌜ now (to .exit) ≡ tab (length (now (to .entry))) (λ k. 0) ⌝ }
-{
-    let mut k: usize = 0;
-    while k < to.len() {
-        to[k] = 0;
-        k += 1;
-    }
-}
-
-// The verdict of each row before the first scan.
-fn first_verdicts(
-    verdict: &mut [u8],
-    t: Terms,
-    numbers: &[[i32; 3]; 512],
-    minutes: &[[u32; 3]; 512],
-)
-    requires { ⌜ Shaped (t .nx) (t .ny) (t .nx * t .ny) × (t .stations ≤ mostStations) × (length (now verdict) ≡ t .stations) ⌝ }
-    ensures { λ u. ⌜ now (verdict .exit) ≡ tab (t .stations) (firstAt t (now (numbers .entry)) (now (minutes .entry))) ⌝ }
-{
-    let mut k: usize = 0;
-    while k < t.stations {
-        verdict[k] = scan_verdict::first_verdict(numbers[k], minutes[k], t.nx, t.ny, t.time, t.age);
-        k += 1;
-    }
-}
-
-// The state that the first scan finds.
-fn begin(
-    t: Terms,
-    guess: &[i32],
-    numbers: &[[i32; 3]; 512],
-    minutes: &[[u32; 3]; 512],
-    grid: &mut [i32],
-    support: &mut [u8],
-    verdict: &mut [u8],
-)
-    requires { ⌜ Sound (requestIn t (now guess) (now numbers) (now minutes)) × Fits (requestIn t (now guess) (now numbers) (now minutes)) (length (now grid)) (length (now support)) (length (now verdict)) ⌝ }
-    ensures { λ u. ⌜ Reached t (now (guess .entry)) (now (numbers .entry)) (now (minutes .entry)) 0 (now (grid .exit)) (now (support .exit)) (now (verdict .exit)) ⌝ }
-{
-    copy(grid, guess);
-    clear(support);
-    first_verdicts(verdict, t, numbers, minutes);
-}
-
-// ---- the scans
 
 // The radius and the limit of scan number m + 1.
 fn radius_of(t: Terms, m: usize) -> u32
@@ -109,17 +43,32 @@ fn scan(
     support: &mut [u8],
     verdict: &mut [u8],
     d: &mut [i64; 512],
+    lx: &mut [i32; 512],
+    ly: &mut [u32; 512],
+    ld: &mut [i64; 512],
     t: Terms,
     numbers: &[[i32; 3]; 512],
     m: usize,
     bit: u8,
 )
-    requires { ⌜ ScanReady t (now numbers) m bit (now z) (now support) (now verdict) (now d) ⌝ }
+    requires { ⌜ ScanReady t (now numbers) m bit (now z) (now support) (now verdict) (now d) × Roomy (now lx) (now ly) (now ld) ⌝ }
     ensures { λ u. ⌜ Scanned t (now (numbers .entry)) m (now (z .entry)) (now (support .entry)) (now (verdict .entry)) (now (z .exit)) (now (support .exit)) (now (verdict .exit)) (now (d .exit))
-        × (length (now (d .exit)) ≡ mostStations) ⌝ }
+        × (length (now (d .exit)) ≡ mostStations) × Roomy (now (lx .exit)) (now (ly .exit)) (now (ld .exit)) ⌝ }
 {
     scan_station::judge(z, verdict, d, t, numbers, limit_of(t, m), (m as u8) + 1);
-    scan_point::correct(z, support, verdict, d, t, numbers, radius_of(t, m), bit);
+    scan_point::correct(
+        z,
+        support,
+        verdict,
+        d,
+        t,
+        numbers,
+        lx,
+        ly,
+        ld,
+        radius_of(t, m),
+        bit,
+    );
     smooth_if(z, t);
 }
 
@@ -136,12 +85,27 @@ pub fn run(
     requires { ⌜ Sound (requestIn t (now guess) (now numbers) (now minutes)) × Fits (requestIn t (now guess) (now numbers) (now minutes)) (length (now grid)) (length (now support)) (length (now verdict)) ⌝ }
     ensures { λ u. ⌜ slices (now (grid .exit)) (now (support .exit)) (now (verdict .exit)) ≡ analysis (requestIn t (now (guess .entry)) (now (numbers .entry)) (now (minutes .entry))) ⌝ }
 {
-    begin(t, guess, numbers, minutes, grid, support, verdict);
+    scan_start::begin(t, guess, numbers, minutes, grid, support, verdict);
     let mut d = [0i64; 512];
+    let mut lx = [0i32; 512];
+    let mut ly = [0u32; 512];
+    let mut ld = [0i64; 512];
     let mut bit: u8 = 1;
     let mut m: usize = 0;
     while m < t.scans {
-        scan(grid, support, verdict, &mut d, t, numbers, m, bit);
+        scan(
+            grid,
+            support,
+            verdict,
+            &mut d,
+            &mut lx,
+            &mut ly,
+            &mut ld,
+            t,
+            numbers,
+            m,
+            bit,
+        );
         bit = bit * 2;
         m += 1;
     }

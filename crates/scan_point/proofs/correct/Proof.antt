@@ -2,22 +2,20 @@
 use Prim.Native.Nat.{ℕ, _-_, _*_, _≤_}
 use native.Mathlib.Omega.{arith}
 use mathlib.Core.Path.{_≡_}
-use lib.ListN.{length-replicate}
-use lib.IntN.{ℤ, pos}
+use lib.IntN.{pos}
 use Rattle.lists.specs.Filled.{Filled, filled-none}
-use Rattle.scheme.specs.Units.{mostStations}
 use Rattle.scan_point.specs.Near.{stationsWith, Roomy}
 use Rattle.scan_point.specs.Pass.{RowReady, passZ, passS, r2-close, row-place, row-ready, next-z, next-s, all-z, all-s}
 use Rattle.scan_point.proofs.correct.Statement.{statement}
 use Rattle.scan_point.proofs.correct.Tie as tie
 
 abbrev Inv-loop : tie.InvT-loop
-Inv-loop z₀ support₀ verdict d t numbers radius bit r2 lx₀ ly₀ ld₀ j₀ z support lx ly ld j =
+Inv-loop z₀ support₀ verdict d t numbers lx₀ ly₀ ld₀ radius bit r2 j₀ z support lx ly ld j =
     (j ≤ t .ny) × Roomy lx ly ld × Filled (pos 0) (passZ z₀ (t .nx) (stationsWith (t .stations) numbers verdict d) (radius * radius)) 0 (j * t .nx) z₀ z
     × Filled 0 (passS support₀ (t .nx) (stationsWith (t .stations) numbers verdict d) (radius * radius) bit) 0 (j * t .nx) support₀ support
 
 abbrev μ-loop : tie.MeasureT-loop
-μ-loop z₀ support₀ verdict d t numbers radius bit r2 lx₀ ly₀ ld₀ j₀ z support lx ly ld j = t .ny - j
+μ-loop z₀ support₀ verdict d t numbers lx₀ ly₀ ld₀ radius bit r2 j₀ z support lx ly ld j = t .ny - j
 
 -- a turn, at row j
 module _ (c : tie.Then1 Inv-loop μ-loop) where
@@ -36,16 +34,16 @@ module _ (c : tie.After-near-row Inv-loop μ-loop) where
   turn = c .before .before .before .before
 
   abbrev ready : RowReady (at turn .loop .z) (at turn .loop .support) (j turn * start turn .args .t .nx) (start turn .args .t .nx) (c .near-row .last .0) (c .near-row .last .1 .0) (c .near-row .last .1 .1 .0) (c .near-row .result) (start turn .args .radius * start turn .args .radius) (start turn .args .bit)
-  ready = row-ready (start turn .pre) (turn .if1 .taken) (at turn .loop .inv .2) (at turn .loop .inv .3) (c .near-row .ensures .1)
+  ready = row-ready (start turn .pre .0) (turn .if1 .taken) (at turn .loop .inv .2) (at turn .loop .inv .3) (c .near-row .ensures .1)
 
 mul-r2 : tie.Need-mul-r2 Inv-loop μ-loop
-mul-r2 c = omega (arith, r2-close (c .before .before .pre))
+mul-r2 c = omega (arith, r2-close (c .before .before .pre .0))
 
 loop-holds : tie.Need-loop-holds Inv-loop μ-loop
 loop-holds c =
     let a = c .before .before .args in (
       omega arith,
-      record { x-long = length-replicate {A = ℤ} mostStations (pos 0); y-long = length-replicate {A = ℕ} mostStations 0; d-long = length-replicate {A = ℤ} mostStations (pos 0) },
+      c .before .before .pre .1,
       filled-none (pos 0) _ 0 (0 * a .t .nx) (a .z .now) (omega arith),
       filled-none 0 _ 0 (0 * a .t .nx) (a .support .now) (omega arith),
     )
@@ -53,13 +51,13 @@ loop-holds c =
 near-row-requires : tie.Need-near-row-requires Inv-loop μ-loop
 near-row-requires c κs =
     let t = c .before .before .before in
-    let p = start t .pre in
+    let p = start t .pre .0 in
     (r2-close p, omega (arith, t .if1 .taken, p .shape .few-rows), p .stations, at t .loop .inv .1)
 
 mul-correct-row : tie.Need-mul-correct-row Inv-loop μ-loop
 mul-correct-row c =
     let t = turn (c .before .before .before) in
-    omega (arith, row-place (start t .pre) (j t) (t .if1 .taken))
+    omega (arith, row-place (start t .pre .0) (j t) (t .if1 .taken))
 
 correct-row-requires : tie.Need-correct-row-requires Inv-loop μ-loop
 correct-row-requires c κs = ready (c .before .before .before .before .before .before)
@@ -69,7 +67,7 @@ abbrev row : tie.After-slice-known2 Inv-loop μ-loop → tie.After-near-row Inv-
 row c = c .before .before .before .before .before .before .before .before .before .before
 
 add-j : tie.Need-add-j Inv-loop μ-loop
-add-j c = let t = turn (row c) in omega (arith, t .if1 .taken, start t .pre .shape .few-rows)
+add-j c = let t = turn (row c) in omega (arith, t .if1 .taken, start t .pre .0 .shape .few-rows)
 
 loop-less : tie.Need-loop-less Inv-loop μ-loop
 loop-less c = let h = turn (row c) .if1 .taken in omega arith
@@ -79,7 +77,7 @@ loop-again c =
     let n = row c in
     let t = turn n in
     let i = at t .loop .inv in
-    let p = start t .pre in
+    let p = start t .pre .0 in
     let h = t .if1 .taken in
     let r = c .before .before .before .correct-row in (
       omega (arith, h),
@@ -99,7 +97,7 @@ returns c =
     let o = c .before .before in
     let s = o .before .before .before in
     let e : o .loop .j ≡ s .args .t .ny = omega arith in
-    (all-z (s .pre) (o .loop .z) (rw e at (o .loop .inv .2)), all-s (s .pre) (o .loop .support) (rw e at (o .loop .inv .3)))
+    (o .loop .inv .1, all-z (s .pre .0) (o .loop .z) (rw e at (o .loop .inv .2)), all-s (s .pre .0) (o .loop .support) (rw e at (o .loop .inv .3)))
 
 pub correct-spec : {M : Type 1} → statement M
 correct-spec =

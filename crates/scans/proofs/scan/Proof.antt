@@ -24,16 +24,16 @@ module _ (c : tie.After-judge) where
 -- and what the correction leaves
 module _ (c : tie.After-correct) where
   abbrev j : tie.After-judge
-  j = c .before .before .before .before .before .before .before .before
+  j = c .before .before .before .before .before .before .before .before .before .before .before
 
   abbrev all : Stations
   all = stationsWith (s j .args .t .stations) (s j .args .numbers .now) (j .judge .last .1 .0) (j .judge .last .1 .1 .0)
 
   values : c .correct .last .0 ≡ stored (s j .args .t .nx) (s j .args .t .ny) (corrected (s j .args .z .now) (s j .args .t .nx) all (r2In (s j .args .t) (s j .args .m)))
-  values = rw (c .before .radius-of .ensures) at (c .correct .ensures .0)
+  values = rw (c .before .radius-of .ensures) at (c .correct .ensures .1)
 
   supports : c .correct .last .1 .0 ≡ stored (s j .args .t .nx) (s j .args .t .ny) (backed (s j .args .support .now) (s j .args .t .nx) all (r2In (s j .args .t) (s j .args .m)) (s j .args .bit))
-  supports = rw (c .before .radius-of .ensures) at (c .correct .ensures .1)
+  supports = rw (c .before .radius-of .ensures) at (c .correct .ensures .2)
 
 limit-of-requires : tie.Need-limit-of-requires
 limit-of-requires c κs = search needs
@@ -45,21 +45,21 @@ add-judge : tie.Need-add-judge
 add-judge c = search needs
 
 judge-requires : tie.Need-judge-requires
-judge-requires c κs = judge-ready (c .before .before .before .before .before .before .pre)
+judge-requires c κs = judge-ready (c .before .before .before .before .before .before .pre .0)
 
 radius-of-requires : tie.Need-radius-of-requires
 radius-of-requires c κs = search needs
 
 correct-requires : tie.Need-correct-requires
 correct-requires c κs =
-    let j = c .before .before .before .before .before .before .before in
-    rw (c .radius-of .ensures) (pass-ready (s j .pre) (judged j) (j .judge .ensures .0))
+    let j = c .before .before .before .before .before .before .before .before .before .before in
+    (rw (c .radius-of .ensures) (pass-ready (s j .pre .0) (judged j) (j .judge .ensures .0)), s j .pre .1)
 
 smooth-if-requires : tie.Need-smooth-if-requires
 smooth-if-requires c κs =
     let k = c .before .before .before .before in
     let d = j k .judge .ensures .0 in
-    (smooth-shaped (s (j k) .pre) (judged (j k)) d (values k), smooth-small (s (j k) .pre) (judged (j k)) d (values k))
+    (smooth-shaped (s (j k) .pre .0) (judged (j k)) d (values k), smooth-small (s (j k) .pre .0) (judged (j k)) d (values k))
 
 same-length : tie.Need-same-length
 same-length c = search needs
@@ -74,8 +74,8 @@ returns : tie.Need-returns
 returns c =
     let k = c .before .before .before .before .before .before in
     let d = j k .judge .ensures .0 in
-    let p = s (j k) .pre in
-    (scanned p (judged (j k)) d (values k) (c .before .smooth-if .ensures) (supports k), d .same-length ∙ p .long)
+    let p = s (j k) .pre .0 in
+    (scanned p (judged (j k)) d (values k) (c .before .smooth-if .ensures) (supports k), d .same-length ∙ p .long, k .correct .ensures .0)
 
 pub scan-spec : {M : Type 1} → statement M
 scan-spec =

@@ -18,8 +18,7 @@ use Rattle.request.specs.declared.Terms.{Terms}
 use Rattle.request.specs.Tables.{stationOf, stationIn, requestIn}
 use Rattle.field_value.specs.Axis.{on-axis}
 use Rattle.scan_station.specs.Judge.{AcceptedOnGrid}
-use Rattle.scans.specs.Scanned.{rowIn}
-use Rattle.scans.specs.Run.{Reached}
+use Rattle.scan_start.specs.Reached.{rowIn, Reached}
 
 -- a stored first guess is stored
 guess-stored : (nx ny : ℕ) (l : List ℤ) → length l ≡ nx * ny → l ≡ stored nx ny (fieldOf (pos 0) nx l)

@@ -1,4 +1,4 @@
--- `scans::begin` meets its contract: the first guess, no support and the first verdicts are the run's start. Assumes nothing.
+-- `scan_start::begin` meets its contract: the first guess, no support and the first verdicts are the run's start. Assumes nothing.
 use Prim.Native.Nat.{_*_, _≤_}
 use native.Mathlib.Omega.{arith}
 use native.Mathlib.Nat.{mul-le-mul}
@@ -8,9 +8,9 @@ use Rattle.lists.specs.Tab.{length-tab}
 use Rattle.scheme.specs.Most.{mostPoints}
 use Rattle.scheme.specs.Accepted.{same-shape}
 use Rattle.request.specs.Tables.{stationIn}
-use Rattle.scans.specs.Start.{begun}
-use Rattle.scans.proofs.begin.Statement.{statement}
-use Rattle.scans.proofs.begin.Tie as tie
+use Rattle.scan_start.specs.Start.{begun}
+use Rattle.scan_start.proofs.begin.Statement.{statement}
+use Rattle.scan_start.proofs.begin.Tie as tie
 
 few-points : (s : tie.Start) → s .args .t .nx * s .args .t .ny ≤ mostPoints
 few-points s = mul-le-mul (s .pre .0 .shape .few-columns) (s .pre .0 .shape .few-rows)

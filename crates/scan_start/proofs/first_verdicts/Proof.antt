@@ -1,13 +1,13 @@
--- `scans::first_verdicts` meets its contract. The loop's invariant: the rows passed have their verdicts. Assumes nothing.
+-- `scan_start::first_verdicts` meets its contract. The loop's invariant: the rows passed have their verdicts. Assumes nothing.
 use Prim.Native.Nat.{ℕ, _+_, _-_, _≤_, _<_}
 use native.Mathlib.Omega.{arith}
 use mathlib.Core.Path.{_≡_, refl}
 use lib.ListN.{length}
 use Rattle.lists.specs.Filled.{Filled, filled-none, filled-set, filled-all}
 use Rattle.scheme.specs.Units.{mostStations}
-use Rattle.scans.specs.Start.{firstAt}
-use Rattle.scans.proofs.first_verdicts.Statement.{statement}
-use Rattle.scans.proofs.first_verdicts.Tie as tie
+use Rattle.scan_start.specs.Start.{firstAt}
+use Rattle.scan_start.proofs.first_verdicts.Statement.{statement}
+use Rattle.scan_start.proofs.first_verdicts.Tie as tie
 
 abbrev Inv-loop : tie.InvT-loop
 Inv-loop verdict₀ t numbers minutes k₀ verdict k = (k ≤ t .stations) × Filled 0 (firstAt t numbers minutes) 0 k verdict₀ verdict

@@ -1,11 +1,11 @@
--- `scans::clear` meets its contract. The loop's invariant: the places passed are 0. Assumes nothing.
+-- `scan_start::clear` meets its contract. The loop's invariant: the places passed are 0. Assumes nothing.
 use Prim.Native.Nat.{ℕ, _+_, _-_, _≤_}
 use native.Mathlib.Omega.{arith}
 use mathlib.Core.Path.{_≡_, refl}
 use lib.ListN.{length}
 use Rattle.lists.specs.Filled.{Filled, filled-none, filled-set, filled-all}
-use Rattle.scans.proofs.clear.Statement.{statement}
-use Rattle.scans.proofs.clear.Tie as tie
+use Rattle.scan_start.proofs.clear.Statement.{statement}
+use Rattle.scan_start.proofs.clear.Tie as tie
 
 abbrev zero-at : ℕ → ℕ
 zero-at n = 0

@@ -1,4 +1,4 @@
--- `scans::copy` meets its contract. The loop's invariant: the places passed are those of the slice read. Assumes nothing.
+-- `scan_start::copy` meets its contract. The loop's invariant: the places passed are those of the slice read. Assumes nothing.
 use Prim.Native.Nat.{_+_, _-_, _≤_}
 use native.Mathlib.Omega.{arith}
 use borrow.Author.Needs.{sfits-of}
@@ -10,8 +10,8 @@ use mir.Val.{toZ, ofZ}
 use mir.Facts.{toZ-ofZ}
 use Rattle.lists.specs.Tab.{tab-getD}
 use Rattle.lists.specs.Filled.{Filled, filled-none, filled-set, filled-all}
-use Rattle.scans.proofs.copy.Statement.{statement}
-use Rattle.scans.proofs.copy.Tie as tie
+use Rattle.scan_start.proofs.copy.Statement.{statement}
+use Rattle.scan_start.proofs.copy.Tie as tie
 
 abbrev Inv-loop : tie.InvT-loop
 Inv-loop to₀ from k₀ to k = (k ≤ length from) × Filled (pos 0) (λ n. getD from n (pos 0)) 0 k to₀ to
