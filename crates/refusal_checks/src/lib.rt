@@ -10,14 +10,11 @@ ghost use Rattle.scheme.specs.Refusals.{rising, badScan, badGuess, badStation};
 ghost use Rattle.scheme.specs.Accepted.{Shaped};
 ghost use Rattle.request.specs.Tables.{stationOf, stationIn, planIn};
 
-// The lowest i32 marks a missing observation.
-const MISSING: i32 = -2147483648;
-
 // A missing observation.
 pub fn is_missing(v: i32) -> bool
     ensures { λ r. ⌜ r ≡ isMissing v ⌝ }
 {
-    v == MISSING
+    v == request::MISSING
 }
 
 // Out of low..high, both included.

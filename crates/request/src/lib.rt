@@ -26,6 +26,11 @@ pub const FROM: usize = 1;
 
 pub const UNTIL: usize = 2;
 
+// The lowest i32 marks a missing observation, and until this minute means no end.
+pub const MISSING: i32 = -2147483648;
+
+pub const NO_END: u32 = 4294967295;
+
 // All of a request but its first guess and its stations' rows. Entries of radius and limit past the count of scans are not read.
 pub struct Terms {
     pub nx: usize,

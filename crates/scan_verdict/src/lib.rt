@@ -7,9 +7,6 @@ ghost use Rattle.scheme.specs.Units.{mostSide};
 ghost use Rattle.scheme.specs.Verdicts.{serves, outOfService, beforeScans};
 ghost use Rattle.request.specs.Tables.{stationOf};
 
-// Until this minute means no end.
-const NO_END: u32 = 4294967295;
-
 // In service at a minute: from ≤ minute < until, and with no end the upper test holds.
 fn serves(minutes: [u32; 3], minute: u32) -> bool
     ensures { λ r. ⌜ ((numbers : List ℤ) → r ≡ serves (stationOf numbers minutes) minute) ⌝ }
@@ -17,7 +14,7 @@ fn serves(minutes: [u32; 3], minute: u32) -> bool
     if minute < minutes[request::FROM] {
         return false;
     }
-    if minutes[request::UNTIL] == NO_END {
+    if minutes[request::UNTIL] == request::NO_END {
         return true;
     }
     minute < minutes[request::UNTIL]

@@ -1,1 +1,1 @@
-pub mod Report
+pub mod Answered

@@ -5,7 +5,7 @@ ghost use Rattle.scheme.specs.Promises.{slices, Stands};
 ghost use Rattle.scheme.specs.Text.{mostBytes, replyText};
 ghost use Rattle.scheme.specs.Accepted.{Formed, Fits};
 ghost use Rattle.request.specs.Tables.{requestIn};
-ghost use Rattle.text_answer.specs.Report.{toldText, Tellable};
+ghost use Rattle.text_answer.specs.Answered.{toldText, Tellable};
 use request::Terms;
 
 // What the analysis answered, at the start of out; how many bytes it has.

@@ -14,12 +14,6 @@ use text_pieces::SignedRead;
 use text_pieces::UnsignedRead;
 use text_pieces::WordRead;
 
-// The lowest i32 marks a missing observation.
-const MISSING: i32 = -2147483648;
-
-// The largest u32 means no end.
-const NO_END: u32 = 4294967295;
-
 // What a line says and the place after it, or that it is not in form.
 pub enum SizeRead {
     Value(u32, u32, usize),
@@ -94,7 +88,7 @@ fn observation_at(s: &[u8], at: usize) -> SignedRead
     ensures { λ r. ⌜ observation (drop at (now (s .entry))) ≡ signedTold (now (s .entry)) r ⌝ }
 {
     match text_pieces::word_at(s, at, b"M") {
-        WordRead::At(next) => SignedRead::Value(MISSING, next),
+        WordRead::At(next) => SignedRead::Value(request::MISSING, next),
         WordRead::NotInForm => text_pieces::signed_at(s, at),
     }
 }
@@ -104,7 +98,7 @@ fn end_at(s: &[u8], at: usize) -> UnsignedRead
     ensures { λ r. ⌜ end (drop at (now (s .entry))) ≡ unsignedTold (now (s .entry)) r ⌝ }
 {
     match text_pieces::word_at(s, at, b"open") {
-        WordRead::At(next) => UnsignedRead::Value(NO_END, next),
+        WordRead::At(next) => UnsignedRead::Value(request::NO_END, next),
         WordRead::NotInForm => text_pieces::count_at(s, at, 0, 4294967295),
     }
 }

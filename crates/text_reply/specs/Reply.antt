@@ -20,7 +20,7 @@ use Rattle.text_head.specs.Head.{Limits, termsRead}
 use Rattle.text_request.specs.declared.RequestRead.{RequestRead}
 use Rattle.text_request.specs.declared.RequestRead.the-variants.{Value, NotInForm}
 use Rattle.text_request.specs.Whole.{requestRead, requestTold}
-use Rattle.text_answer.specs.Report.{two-short, five-accepts}
+use Rattle.text_answer.specs.Answered.{two-short, five-accepts}
 
 module _ (text : List ℕ) where
   pub over : 65536 < length text → answerText text ≡ firstTwo 10 0

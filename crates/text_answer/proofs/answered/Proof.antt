@@ -5,7 +5,7 @@ use Rattle.scheme.specs.Units.{Request}
 use Rattle.scheme.specs.Scan.{Analysis}
 use Rattle.scheme.specs.Promises.{slices}
 use Rattle.request.specs.Tables.{requestIn}
-use Rattle.text_answer.specs.Report.{reply-told, tellable, stands-as}
+use Rattle.text_answer.specs.Answered.{reply-told, tellable, stands-as}
 use Rattle.text_answer.proofs.answered.Statement.{statement}
 use Rattle.text_answer.proofs.answered.Tie as tie
 

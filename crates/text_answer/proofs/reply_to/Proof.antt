@@ -10,7 +10,7 @@ use Rattle.lists.specs.Tab.{length-tab}
 use Rattle.scheme.specs.Units.{mostStations}
 use Rattle.scheme.specs.Most.{mostPoints}
 use Rattle.request.specs.Tables.{stationIn}
-use Rattle.text_answer.specs.Report.{front-long}
+use Rattle.text_answer.specs.Answered.{front-long}
 use Rattle.text_answer.proofs.reply_to.Statement.{statement}
 use Rattle.text_answer.proofs.reply_to.Tie as tie
 

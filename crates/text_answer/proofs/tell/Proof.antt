@@ -6,7 +6,7 @@ use lib.ListN.{length}
 use Rattle.scheme.specs.Scan.{Analysis}
 use Rattle.scheme.specs.Text.{firstTwo}
 use Rattle.scheme.specs.Promises.{slices}
-use Rattle.text_answer.specs.Report.{told-refused, told-all, at-start, stands, stands-as, two-short}
+use Rattle.text_answer.specs.Answered.{told-refused, told-all, at-start, stands, stands-as, two-short}
 use Rattle.text_answer.proofs.tell.Statement.{statement}
 use Rattle.text_answer.proofs.tell.Tie as tie
 

@@ -2,7 +2,7 @@
 use borrow.Author.Needs.{needs}
 use native.Mathlib.Omega.{arith}
 use lib.ListN.{length}
-use Rattle.text_answer.specs.Report.{at-start, stands, stands-as}
+use Rattle.text_answer.specs.Answered.{at-start, stands, stands-as}
 use Rattle.text_reply.specs.Reply.{two-fit, over, as-read}
 use Rattle.text_reply.proofs.reply.Statement.{statement}
 use Rattle.text_reply.proofs.reply.Tie as tie

@@ -11,7 +11,7 @@ use Rattle.text_head.specs.declared.Head.{Head}
 use Rattle.text_head.specs.Head.{Limits}
 use Rattle.scheme.specs.Units.{mostStations}
 use Rattle.text_request.specs.Whole.{Fits}
-use Rattle.text_answer.specs.Report.{at-start, stands, stands-as, front-long}
+use Rattle.text_answer.specs.Answered.{at-start, stands, stands-as, front-long}
 use Rattle.text_reply.specs.Reply.{inside, formed, two-fit, not-in-form, in-form}
 use Rattle.text_reply.proofs.reply_to_read.Statement.{statement}
 use Rattle.text_reply.proofs.reply_to_read.Tie as tie

@@ -4,7 +4,7 @@ use mathlib.Core.Path.{ap}
 use Rattle.scheme.specs.Units.{Request}
 use Rattle.scheme.specs.Text.{inForm}
 use Rattle.text_request.specs.Told.{Read}
-use Rattle.text_answer.specs.Report.{stands-as}
+use Rattle.text_answer.specs.Answered.{stands-as}
 use Rattle.text_reply.proofs.reply_to_text.Statement.{statement}
 use Rattle.text_reply.proofs.reply_to_text.Tie as tie
 
