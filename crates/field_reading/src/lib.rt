@@ -75,11 +75,11 @@ fn reading_in(nx: usize, ny: usize, field: &[i32], support: &[u8], x: i32, y: i3
     requires { ⌜ Shaped nx ny (length (now field)) × (length (now support) ≡ length (now field)) ⌝ }
     ensures { λ r. ⌜ r ≡ readingIn nx ny (fieldOf (pos 0) nx (now (field .entry))) (fieldOf 0 nx (now (support .entry))) x y ⌝ }
 {
-    if !field_value::on_grid(nx, ny, x, y) {
+    if !field_value::near_grid(0, nx, ny, x, y) {
         return Reading::OffGrid;
     }
-    let px = x as u32;
-    let py = y as u32;
+    let px = field_value::place(nx, x);
+    let py = field_value::place(ny, y);
     let value = double(field_value::sum_at(field, nx, ny, px, py), PARTS_OF_SUM);
     if is_backed(support, nx, ny, px, py) {
         Reading::Backed(value)

@@ -4,10 +4,10 @@ ghost use mathlib.Core.Bool.{_&&_};
 ghost use Prim.Native.Nat.{_+_, _-_, _*_, _≤_};
 ghost use lib.ListN.{length};
 ghost use lib.IntN.{pos, natAbs, _+ℤ_, _*ℤ_};
-ghost use Rattle.scheme.specs.Units.{mostSide, fieldOf, step};
+ghost use Rattle.scheme.specs.Units.{mostSide, fieldOf, step, border};
 ghost use Rattle.scheme.specs.Rounding.{rounded};
-ghost use Rattle.scheme.specs.Verdicts.{onAxis};
-ghost use Rattle.scheme.specs.Value.{cell, sumAt};
+ghost use Rattle.scheme.specs.Verdicts.{nearAxis};
+ghost use Rattle.scheme.specs.Value.{place, cell, sumAt};
 ghost use Rattle.scheme.specs.Accepted.{Shaped};
 ghost use Rattle.field_value.specs.Corners.{blend, Spotted};
 use rounding::Total;
@@ -15,28 +15,39 @@ use rounding::Total;
 // Neighbouring points are 64 position units apart.
 const STEP: u32 = 64;
 
-// On an axis of n points, its ends included.
-fn on_axis(n: usize, x: i32) -> bool
-    requires { ⌜ (1 ≤ n) × (n ≤ mostSide) ⌝ }
-    ensures { λ r. ⌜ r ≡ onAxis n x ⌝ }
+// ---- positions on and off the grid
+
+// Off an axis of n points by at most `off` units; by none is on it, its ends included.
+fn near_axis(off: u32, n: usize, x: i32) -> bool
+    requires { ⌜ (off ≤ border) × (1 ≤ n) × (n ≤ mostSide) ⌝ }
+    ensures { λ r. ⌜ r ≡ nearAxis off n x ⌝ }
 {
-    if x < 0 {
-        return false;
-    }
-    x as usize <= 64 * (n - 1)
+    let past = off as i32;
+    (-past <= x) & (x <= (64 * (n - 1)) as i32 + past)
 }
 
-// On a grid of nx columns and ny rows, its border included.
-pub fn on_grid(nx: usize, ny: usize, x: i32, y: i32) -> bool
-    requires { ⌜ (1 ≤ nx) × (nx ≤ mostSide) × (1 ≤ ny) × (ny ≤ mostSide) ⌝ }
-    ensures { λ r. ⌜ r ≡ onAxis nx x && onAxis ny y ⌝ }
+// Off a grid of nx columns and ny rows by at most that much, along x and along y.
+pub fn near_grid(off: u32, nx: usize, ny: usize, x: i32, y: i32) -> bool
+    requires { ⌜ (off ≤ border) × (1 ≤ nx) × (nx ≤ mostSide) × (1 ≤ ny) × (ny ≤ mostSide) ⌝ }
+    ensures { λ r. ⌜ r ≡ nearAxis off nx x && nearAxis off ny y ⌝ }
 {
-    if on_axis(nx, x) {
-        on_axis(ny, y)
-    } else {
-        false
-    }
+    near_axis(off, nx, x) & near_axis(off, ny, y)
 }
+
+// The place of a position on an axis of n points: itself, if it is on the axis, and else the nearer end.
+pub fn place(n: usize, x: i32) -> u32
+    requires { ⌜ (1 ≤ n) × (n ≤ mostSide) ⌝ }
+    ensures { λ r. ⌜ r ≡ place n x ⌝ }
+{
+    if x < 0 {
+        return 0;
+    }
+    let last = STEP * ((n - 1) as u32);
+    let at = x as u32;
+    if at < last { at } else { last }
+}
+
+// ---- the value there
 
 // The lower corner of the cell of position x, on an axis of n points. On the last column or row that is the last cell.
 pub fn cell(n: usize, x: u32) -> usize

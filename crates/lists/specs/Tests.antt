@@ -4,8 +4,8 @@ use native.Mathlib.Omega.{arith}
 use mathlib.Core.Path.{_≡_, refl, sym, _∙_}
 use mathlib.Core.Logic.{_⊎_, inl, inr}
 use mathlib.Core.Bool.{Bool, true, false, not, cond, _&&_, _||_}
-use borrow.Author.Tests.{lt-ltb, le-ltb}
-use lib.Dec.{T, ltb, ltb→lt, nltb→le}
+use borrow.Author.Tests.{lt-ltb, le-ltb, le-leb, lt-leb}
+use lib.Dec.{T, leb, ltb, ltb→lt, nltb→le}
 
 pub lt-or-le : (a b : ℕ) → (a < b) ⊎ (b ≤ a)
 lt-or-le a b = go (ltb a b) (ltb→lt a b) (nltb→le a b)
@@ -37,6 +37,14 @@ ltb-same a b c d f g = go (lt-or-le a b) (lt-or-le c d)
     go (inl p) q = lt-ltb a b p ∙ sym (lt-ltb c d (f p))
     go (inr p) (inl q) = lt-ltb a b (g q) ∙ sym (lt-ltb c d q)
     go (inr p) (inr q) = le-ltb a b p ∙ sym (le-ltb c d q)
+
+pub leb-same : (a b c d : ℕ) → (a ≤ b → c ≤ d) → (c ≤ d → a ≤ b) → leb a b ≡ leb c d
+leb-same a b c d f g = go (lt-or-le b a) (lt-or-le d c)
+  where
+    go : (b < a) ⊎ (a ≤ b) → (d < c) ⊎ (c ≤ d) → leb a b ≡ leb c d
+    go (inr p) q = le-leb a b p ∙ sym (le-leb c d (f p))
+    go (inl p) (inr q) = le-leb a b (g q) ∙ sym (le-leb c d q)
+    go (inl p) (inl q) = lt-leb a b p ∙ sym (lt-leb c d q)
 
 -- a choice by a test is settled by what the test says
 module _ {A : Type 0} where

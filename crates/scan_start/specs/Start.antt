@@ -12,7 +12,7 @@ use Rattle.lists.specs.Tests.{and-true}
 use Rattle.lists.specs.Tab.{tab, length-tab, getD-tab, is-tab, map-tab, tab-same}
 use Rattle.scheme.specs.Units.{isMissing, stored, fieldOf, Station, guess}
 use Rattle.scheme.specs.Verdicts.{onAxis, offGrid, firstThatFits, beforeScans}
-use Rattle.scheme.specs.Scan.{start, after}
+use Rattle.scheme.specs.Scan.{start, afterWithin}
 use Rattle.scheme.specs.Accepted.{Stationed, noStation, Sound}
 use Rattle.request.specs.declared.Terms.{Terms}
 use Rattle.request.specs.Tables.{stationOf, stationIn, requestIn}
@@ -68,7 +68,7 @@ module _ (t : Terms) (first : List ℤ) (numbers : List (List ℤ)) (minutes : L
       record { x = on-axis (t .nx) _ x; y = on-axis (t .ny) _ y; value = in-range k h .value there }
 
   pub begun : {z : List ℤ} {sup : List ℕ} {len : ℕ} → z ≡ first → len ≡ t .nx * t .ny → sup ≡ tab len (λ k. 0) → Reached t first numbers minutes 0 z sup st
-  unfolding after start guess stored
+  unfolding afterWithin start guess stored
   begun ez long es =
       record {
         sound = sound;

@@ -1,26 +1,47 @@
 // How a scan judges the stations (document 01, "One scan", Difference).
 ghost use mathlib.Core.Path.{_≡_};
-ghost use Prim.Native.Nat.{ℕ, _≤_};
-ghost use lib.ListN.{length, getD};
+ghost use Prim.Native.Nat.{_≤_};
+ghost use lib.ListN.{length};
 ghost use lib.IntN.{pos, natAbs};
 ghost use Rattle.lists.specs.Filled.{Filled};
 ghost use Rattle.scheme.specs.Units.{mostScans};
 ghost use Rattle.scheme.specs.Difference.{afterTest};
 ghost use Rattle.scheme.specs.Most.{mostField, mostDifference};
 ghost use Rattle.scheme.specs.Accepted.{Shaped};
-ghost use Rattle.scan_station.specs.Judge.{OnGrid, JudgeReady, diffOf, diffAt, verdictAt};
+ghost use Rattle.scan_station.specs.Judge.{Small, Heard, JudgeReady, valueFor, diffOf, diffAt, verdictAt};
 use request::Terms;
 
-// The observation less the value of the field there, 0 for a row that is not accepted, whose position may be off the grid.
-fn difference(verdict: u8, row: [i32; 3], z: &[i32], nx: usize, ny: usize) -> i64
-    requires { ⌜ Shaped nx ny (length (now z)) × ((k : ℕ) → natAbs (getD (now z) k (pos 0)) ≤ mostField) × (verdict ≡ 0 → OnGrid nx ny row) ⌝ }
-    ensures { λ r. ⌜ (r ≡ diffOf (now (z .entry)) nx ny verdict row) × (natAbs r ≤ mostDifference) ⌝ }
+// The value that a row's observation is held to: on the grid the field's as the scan finds it, and a post's the first guess's at the nearest
+// place.
+fn value_for(row: [i32; 3], guess: &[i32], z: &[i32], nx: usize, ny: usize) -> i64
+    requires { ⌜ Shaped nx ny (length (now guess)) × Shaped nx ny (length (now z)) × Small (now guess) × Small (now z) ⌝ }
+    ensures { λ r. ⌜ (r ≡ valueFor (now (guess .entry)) (now (z .entry)) nx ny row) × (natAbs r ≤ mostField) ⌝ }
+{
+    let x = field_value::place(nx, row[request::X]);
+    let y = field_value::place(ny, row[request::Y]);
+    if field_value::near_grid(0, nx, ny, row[request::X], row[request::Y]) {
+        field_value::value_at(z, nx, ny, x, y)
+    } else {
+        field_value::value_at(guess, nx, ny, x, y)
+    }
+}
+
+// The observation less that value; 0 for a row that is not accepted, whose observation may be missing.
+fn difference(
+    verdict: u8,
+    row: [i32; 3],
+    guess: &[i32],
+    z: &[i32],
+    nx: usize,
+    ny: usize,
+) -> i64
+    requires { ⌜ Shaped nx ny (length (now guess)) × Shaped nx ny (length (now z)) × Small (now guess) × Small (now z) × (verdict ≡ 0 → Heard row) ⌝ }
+    ensures { λ r. ⌜ (r ≡ diffOf (now (guess .entry)) (now (z .entry)) nx ny verdict row) × (natAbs r ≤ mostDifference) ⌝ }
 {
     if verdict != 0 {
         return 0;
     }
-    let value = row[request::VALUE] as i64;
-    value - field_value::value_at(z, nx, ny, row[request::X] as u32, row[request::Y] as u32)
+    row[request::VALUE] as i64 - value_for(row, guess, z, nx, ny)
 }
 
 // |d|, for the E test.
@@ -46,8 +67,10 @@ fn verdict_after(verdict: u8, d: i64, limit: u32, scan: u8) -> u8
     }
 }
 
-// All stations are judged from the field as the scan finds it: the difference of each accepted row, and its verdict after the E test.
+// All stations are judged, from the field as the scan finds it and the first guess: the difference of each accepted row, and its verdict after
+// the E test.
 pub fn judge(
+    guess: &[i32],
     z: &[i32],
     verdict: &mut [u8],
     d: &mut [i64; 512],
@@ -56,13 +79,13 @@ pub fn judge(
     limit: u32,
     scan: u8,
 )
-    requires { ⌜ JudgeReady (now z) (now verdict) (now d) t (now numbers) scan ⌝ }
-    ensures { λ u. ⌜ Filled (pos 0) (diffAt (now (z .entry)) t (now (numbers .entry)) (now (verdict .entry))) 0 (t .stations) (now (d .entry)) (now (d .exit))
-        × Filled 0 (verdictAt (now (z .entry)) t (now (numbers .entry)) (now (verdict .entry)) scan limit) 0 (t .stations) (now (verdict .entry)) (now (verdict .exit)) ⌝ }
+    requires { ⌜ JudgeReady (now guess) (now z) (now verdict) (now d) t (now numbers) scan ⌝ }
+    ensures { λ u. ⌜ Filled (pos 0) (diffAt (now (guess .entry)) (now (z .entry)) t (now (numbers .entry)) (now (verdict .entry))) 0 (t .stations) (now (d .entry)) (now (d .exit))
+        × Filled 0 (verdictAt (now (guess .entry)) (now (z .entry)) t (now (numbers .entry)) (now (verdict .entry)) scan limit) 0 (t .stations) (now (verdict .entry)) (now (verdict .exit)) ⌝ }
 {
     let mut k: usize = 0;
     while k < t.stations {
-        let dk = difference(verdict[k], numbers[k], z, t.nx, t.ny);
+        let dk = difference(verdict[k], numbers[k], guess, z, t.nx, t.ny);
         d[k] = dk;
         verdict[k] = verdict_after(verdict[k], dk, limit, scan);
         k += 1;

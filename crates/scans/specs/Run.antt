@@ -10,7 +10,7 @@ use lib.IntN.{ℤ, pos, natAbs}
 use Rattle.lists.specs.Tab.{tab, length-tab, map-tab, tab-getD}
 use Rattle.scheme.specs.Units.{mostStations, mostScans, Request}
 use Rattle.scheme.specs.Difference.{Row}
-use Rattle.scheme.specs.Scan.{after, atEnd, analysis}
+use Rattle.scheme.specs.Scan.{afterWithin, after, atEnd, analysis}
 use Rattle.scheme.specs.Promises.{slices}
 use Rattle.scheme.specs.Accepted.{same-shape}
 use Rattle.scheme.specs.Bounds.{after-within}
@@ -69,7 +69,7 @@ module _ {t : Terms} {guess : List ℤ} {numbers : List (List ℤ)} {minutes : L
             (λ i j. omega (arith, support-small q i j m, bit-small)) k)
 
     pub next : {z' : List ℤ} {sup' st' : List ℕ} {ds : List ℤ} → Scanned t numbers m z sup st z' sup' st' ds → Reached t guess numbers minutes (m + 1) z' sup' st'
-    unfolding after
+    unfolding afterWithin
     next {z' = z'} {sup' = sup'} {st' = st'} {ds = ds} did =
         subst (λ (n : ℕ). Reached t guess numbers minutes n z' sup' st') (sym (add-one m))
         (record {

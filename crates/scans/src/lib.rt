@@ -47,15 +47,25 @@ fn scan(
     ly: &mut [u32; 512],
     ld: &mut [i64; 512],
     t: Terms,
+    guess: &[i32],
     numbers: &[[i32; 3]; 512],
     m: usize,
     bit: u8,
 )
-    requires { ⌜ ScanReady t (now numbers) m bit (now z) (now support) (now verdict) (now d) × Roomy (now lx) (now ly) (now ld) ⌝ }
-    ensures { λ u. ⌜ Scanned t (now (numbers .entry)) m (now (z .entry)) (now (support .entry)) (now (verdict .entry)) (now (z .exit)) (now (support .exit)) (now (verdict .exit)) (now (d .exit))
+    requires { ⌜ ScanReady t (now guess) (now numbers) m bit (now z) (now support) (now verdict) (now d) × Roomy (now lx) (now ly) (now ld) ⌝ }
+    ensures { λ u. ⌜ Scanned t (now (guess .entry)) (now (numbers .entry)) m (now (z .entry)) (now (support .entry)) (now (verdict .entry)) (now (z .exit)) (now (support .exit)) (now (verdict .exit)) (now (d .exit))
         × (length (now (d .exit)) ≡ mostStations) × Roomy (now (lx .exit)) (now (ly .exit)) (now (ld .exit)) ⌝ }
 {
-    scan_station::judge(z, verdict, d, t, numbers, limit_of(t, m), (m as u8) + 1);
+    scan_station::judge(
+        guess,
+        z,
+        verdict,
+        d,
+        t,
+        numbers,
+        limit_of(t, m),
+        (m as u8) + 1,
+    );
     scan_point::correct(
         z,
         support,
@@ -102,6 +112,7 @@ pub fn run(
             &mut ly,
             &mut ld,
             t,
+            guess,
             numbers,
             m,
             bit,

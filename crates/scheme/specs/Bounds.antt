@@ -21,7 +21,7 @@ use Rattle.scheme.specs.Rounding.{rounded}
 use Rattle.scheme.specs.Difference.{Row, afterTest, judged}
 use Rattle.scheme.specs.Correction.{Sums, nothing, share, correction}
 use Rattle.scheme.specs.Smoothing.{patternAt, patternRow, patternSum, inner, smoothed}
-use Rattle.scheme.specs.Scan.{State, differences, start, rowsJudged, sumsAt, corrected, scan, after}
+use Rattle.scheme.specs.Scan.{State, differences, start, rowsJudged, sumsAt, corrected, scan, afterWithin, after}
 use Rattle.scheme.specs.Most.{mostField}
 use Rattle.scheme.specs.Nearest.{rounded-size}
 use Rattle.scheme.specs.Gifts.{sums, gift-size}
@@ -143,7 +143,7 @@ scan-within most q m found h =
 
 pub run-stays-within : (q : Request) (most limit : ℕ) → Within most (guess q) → (n : ℕ) → ((m : ℕ) → m < n → E (q .plan) m ≤ limit)
     → Within (most + n * limit) (after q n .field)
-unfolding after start
+unfolding afterWithin start
 run-stays-within q most limit first zero limits = λ i j. omega (arith, first i j)
 run-stays-within q most limit first (suc n) limits =
     λ i j. omega (

@@ -12,16 +12,17 @@ use Rattle.lists.specs.Tab.{tab}
 use Rattle.lists.specs.Sums.{total}
 use Rattle.lists.specs.First.{first, firstFrom, orNext}
 use Rattle.scheme.specs.declared.Reading.the-variants.{Backed, FirstGuess, OffGrid, Refused}
-use Rattle.scheme.specs.Units.{isMissing, missingMark, Field, stored, fieldOf, mostStations, Station, noEnd, Columns, stationAt, stationsOf, R, E, Call, guess, asking}
-use Rattle.scheme.specs.Refusals.{Refusal, accepted, refused, asOne, inOrder, refusedIf, refusedAt, badShape, Window, badWindow, badLengths, badColumns, badScans, rising, badScan, badGuess, badStation, fromFive, analysisRefusal, windowRefusal, summaryRefusal, readingRefusal}
-use Rattle.scheme.specs.Verdicts.{serves, outOfService, onAxis, offGrid, firstThatFits, beforeScans}
+use Rattle.scheme.specs.Units.{isMissing, missingMark, Field, stored, fieldOf, mostStations, Station, noEnd, Columns, stationAt, stationsOf, border, R, E, Request, Call, guess, asking}
+use Rattle.scheme.specs.Refusals.{Refusal, accepted, refused, asOne, inOrder, refusedIf, refusedAt, badShape, Span, Window, badWindow, badLengths, badColumns, badScans, rising, badScan, badGuess, badStation, fromFive, analysisRefusal, windowRefusal, summaryRefusal, readingRefusal}
+use Rattle.scheme.specs.Verdicts.{serves, outOfService, nearAxis, offGrid, firstThatFits, beforeScans}
 use Rattle.scheme.specs.Rounding.{rounded}
 use Rattle.scheme.specs.Value.{place, cell, corners, sumAt, valueAt}
 use Rattle.scheme.specs.Difference.{difference, afterTest, judged}
 use Rattle.scheme.specs.Weight.{weight}
 use Rattle.scheme.specs.Correction.{gift, share, correction, backedBy}
 use Rattle.scheme.specs.Smoothing.{inner, smoothed}
-use Rattle.scheme.specs.Scan.{start, rowsJudged, sumsAt, corrected, scan, after, analysis}
+use Rattle.scheme.specs.Scan.{start, rowsJudged, sumsAt, corrected, scan, afterWithin, analysis}
+use Rattle.scheme.specs.Reach.{onSpan}
 use Rattle.scheme.specs.Readings.{double, positiveZero, isBacked, readingIn, reading, numbersOf, lowest, highest, unitsOf, summary}
 use Rattle.scheme.specs.Text.{requestLines, firstTwo, analysisText, replyText, inForm, answerText}
 use Rattle.scheme.specs.Text.Pieces.{ascii, word, digits, positive, natural, between, count, unsigned, negative, signed, values}
@@ -199,7 +200,7 @@ refusals =
 -- ---- verdicts before the first scan, on a grid of two by two at minute 1000, with readings of up to 60 minutes
 
 abbrev verdict : Station → ℕ
-verdict s = beforeScans 2 2 1000 60 s
+verdict s = beforeScans border 2 2 1000 60 s
 
 -- a good reading of another minute, of a mast with another service, and at another place
 abbrev observedAt : ℕ → Station
@@ -220,22 +221,23 @@ pub record Verdicts : Type 0 where
   pub read-when-put-up : verdict (serving 990 990 noEnd) ≡ 0
   pub taken-down-by-T : verdict (serving 990 0 1000) ≡ 2
   pub taken-down-after-T : verdict (serving 990 0 1001) ≡ 0
-  pub put-up-after-T : beforeScans 2 2 989 60 (serving 990 990 noEnd) ≡ 2
-  pub read-when-taken-down : beforeScans 2 2 990 60 (serving 1000 0 1000) ≡ 2
-  pub no-end : beforeScans 2 2 4294967295 60 (serving 4294967295 0 noEnd) ≡ 0
+  pub put-up-after-T : beforeScans border 2 2 989 60 (serving 990 990 noEnd) ≡ 2
+  pub read-when-taken-down : beforeScans border 2 2 990 60 (serving 1000 0 1000) ≡ 2
+  pub no-end : beforeScans border 2 2 4294967295 60 (serving 4294967295 0 noEnd) ≡ 0
   pub two-before-three : verdict (serving 1001 0 1001) ≡ 2
   -- 3 and 4
   pub read-at-T : verdict (observedAt 1000) ≡ 0
   pub read-after-T : verdict (observedAt 1001) ≡ 3
   pub of-the-greatest-age : verdict (observedAt 940) ≡ 0
   pub too-old : verdict (observedAt 939) ≡ 4
-  pub any-age : beforeScans 2 2 4294967295 4294967295 (observedAt 0) ≡ 0
-  -- 5: the border is on the grid
+  pub any-age : beforeScans border 2 2 4294967295 4294967295 (observedAt 0) ≡ 0
+  -- 5: a post is off the grid by at most 256 units on each axis
   pub far-corner : verdict (standing (pos 64) (pos 64)) ≡ 0
-  pub beside-columns : verdict (standing (pos 65) (pos 0)) ≡ 5
-  pub beside-rows : verdict (standing (pos 0) (pos 65)) ≡ 5
-  pub before-columns : verdict (standing (negsuc 0) (pos 0)) ≡ 5
-  pub before-rows : verdict (standing (pos 0) (negsuc 0)) ≡ 5
+  pub posts-at-corners : (verdict (standing (pos 320) (pos 320)) ≡ 0) × (verdict (standing (negsuc 255) (negsuc 255)) ≡ 0)
+  pub past-columns : verdict (standing (pos 321) (pos 0)) ≡ 5
+  pub past-rows : verdict (standing (pos 0) (pos 321)) ≡ 5
+  pub before-columns : verdict (standing (negsuc 256) (pos 320)) ≡ 5
+  pub before-rows : verdict (standing (pos 0) (negsuc 256)) ≡ 5
   -- 11 to 16: the E test of each scan, and a verdict that stays
   pub rejected-in-the-first : afterTest 1 0 (pos 1) 0 ≡ 11
   pub rejected-in-the-last : afterTest 6 0 (negsuc 0) 0 ≡ 16
@@ -243,7 +245,7 @@ pub record Verdicts : Type 0 where
   pub rejected-before : afterTest 2 200 (pos 0) 11 ≡ 11
 
 verdicts : Verdicts
-unfolding beforeScans firstThatFits isMissing outOfService serves offGrid onAxis afterTest
+unfolding beforeScans firstThatFits isMissing outOfService serves offGrid nearAxis afterTest
 verdicts =
     record {
       fine = refl;
@@ -263,8 +265,9 @@ verdicts =
       too-old = refl;
       any-age = refl;
       far-corner = refl;
-      beside-columns = refl;
-      beside-rows = refl;
+      posts-at-corners = (refl, refl);
+      past-columns = refl;
+      past-rows = refl;
       before-columns = refl;
       before-rows = refl;
       rejected-in-the-first = refl;
@@ -302,7 +305,7 @@ pub record Readings : Type 0 where
   pub summary-refused : summary 4 1 ramp ≡ record { refusal = 1; place = 0; units = record { lowest = positiveZero; highest = positiveZero; span = positiveZero } }
 
 readings : Readings
-unfolding reading readingRefusal summaryRefusal refusedIf badShape readingIn onAxis place isBacked cell sumAt corners fieldOf numbersOf summary unitsOf lowest highest
+unfolding reading readingRefusal summaryRefusal refusedIf badShape readingIn nearAxis place isBacked cell sumAt corners fieldOf numbersOf summary unitsOf lowest highest
 readings =
     record {
       backed = refl;
@@ -362,7 +365,7 @@ pub record Texts : Type 0 where
       ≡ ascii "refusal=0\nplace=0\nrow=0,0\nrow=0,0\nsup=1,0\nsup=0,0\nver=0,4,1,1\n"
 
 texts : Texts
-unfolding answerText replyText requestLines lines rows flatten nothingAfter gridLine scanLine rowLine stationLine number observation end word digits positive natural between count unsigned negative signed values fromFive inOrder refusedIf refusedAt first firstFrom orNext badScans badScan rising badGuess badStation isMissing analysisText firstTwo gridLines keyed cells integer decimal spelled analysis stored tab after scan start rowsJudged sumsAt corrected guess fieldOf R E beforeScans firstThatFits outOfService serves offGrid onAxis judged afterTest difference valueAt place sumAt cell corners rounded total share gift weight correction backedBy
+unfolding answerText replyText requestLines lines rows flatten nothingAfter gridLine scanLine rowLine stationLine number observation end word digits positive natural between count unsigned negative signed values fromFive inOrder refusedIf refusedAt first firstFrom orNext badScans badScan rising badGuess badStation isMissing analysisText firstTwo gridLines keyed cells integer decimal spelled analysis stored tab afterWithin scan start rowsJudged sumsAt corrected guess fieldOf R E beforeScans firstThatFits outOfService serves offGrid nearAxis judged afterTest difference valueAt place sumAt cell corners rounded total share gift weight correction backedBy
 texts =
     record {
       longest = λ text e. rw (le-ltb 65536 (length text) (omega arith));
@@ -397,6 +400,46 @@ borders : Borders
 unfolding smoothed inner
 borders = record { border-keeps = λ z. (refl, refl, refl, refl) }
 
+-- ---- posts beyond the border
+
+-- a grid of two by two, level at 640, two scans of radius 96 and limit 64, and one mast, at (x, y), that reads 704
+abbrev asksOf : (x y : ℤ) → Request
+asksOf x y =
+    asking 2 2 (pos 640 ∷ pos 640 ∷ pos 640 ∷ pos 640 ∷ []) (mast x y (pos 704) 1000 0 noEnd ∷ []) 2 (pos 96 ∷ pos 96 ∷ []) (pos 64 ∷ pos 64 ∷ []) false 1000 60
+
+abbrev fromTo : ℕ → ℕ → Span
+fromTo first last = record { first = first; last = last }
+
+pub record Posts : Type 0 where
+  -- its difference is 64 in both scans, though the field has come up to it; and it is 128 off (1, 0), past the radius
+  pub west-of-the-grid : analysis (asksOf (negsuc 63) (pos 0))
+      ≡ record { grid = pos 768 ∷ pos 640 ∷ pos 768 ∷ pos 640 ∷ []; support = 3 ∷ 0 ∷ 3 ∷ 0 ∷ []; verdict = 0 ∷ [] }
+  -- on the border it is on the grid: the second scan finds nothing left to correct
+  pub on-the-border : analysis (asksOf (pos 0) (pos 0))
+      ≡ record { grid = pos 704 ∷ pos 704 ∷ pos 704 ∷ pos 704 ∷ []; support = 3 ∷ 3 ∷ 3 ∷ 3 ∷ []; verdict = 0 ∷ [] }
+  -- the first guess at the nearest place, interpolated; a field as found on the grid
+  pub nearest-place : (z : Field ℤ) → difference 2 2 (fieldOf (pos 0) 2 ramp) z (standing (pos 32) (pos 320)) ≡ pos 32
+  pub field-as-found : (guess : Field ℤ) → difference 2 2 guess (fieldOf (pos 0) 2 ramp) (standing (pos 32) (pos 64)) ≡ pos 32
+  -- a part from the first of three columns to the second keeps what is west of the grid, and nothing past its own edge
+  pub kept-at-the-border : (onSpan 3 (fromTo 0 1) (negsuc 255) ≡ true) × (onSpan 3 (fromTo 1 2) (pos 384) ≡ true)
+  pub kept-on-the-edge : (onSpan 3 (fromTo 0 1) (pos 64) ≡ true) × (onSpan 3 (fromTo 1 2) (pos 64) ≡ true)
+  pub not-beside-the-edge : (onSpan 3 (fromTo 0 1) (pos 65) ≡ false) × (onSpan 3 (fromTo 1 2) (pos 63) ≡ false)
+  pub not-past-the-other-border : (onSpan 3 (fromTo 0 1) (pos 384) ≡ false) × (onSpan 3 (fromTo 1 2) (negsuc 255) ≡ false)
+
+posts : Posts
+unfolding analysis stored tab afterWithin scan start rowsJudged sumsAt corrected guess fieldOf R E beforeScans firstThatFits isMissing outOfService serves offGrid nearAxis judged afterTest difference valueAt place sumAt cell corners rounded total share gift weight correction backedBy onSpan
+posts =
+    record {
+      west-of-the-grid = refl;
+      on-the-border = refl;
+      nearest-place = λ z. refl;
+      field-as-found = λ guess. refl;
+      kept-at-the-border = (refl, refl);
+      kept-on-the-edge = (refl, refl);
+      not-beside-the-edge = (refl, refl);
+      not-past-the-other-border = (refl, refl);
+    }
+
 -- ---- the numbers that the names of Most stand for
 
 pub record Numbers : Type 0 where
@@ -414,6 +457,7 @@ pub record Cases : Type 0 where
   pub read-so : Readings
   pub answered-so : Texts
   pub smoothed-so : Borders
+  pub heard-so : Posts
   pub numbers : Numbers
 
 pub cases : Cases
@@ -424,5 +468,6 @@ cases =
       read-so = readings;
       answered-so = texts;
       smoothed-so = borders;
+      heard-so = posts;
       numbers = record { most-field = refl; most-difference = refl; most-weights = refl; most-pulls = refl; most-reach = refl };
     }

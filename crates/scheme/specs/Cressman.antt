@@ -1,29 +1,28 @@
 -- Document 01 as a scheme: its pieces keep the laws, and its run goes by them.
-use Prim.Native.Nat.{ℕ, _+_, _-_, _*_, _≤_, _<_}
+use Prim.Native.Nat.{ℕ, _+_, _-_, _*_, _≤_, _<_, min}
 use native.Mathlib.Omega.{arith}
 use mathlib.Core.Path.{_≡_, refl, sym, ap}
-use mathlib.Core.Bool.{Bool, true, false, not, cond, _&&_}
+use mathlib.Core.Bool.{Bool, true, false, cond, _&&_}
 use borrow.Author.Tests.{leb-true, le-leb}
-use lib.Dec.{leb, ltb}
+use lib.Dec.{leb}
 use lib.IntN.{ℤ, pos, negsuc, _+ℤ_, _-ℤ_, _*ℤ_}
-use Rattle.integers.specs.Ring.{pos-minus}
-use Rattle.lists.specs.Tests.{and-true, not-both}
+use Rattle.integers.specs.Parts.{up, dn}
+use Rattle.lists.specs.Tests.{and-true, leb-same}
 use Rattle.lists.specs.Sums.{upTo-same}
 use Rattle.lists.specs.Parted.{each-map}
-use Rattle.scheme.specs.Units.{isMissing, Field, step, Station, R, E, Request, guess}
+use Rattle.scheme.specs.Units.{Field, step, Station, border, R, E, Request, guess}
 use Rattle.scheme.specs.Refusals.{Window}
-use Rattle.scheme.specs.Verdicts.{isAccepted, serves, outOfService, onAxis, offGrid, firstThatFits, beforeScans}
+use Rattle.scheme.specs.Verdicts.{isAccepted, serves, outOfService, nearAxis, onGrid, offGrid, beforeScans}
 use Rattle.scheme.specs.Rounding.{rounded}
 use Rattle.scheme.specs.Value.{place, valueAt}
 use Rattle.scheme.specs.Difference.{Row, difference, afterTest, judged}
 use Rattle.scheme.specs.Correction.{Sums, nothing, plus, gift, share, correction, backedBy}
 use Rattle.scheme.specs.Smoothing.{patternAt, patternRow, patternSum, smoothed}
-use Rattle.scheme.specs.Scan.{begins, start, differences, rowsJudged, sumsAt, corrected, scan, after}
+use Rattle.scheme.specs.Scan.{begins, start, differences, rowsJudged, sumsAt, corrected, scan, afterWithin, after}
 use Rattle.scheme.specs.Reach.{onSpan, onWindow, counted}
 use Rattle.scheme.specs.Adding.{nothing-plus}
 use Rattle.scheme.specs.Gifts.{gift-far}
-use Rattle.scheme.specs.Cells.{place-on}
-use Rattle.scheme.specs.Axes.{Axis, off, len, fromFirst, On, SameBeside, place-counted}
+use Rattle.scheme.specs.Axes.{Axis, off, len, fromFirst, On, SameBeside, place-up, counted-parts, place-counted}
 use Rattle.scheme.specs.Laws.{Influence, Scheme, States, Run, given, gathered, smoothedIf, Placed, Ranged, Laws}
 use Rattle.scheme.specs.Shares.{sum-local}
 
@@ -60,10 +59,10 @@ module _ (q : Request) where
         Value = ℤ;
         Diff = ℤ;
         Mark = ℕ;
-        keeps = λ a b. onWindow (part a b);
+        keeps = λ a b. onWindow (a .n) (b .n) (part a b);
         counted = λ a b. counted (part a b);
-        begins = λ nx ny. begins nx ny (q .T) (q .A);
-        difference = λ nx ny guess z. difference nx ny z;
+        begins = λ nx ny. begins border nx ny (q .T) (q .A);
+        difference = difference;
         buddies = alone;
         judge = λ m d h v. afterTest (m + 1) (E (q .plan) m) d v;
         judged = λ m D r others. judged (m + 1) (E (q .plan) m) D r;
@@ -92,69 +91,43 @@ module _ (q : Request) where
       }
 
   pub run : Run (cressman q) (q .nx) (q .ny) (guess q) (q .stations) states
-  unfolding after start
+  unfolding afterWithin start
   run =
       record {
         field-first = λ i j. refl;
         support-first = λ i j. refl;
         rows-first = refl;
-        rows-next = λ m. unfold after scan rowsJudged in sym (each-map (judged (m + 1) (E (q .plan) m) (differences q (after q m))) (after q m .rows));
-        sums-are = λ m i j. unfold sumsAt share gathered given after scan in refl;
+        rows-next = λ m. unfold afterWithin scan rowsJudged in sym (each-map (judged (m + 1) (E (q .plan) m) (differences q (after q m))) (after q m .rows));
+        sums-are = λ m i j. unfold sumsAt share gathered given afterWithin scan in refl;
         field-next =
-            λ m i j. unfold after scan corrected smoothed smoothedIf in
+            λ m i j. unfold afterWithin scan corrected smoothed smoothedIf in
             choice (q .plan .smooth) (smoothed (q .nx) (q .ny) (corrected q m (after q m))) (corrected q m (after q m)) i j;
-        support-next = λ m i j. unfold after scan in refl;
+        support-next = λ m i j. unfold afterWithin scan in refl;
       }
 
 -- ---- the laws
 
--- a position on the stretch is its own place, there and on the grid
-pub on-span : (a : Axis) (x : ℤ) → onSpan (a .span) x ≡ true → On a (place (a .n) x)
+-- a position is on a stretch if its place is
+pub on-span : (a : Axis) (x : ℤ) → onSpan (a .n) (a .span) x ≡ true → On a (place (a .n) x)
 unfolding onSpan
-on-span a (pos x) e =
-    let (l, h) = and-true _ _ e in
-    go x (leb-true _ _ l) (leb-true _ _ h)
-  where
-    go : (x : ℕ) → step * a .span .first ≤ x → x ≤ step * a .span .last → On a (place (a .n) (pos x))
-    go x l h = rw (place-on (a .n) x (omega (arith, a .inside))) (record { low = l; high = h })
-on-span a (negsuc x) e = absurd (not-both (sym e))
+on-span a x e = let (l, h) = and-true _ _ e in record { low = leb-true _ _ l; high = leb-true _ _ h }
 
-span-on-axis : (a : Axis) (x : ℤ) → onSpan (a .span) x ≡ true → (onAxis (a .n) x ≡ true) × (onAxis (len a) (fromFirst a x) ≡ true)
-unfolding onSpan onAxis
-span-on-axis a (pos x) e =
-    let (l, h) = and-true _ _ e in
-    go x (leb-true _ _ l) (leb-true _ _ h)
-  where
-    go : (x : ℕ) → step * a .span .first ≤ x → x ≤ step * a .span .last
-        → (onAxis (a .n) (pos x) ≡ true) × (onAxis (len a) (fromFirst a (pos x)) ≡ true)
-    go x l h =
-        unfold onAxis in (
-          le-leb x (step * (a .n - 1)) (omega (arith, a .inside)),
-          rw (pos-minus x (step * off a) l) (le-leb (x - step * off a) (step * (len a - 1)) (omega arith)),
-        )
-span-on-axis a (negsuc x) e = absurd (not-both (sym e))
+pub span-on : (a : Axis) (x : ℤ) → On a (place (a .n) x) → onSpan (a .n) (a .span) x ≡ true
+unfolding onSpan
+span-on a x h = rw (le-leb _ (place (a .n) x) (h .low), le-leb (place (a .n) x) _ (h .high))
 
-axis-on-span : (a : Axis) (x : ℤ) → onAxis (a .n) x ≡ true → On a (place (a .n) x) → onSpan (a .span) x ≡ true
-unfolding onSpan onAxis
-axis-on-span a (pos x) e h = go x (rw (place-on (a .n) x (leb-true _ _ e)) at h)
+-- then it is as far off the stretch as off the grid's axis
+near-counted : (b : ℕ) (a : Axis) (x : ℤ) → On a (place (a .n) x) → nearAxis b (a .n) x ≡ nearAxis b (len a) (fromFirst a x)
+unfolding nearAxis
+near-counted b a x h =
+    go x (fromFirst a x) (counted-parts a x h .0) (counted-parts a x h .1) (rw (place-up (a .n) x) at (h .high))
   where
-    go : (x : ℕ) → On a x → leb (step * a .span .first) x && leb x (step * a .span .last) ≡ true
-    go x h = rw (le-leb _ x (h .low), le-leb x _ (h .high))
-axis-on-span a (negsuc x) e h = absurd (not-both (sym e))
-
--- only a station on the grid is accepted
-accepted-on-grid : (nx ny T A : ℕ) (s : Station) → isAccepted (beforeScans nx ny T A s) ≡ true → (onAxis nx (s .x) ≡ true) × (onAxis ny (s .y) ≡ true)
-unfolding beforeScans firstThatFits offGrid
-accepted-on-grid nx ny T A s e =
-    and-true _ _ (go (isMissing (s .value)) (outOfService T s) (ltb T (s .observed)) (ltb A (T - s .observed)) (onAxis nx (s .x) && onAxis ny (s .y)) e)
-  where
-    go : (a b c d on : Bool) → isAccepted (cond a 1 (cond b 2 (cond c 3 (cond d 4 (cond (not on) 5 0))))) ≡ true → on ≡ true
-    go true b c d on e = absurd (not-both (sym e))
-    go false true c d on e = absurd (not-both (sym e))
-    go false false true d on e = absurd (not-both (sym e))
-    go false false false true on e = absurd (not-both (sym e))
-    go false false false false true e = refl
-    go false false false false false e = absurd (not-both (sym e))
+    go : (x c : ℤ) → up x ≡ up c + step * off a → dn x ≡ dn c → min (up x) (step * (a .n - 1)) ≤ step * a .span .last → nearAxis b (a .n) x ≡ nearAxis b (len a) c
+    go (pos x) (pos c) u d k =
+        leb-same x (step * (a .n - 1) + b) c (step * (len a - 1) + b) (λ l. omega (arith, a .two, a .inside)) (λ l. omega (arith, a .two, a .inside))
+    go (pos x) (negsuc c) u d k = absurd (omega arith)
+    go (negsuc x) (pos c) u d k = absurd (omega arith)
+    go (negsuc x) (negsuc c) u d k = ap (λ (n : ℕ). leb n b) d
 
 module _ (q : Request) where
   pull-ranged : Ranged (cressman q) (pull q)
@@ -168,31 +141,34 @@ module _ (q : Request) where
   alone-ranged : Ranged (cressman q) alone
   alone-ranged = record { nil-plus = λ t. refl; far = λ m s d dx dy h. refl; give-counted = λ a b m s d dx dy. refl }
 
-  begins-counted : (a b : Axis) (s : Station) → onWindow (part a b) s ≡ true
-      → beforeScans (a .n) (b .n) (q .T) (q .A) s ≡ beforeScans (len a) (len b) (q .T) (q .A) (counted (part a b) s)
-  unfolding beforeScans serves outOfService offGrid counted
-  begins-counted a b s e =
-      let (ex, ey) = and-true _ _ e in
-      let (x, x') = span-on-axis a (s .x) ex in
-      let (y, y') = span-on-axis b (s .y) ey in
-      rw (x, x', y, y')
+  module _ (a b : Axis) (s : Station) (e : onWindow (a .n) (b .n) (part a b) s ≡ true) where
+    on-x : On a (place (a .n) (s .x))
+    on-x = on-span a (s .x) (and-true (onSpan (a .n) (a .span) (s .x)) (onSpan (b .n) (b .span) (s .y)) e .0)
 
-  placed-kept : (a b : Axis) (s : Station) → isAccepted (beforeScans (a .n) (b .n) (q .T) (q .A) s) ≡ true → Placed (cressman q) a b s
-      → onWindow (part a b) s ≡ true
-  placed-kept a b s e p =
-      let (x, y) = accepted-on-grid (a .n) (b .n) (q .T) (q .A) s e in
-      rw (axis-on-span a (s .x) x (p .along-x), axis-on-span b (s .y) y (p .along-y))
+    on-y : On b (place (b .n) (s .y))
+    on-y = on-span b (s .y) (and-true (onSpan (a .n) (a .span) (s .x)) (onSpan (b .n) (b .span) (s .y)) e .1)
 
-  difference-local : (a b : Axis) (s : Station) → onWindow (part a b) s ≡ true → (z z' : Field ℤ)
-      → SameBeside a b (place (a .n) (s .x)) (place (b .n) (s .y)) z z'
-      → difference (a .n) (b .n) z s ≡ difference (len a) (len b) z' (counted (part a b) s)
-  unfolding difference valueAt counted
-  difference-local a b s e z z' ag =
-      let (ex, ey) = and-true _ _ e in
-      let on-x = on-span a (s .x) ex in
-      let on-y = on-span b (s .y) ey in
-      ap (λ (t : ℤ). s .value -ℤ rounded t 4096)
-      (sum-local a b z z' _ _ _ _ on-x on-y (place-counted a (s .x) on-x) (place-counted b (s .y) on-y) ag)
+    begins-counted : beforeScans border (a .n) (b .n) (q .T) (q .A) s ≡ beforeScans border (len a) (len b) (q .T) (q .A) (counted (part a b) s)
+    unfolding beforeScans serves outOfService offGrid counted
+    begins-counted = rw (near-counted border a (s .x) on-x, near-counted border b (s .y) on-y)
+
+    -- the value there, of any field that is the same at the corners with a share
+    value-local : (z z' : Field ℤ) → SameBeside a b (place (a .n) (s .x)) (place (b .n) (s .y)) z z'
+        → valueAt (a .n) (b .n) z s ≡ valueAt (len a) (len b) z' (counted (part a b) s)
+    unfolding valueAt counted
+    value-local z z' ag =
+        ap (λ (t : ℤ). rounded t 4096) (sum-local a b z z' _ _ _ _ on-x on-y (place-counted a (s .x) on-x) (place-counted b (s .y) on-y) ag)
+
+    difference-local : (guess guess' z z' : Field ℤ) → SameBeside a b (place (a .n) (s .x)) (place (b .n) (s .y)) guess guess'
+        → SameBeside a b (place (a .n) (s .x)) (place (b .n) (s .y)) z z'
+        → difference (a .n) (b .n) guess z s ≡ difference (len a) (len b) guess' z' (counted (part a b) s)
+    unfolding difference
+    difference-local guess guess' z z' g ag =
+        rw (value-both (onGrid (a .n) (b .n) (s .x) (s .y))) (unfold counted in rw (near-counted 0 a (s .x) on-x, near-counted 0 b (s .y) on-y))
+      where
+        value-both : (on : Bool) → valueAt (a .n) (b .n) (cond on z guess) s ≡ valueAt (len a) (len b) (cond on z' guess') (counted (part a b) s)
+        value-both true = value-local z z' ag
+        value-both false = value-local guess guess' g
 
   rejected-stays : (m : ℕ) (d : ℤ) (v : ℕ) → isAccepted v ≡ false → isAccepted (afterTest (m + 1) (E (q .plan) m) d v) ≡ false
   unfolding afterTest
@@ -221,8 +197,8 @@ module _ (q : Request) where
         counted-y = λ a b s. unfold counted in refl;
         begins-station = λ nx ny s. refl;
         begins-counted = begins-counted;
-        placed-kept = placed-kept;
-        difference-local = λ a b s e guess guess' z z' g ag. difference-local a b s e z z' ag;
+        placed-kept = λ a b s e p. rw (span-on a (s .x) (p .along-x), span-on b (s .y) (p .along-y));
+        difference-local = difference-local;
         judged-station = λ m D r others. unfold judged in refl;
         judged-verdict = λ m D r others. unfold judged in refl;
         rejected-stays = λ m d h v e. rejected-stays m d v e;

@@ -1,20 +1,22 @@
 -- The cut of an accepted request: which of its rows is which, and that it is itself an accepted request, with two columns and rows at least.
-use Prim.Native.Nat.{ℕ, zero, suc, _+_, _*_, _≤_, _<_}
+use Prim.Native.Nat.{ℕ, zero, suc, _+_, _-_, _*_, _≤_, _<_, min}
 use native.Mathlib.Omega.{arith}
-use mathlib.Core.Path.{_≡_, sym, ap, _∙_}
+use mathlib.Core.Path.{_≡_, ap, _∙_}
 use mathlib.Core.Bool.{true}
 use mathlib.Core.List.{List}
 use borrow.Author.Tests.{leb-true}
 use lib.ListN.{length, getD, length-map, List·getD-map}
 use lib.IntN.{ℤ, pos, negsuc, natAbs, _-ℤ_}
 use Rattle.integers.specs.Ring.{pos-minus}
-use Rattle.lists.specs.Tests.{and-true, not-both}
+use Rattle.integers.specs.Sizes.{size-minus}
+use Rattle.lists.specs.Tests.{and-true}
 use Rattle.lists.specs.Tab.{getD-any}
 use Rattle.lists.specs.Sums.{upTo}
 use Rattle.lists.specs.Keep.{keep, length-keep, kept-from}
 use Rattle.lists.specs.Parted.{rank, keep-at}
 use Rattle.scheme.specs.Units.{mostValue, step, Station, mostPosition, Plan, Request, guess}
 use Rattle.scheme.specs.Refusals.{Span, Window, pointsAlong}
+use Rattle.scheme.specs.Value.{place}
 use Rattle.scheme.specs.Reach.{steps, reach, cutOf, onSpan, onWindow, counted, windowOf, cut}
 use Rattle.scheme.specs.Accepted.{Shaped, Stationed, Planned, Sound, noStation, OnGrid}
 use Rattle.scheme.specs.Calls.{Accepts, sound-accepted}
@@ -64,11 +66,11 @@ module _ (q : Request) (w : Window) (sound : Sound q) (on : OnGrid (q .nx) (q .n
 -- ---- row k of the request, if the cut keeps it, is this row of the cut: as many of the rows before it are kept
 
 abbrev pub rowInCut : Request → Window → ℕ → ℕ
-rowInCut q w k = rank (onWindow (cutOf q w)) (q .stations) k
+rowInCut q w k = rank (onWindow (q .nx) (q .ny) (cutOf q w)) (q .stations) k
 
 module _ (q : Request) (w : Window) where
   abbrev pub keptHere : List Station
-  keptHere = keep (onWindow (cutOf q w)) (q .stations)
+  keptHere = keep (onWindow (q .nx) (q .ny) (cutOf q w)) (q .stations)
 
   -- the cut has a row for each kept station
   pub rows-cut : length (cut q w .stations) ≡ length keptHere
@@ -79,31 +81,33 @@ module _ (q : Request) (w : Window) where
   unfolding cut
   row-cut r o = List·getD-map (counted (cutOf q w)) keptHere r o
 
-  pub window-row : (k : ℕ) (o : Station) → k < length (q .stations) → onWindow (cutOf q w) (getD (q .stations) k o) ≡ true
+  pub window-row : (k : ℕ) (o : Station) → k < length (q .stations) → onWindow (q .nx) (q .ny) (cutOf q w) (getD (q .stations) k o) ≡ true
       → (rowInCut q w k < length (cut q w .stations))
       × (getD (cut q w .stations) (rowInCut q w k) (counted (cutOf q w) o) ≡ counted (cutOf q w) (getD (q .stations) k o))
   window-row k o l e =
-      let (r, same) = keep-at (onWindow (cutOf q w)) o (q .stations) k l e in
+      let (r, same) = keep-at (onWindow (q .nx) (q .ny) (cutOf q w)) o (q .stations) k l e in
       (omega (arith, rows-cut), row-cut (rowInCut q w k) o ∙ ap (counted (cutOf q w)) same)
 
 -- ---- the cut of an accepted request is itself sound
 
 -- a kept station stays in range
-counted-small : (most : ℕ) (c : Span) (x : ℤ) → onSpan c x ≡ true → natAbs x ≤ most → natAbs (x -ℤ pos (step * c .first)) ≤ most
-unfolding onSpan
-counted-small most c (pos x) e h =
-    let (l, r) = and-true _ _ e in
-    rw (pos-minus x (step * c .first) (leb-true _ _ l)) (omega arith)
-counted-small most c (negsuc x) e h = absurd (not-both (sym e))
+counted-small : (most n : ℕ) (c : Span) (x : ℤ) → onSpan n c x ≡ true → natAbs x ≤ most → natAbs (x -ℤ pos (step * c .first)) ≤ most
+unfolding onSpan place
+counted-small most n c (pos x) e h =
+    let low = leb-true (step * c .first) (min x (step * (n - 1))) (and-true _ _ e .0) in
+    rw (pos-minus x (step * c .first) (omega (arith, low))) (omega arith)
+counted-small most n c (negsuc x) e h =
+    let low = leb-true (step * c .first) 0 (and-true _ _ e .0) in
+    omega (arith, low, size-minus (negsuc x) (pos (step * c .first)))
 
-counted-stationed : (w : Window) (s : Station) → onWindow w s ≡ true → Stationed s → Stationed (counted w s)
+counted-stationed : (nx ny : ℕ) (w : Window) (s : Station) → onWindow nx ny w s ≡ true → Stationed s → Stationed (counted w s)
 unfolding counted
-counted-stationed w s e t =
+counted-stationed nx ny w s e t =
     let (x, y) = and-true _ _ e in
     record {
       value = t .value;
-      x = counted-small mostPosition (w .columns) (s .x) x (t .x);
-      y = counted-small mostPosition (w .rows) (s .y) y (t .y);
+      x = counted-small mostPosition nx (w .columns) (s .x) x (t .x);
+      y = counted-small mostPosition ny (w .rows) (s .y) y (t .y);
       served = t .served;
     }
 
@@ -131,15 +135,15 @@ module _ (q : Request) (w : Window) (sound : Sound q) (on : OnGrid (q .nx) (q .n
 
   cut-station : (r : ℕ) → r < length (cut q w .stations) → Stationed (getD (cut q w .stations) r noStation)
   cut-station r l =
-      let f = kept-from (onWindow (cutOf q w)) noStation (q .stations) r (omega (arith, rows-cut q w)) in
+      let f = kept-from (onWindow (q .nx) (q .ny) (cutOf q w)) noStation (q .stations) r (omega (arith, rows-cut q w)) in
       rw (getD-any (cut q w .stations) r noStation (counted (cutOf q w) noStation) l, row-cut q w r noStation, f .same)
-      (counted-stationed (cutOf q w) (getD (q .stations) (f .place) noStation) (f .kept) (sound .stations (f .place) (f .inside)))
+      (counted-stationed (q .nx) (q .ny) (cutOf q w) (getD (q .stations) (f .place) noStation) (f .kept) (sound .stations (f .place) (f .inside)))
 
   pub cut-sound : Sound (cut q w)
   cut-sound =
       record {
         shape = cut-shape;
-        few-stations = omega (arith, rows-cut q w, length-keep (onWindow (cutOf q w)) (q .stations), sound .few-stations);
+        few-stations = omega (arith, rows-cut q w, length-keep (onWindow (q .nx) (q .ny) (cutOf q w)) (q .stations), sound .few-stations);
         plan = unfold cut in sound .plan;
         first-guess = λ k h. cut-guess k;
         stations = cut-station;

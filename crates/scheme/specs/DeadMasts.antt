@@ -9,12 +9,12 @@ use lib.ListN.{getD, List·getD-map}
 use lib.IntN.{ℤ, _+ℤ_}
 use Rattle.lists.specs.Members.{All, all-map, all-also, all-of}
 use Rattle.lists.specs.Keep.{keep, total-keep, keep-map}
-use Rattle.scheme.specs.Units.{isMissing, Field, stored, Station, R, E, Request, guess, withStations}
+use Rattle.scheme.specs.Units.{isMissing, Field, stored, Station, border, R, E, Request, guess, withStations}
 use Rattle.scheme.specs.Verdicts.{isAccepted, serves, outOfService, firstThatFits, beforeScans}
 use Rattle.scheme.specs.Difference.{Row, difference, afterTest, judged}
 use Rattle.scheme.specs.Correction.{Sums, nothing, plus, share, correction, backedBy}
 use Rattle.scheme.specs.Smoothing.{smoothed}
-use Rattle.scheme.specs.Scan.{begins, start, differences, rowsJudged, sumsAt, corrected, scan, after, analysis}
+use Rattle.scheme.specs.Scan.{begins, start, differences, rowsJudged, sumsAt, corrected, scan, afterWithin, after, analysis}
 use Rattle.scheme.specs.Accepted.{noStation}
 use Rattle.scheme.specs.Adding.{nothing-plus}
 use Rattle.scheme.specs.Gifts.{sums, rejected-gives-nothing}
@@ -39,20 +39,20 @@ abbrev pub weightIn : Request → (m n i j : ℕ) → ℕ
 weightIn q m n i j = share (R (q .plan) m) (differences q (after q m)) i j (getD (rowsJudged q m (after q m)) n noRow) .weights
 
 -- how scan number m + 1 judges a row
-abbrev judgedIn : Request → ℕ → Row → Row
+abbrev pub judgedIn : Request → ℕ → Row → Row
 judgedIn q m = judged (m + 1) (E (q .plan) m) (differences q (after q m))
 
 stays-in : (q : Request) (m : ℕ) (r : Row) → isAccepted (r .verdict) ≡ false → judgedIn q m r ≡ r
 stays-in q m = rejected-stays (m + 1) (E (q .plan) m) (differences q (after q m))
 
-row-next : (q : Request) (m n : ℕ) → rowAfter q (suc m) n ≡ judgedIn q m (rowAfter q m n)
-unfolding after scan rowsJudged
+pub row-next : (q : Request) (m n : ℕ) → rowAfter q (suc m) n ≡ judgedIn q m (rowAfter q m n)
+unfolding afterWithin scan rowsJudged
 row-next q m n =
     ap (λ (o : Row). getD (map (judgedIn q m) (after q m .rows)) n o) (sym (stays-in q m noRow refl))
     ∙ List·getD-map (judgedIn q m) (after q m .rows) n noRow
 
 row-judged : (q : Request) (m n : ℕ) → getD (rowsJudged q m (after q m)) n noRow ≡ rowAfter q (suc m) n
-unfolding after scan
+unfolding afterWithin scan
 row-judged q m n = refl
 
 -- a row that is not accepted after m scans is the same after t more
@@ -88,17 +88,17 @@ dead-mast-has-no-weight q n t i j e =
     ∙ rejected-has-no-weight q 0 n t i j (ap (λ (r : Row). isAccepted (r .verdict)) (rejected-for-good q 0 n 1 e) ∙ e)
 
 -- a mast that was taken down by T, or was by the minute of its reading, is out of service whatever else holds of its reading
-pub taken-down-is-out-of-service : (nx ny T A : ℕ) (s : Station) → isMissing (s .value) ≡ false → (serves s (s .observed) && serves s T) ≡ false
-    → beforeScans nx ny T A s ≡ 2
+pub taken-down-is-out-of-service : (b nx ny T A : ℕ) (s : Station) → isMissing (s .value) ≡ false → (serves s (s .observed) && serves s T) ≡ false
+    → beforeScans b nx ny T A s ≡ 2
 unfolding beforeScans firstThatFits outOfService
-taken-down-is-out-of-service nx ny T A s there gone = rw (there, gone)
+taken-down-is-out-of-service b nx ny T A s there gone = rw (there, gone)
 
 -- ---- deleting every dead mast changes no value and no support
 
 module _ (q : Request) where
   -- a mast that none of the verdicts 1 to 5 fits
   abbrev pub alive : Station → Bool
-  alive s = isAccepted (beforeScans (q .nx) (q .ny) (q .T) (q .A) s)
+  alive s = isAccepted (beforeScans border (q .nx) (q .ny) (q .T) (q .A) s)
 
   abbrev pub withoutDeadMasts : Request
   withoutDeadMasts = withStations q (keep alive (q .stations))
@@ -118,10 +118,10 @@ module _ (q : Request) where
     dead : All Dead (after q m .rows)
 
   abbrev begun : Station → Row
-  begun = begins (q .nx) (q .ny) (q .T) (q .A)
+  begun = begins border (q .nx) (q .ny) (q .T) (q .A)
 
   alike-start : Alike 0
-  unfolding after start guess
+  unfolding afterWithin start guess
   alike-start =
       record {
         field = refl;
@@ -133,7 +133,8 @@ module _ (q : Request) where
   module _ (m : ℕ) (h : Alike m) where
     -- the differences of the scan
     same-D : differences withoutDeadMasts (after withoutDeadMasts m) ≡ differences q (after q m)
-    same-D = ap (difference (q .nx) (q .ny)) (h .field)
+    unfolding guess
+    same-D = ap (difference (q .nx) (q .ny) (guess q)) (h .field)
 
     judged-rows : rowsJudged withoutDeadMasts m (after withoutDeadMasts m) ≡ keep aliveRow (rowsJudged q m (after q m))
     unfolding rowsJudged judged
@@ -165,7 +166,7 @@ module _ (q : Request) where
     same-sums = fun-ext (λ i. fun-ext (same-sums-at i))
 
     alike-next : Alike (suc m)
-    unfolding after scan corrected
+    unfolding afterWithin scan corrected
     alike-next =
         record {
           field = ap (λ (z : Field ℤ). cond (q .plan .smooth) (smoothed (q .nx) (q .ny) z) z) same-corrected;

@@ -4,12 +4,12 @@ use mathlib.Core.Bool.{cond}
 use lib.Dec.{ltb}
 use lib.IntN.{ℤ, natAbs, _-ℤ_}
 use Rattle.scheme.specs.Units.{Station, Field}
-use Rattle.scheme.specs.Verdicts.{isAccepted}
+use Rattle.scheme.specs.Verdicts.{onGrid, isAccepted}
 use Rattle.scheme.specs.Value.{valueAt}
 
--- D = observation - that value, from the field as the scan finds it
-unfoldable pub difference : (nx ny : ℕ) → Field ℤ → Station → ℤ
-difference nx ny z s = s .value -ℤ valueAt nx ny z s
+-- D = observation - that value: from the field as the scan finds it; a post's always from the first guess, at its nearest place on the grid
+unfoldable pub difference : (nx ny : ℕ) → (guess z : Field ℤ) → Station → ℤ
+difference nx ny guess z s = s .value -ℤ valueAt nx ny (cond (onGrid nx ny (s .x) (s .y)) z guess) s
 
 -- a station, and its verdict so far
 pub record Row : Type 0 where

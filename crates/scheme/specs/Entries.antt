@@ -14,7 +14,7 @@ use Rattle.scheme.specs.Refusals.{badScans, rising, badScan, Window, fro
 use Rattle.scheme.specs.Difference.{Row, judged}
 use Rattle.scheme.specs.Correction.{Sums, nothing, plus, share, correction, backedBy}
 use Rattle.scheme.specs.Smoothing.{smoothed}
-use Rattle.scheme.specs.Scan.{State, start, differences, rowsJudged, sumsAt, corrected, scan, after, Analysis, analysis}
+use Rattle.scheme.specs.Scan.{State, start, differences, rowsJudged, sumsAt, corrected, scan, afterWithin, after, Analysis, analysis}
 use Rattle.scheme.specs.Reach.{steps, reach, windowOf, Tile, wholeAt}
 use Rattle.scheme.specs.Accepted.{fromSix}
 
@@ -58,14 +58,14 @@ module _ (q : Request) (p' : Plan) (same : UpToCount (q .plan) p') where
         }
 
   scan-same : (m : ℕ) → m < q .plan .scans → (found : State) → scan (withPlan q p') m found ≡ scan q m found
-  unfolding scan corrected sumsAt rowsJudged
+  unfolding scan corrected sumsAt rowsJudged guess
   scan-same m h found =
       ap (λ (r : ℕ). scanBy m found r (E p' m) (p' .smooth)) (same-R m h)
       ∙ ap (λ (e : ℕ). scanBy m found (R (q .plan) m) e (p' .smooth)) (same-E m h)
       ∙ ap (λ (b : Bool). scanBy m found (R (q .plan) m) (E (q .plan) m) b) (same .smooth)
 
   after-same : (m : ℕ) → m ≤ q .plan .scans → after (withPlan q p') m ≡ after q m
-  unfolding after
+  unfolding afterWithin
   after-same zero h = unfold start guess in refl
   after-same (suc m) h = scan-same m h (after (withPlan q p') m) ∙ ap (scan q m) (after-same m (omega arith))
 

@@ -9,14 +9,14 @@ use Rattle.lists.specs.Sums.{total, upTo}
 use Rattle.lists.specs.First.{first, firstFrom, orNext}
 use Rattle.scheme.specs.Units.{isMissing, Field, stored, fieldOf, Station, stationAt, stationsOf, R, E, Request, guess, asking}
 use Rattle.scheme.specs.Refusals.{accepted, inOrder, refusedIf, refusedAt, badShape, Window, badWindow, badLengths, badColumns, badScans, rising, badScan, badGuess, badStation, fromFive, analysisRefusal, windowRefusal}
-use Rattle.scheme.specs.Verdicts.{serves, outOfService, onAxis, offGrid, firstThatFits, beforeScans}
+use Rattle.scheme.specs.Verdicts.{serves, outOfService, nearAxis, offGrid, firstThatFits, beforeScans}
 use Rattle.scheme.specs.Rounding.{rounded}
 use Rattle.scheme.specs.Value.{place, cell, corners, sumAt, valueAt}
 use Rattle.scheme.specs.Difference.{difference, afterTest, judged}
 use Rattle.scheme.specs.Weight.{weight}
 use Rattle.scheme.specs.Correction.{gift, share, correction, backedBy}
 use Rattle.scheme.specs.Smoothing.{patternRow, patternSum, inner, smoothed}
-use Rattle.scheme.specs.Scan.{start, rowsJudged, sumsAt, corrected, scan, after, atEnd, Analysis, analysis}
+use Rattle.scheme.specs.Scan.{start, rowsJudged, sumsAt, corrected, scan, afterWithin, after, atEnd, Analysis, analysis}
 use Rattle.scheme.specs.Reach.{Tile, windowOf, wholeAt}
 use Rattle.scheme.specs.Calls.{callFor}
 use Rattle.scheme.specs.Promises.{slices, tile, windowAt}
@@ -138,32 +138,32 @@ unfolding analysisRefusal windowRefusal fromFive inOrder refusedIf refusedAt fir
 example-accepted = ((refl, refl), (refl, refl), (refl, refl))
 
 pub example-analysis : (analysis (example 1 false) ≡ once) × (analysis (example 2 false) ≡ twice) × (analysis (example 2 true) ≡ smooth)
-unfolding analysis stored tab after scan start rowsJudged sumsAt corrected smoothed patternSum patternRow inner upTo guess fieldOf R E beforeScans firstThatFits isMissing outOfService serves offGrid onAxis judged afterTest difference valueAt place sumAt cell corners rounded total share gift weight correction backedBy
+unfolding analysis stored tab afterWithin scan start rowsJudged sumsAt corrected smoothed patternSum patternRow inner upTo guess fieldOf R E beforeScans firstThatFits isMissing outOfService serves offGrid nearAxis judged afterTest difference valueAt place sumAt cell corners rounded total share gift weight correction backedBy
 example-analysis = (refl, refl, refl)
 
 pub example-window : (wholeAt (example 1 false) corner ≡ cornerOnce) × (wholeAt (example 2 false) corner ≡ cornerTwice) × (wholeAt (example 2 true) corner ≡ cornerSmooth)
-unfolding wholeAt windowOf stored tab after scan start rowsJudged sumsAt corrected smoothed patternSum patternRow inner upTo guess fieldOf R E beforeScans firstThatFits isMissing outOfService serves offGrid onAxis judged afterTest difference valueAt place sumAt cell corners rounded total share gift weight correction backedBy
+unfolding wholeAt windowOf stored tab afterWithin scan start rowsJudged sumsAt corrected smoothed patternSum patternRow inner upTo guess fieldOf R E beforeScans firstThatFits isMissing outOfService serves offGrid nearAxis judged afterTest difference valueAt place sumAt cell corners rounded total share gift weight correction backedBy
 example-window = (refl, refl, refl)
 
 -- what the cheats would leave
 pub example-first-scan : stored 3 3 (after (example 2 false) 1 .field) ≡ once .grid
-unfolding stored tab after scan start rowsJudged sumsAt corrected smoothed patternSum patternRow inner upTo guess fieldOf R E beforeScans firstThatFits isMissing outOfService serves offGrid onAxis judged afterTest difference valueAt place sumAt cell corners rounded total share gift weight correction backedBy
+unfolding stored tab afterWithin scan start rowsJudged sumsAt corrected smoothed patternSum patternRow inner upTo guess fieldOf R E beforeScans firstThatFits isMissing outOfService serves offGrid nearAxis judged afterTest difference valueAt place sumAt cell corners rounded total share gift weight correction backedBy
 example-first-scan = refl
 
 pub example-first-scan-corner : windowOf corner (after (example 2 false) 1 .field) ≡ cornerOnce .grid
-unfolding windowOf stored tab after scan start rowsJudged sumsAt corrected smoothed patternSum patternRow inner upTo guess fieldOf R E beforeScans firstThatFits isMissing outOfService serves offGrid onAxis judged afterTest difference valueAt place sumAt cell corners rounded total share gift weight correction backedBy
+unfolding windowOf stored tab afterWithin scan start rowsJudged sumsAt corrected smoothed patternSum patternRow inner upTo guess fieldOf R E beforeScans firstThatFits isMissing outOfService serves offGrid nearAxis judged afterTest difference valueAt place sumAt cell corners rounded total share gift weight correction backedBy
 example-first-scan-corner = refl
 
 pub example-only-smoothed : stored 3 3 onlySmoothed ≡ onlySmoothedGrid
-unfolding stored tab after scan start rowsJudged sumsAt corrected smoothed patternSum patternRow inner upTo guess fieldOf R E beforeScans firstThatFits isMissing outOfService serves offGrid onAxis judged afterTest difference valueAt place sumAt cell corners rounded total share gift weight correction backedBy
+unfolding stored tab afterWithin scan start rowsJudged sumsAt corrected smoothed patternSum patternRow inner upTo guess fieldOf R E beforeScans firstThatFits isMissing outOfService serves offGrid nearAxis judged afterTest difference valueAt place sumAt cell corners rounded total share gift weight correction backedBy
 example-only-smoothed = refl
 
 pub example-only-smoothed-corner : windowOf corner onlySmoothed ≡ pos 585 ∷ pos 672 ∷ pos 672 ∷ pos 723 ∷ []
-unfolding windowOf stored tab after scan start rowsJudged sumsAt corrected smoothed patternSum patternRow inner upTo guess fieldOf R E beforeScans firstThatFits isMissing outOfService serves offGrid onAxis judged afterTest difference valueAt place sumAt cell corners rounded total share gift weight correction backedBy
+unfolding windowOf stored tab afterWithin scan start rowsJudged sumsAt corrected smoothed patternSum patternRow inner upTo guess fieldOf R E beforeScans firstThatFits isMissing outOfService serves offGrid nearAxis judged afterTest difference valueAt place sumAt cell corners rounded total share gift weight correction backedBy
 example-only-smoothed-corner = refl
 
 pub example-text : (answerText onceText ≡ onceAnswer) × (answerText twiceText ≡ twiceAnswer) × (answerText smoothText ≡ smoothAnswer)
-unfolding answerText replyText requestLines lines rows flatten nothingAfter gridLine scanLine rowLine stationLine number observation end word digits positive natural between count unsigned negative signed values fromFive inOrder refusedIf refusedAt first firstFrom orNext badScans badScan rising badGuess badStation isMissing analysisText firstTwo gridLines keyed cells integer decimal spelled analysis stored tab after scan start rowsJudged sumsAt corrected smoothed patternSum patternRow inner upTo guess fieldOf R E beforeScans firstThatFits outOfService serves offGrid onAxis judged afterTest difference valueAt place sumAt cell corners rounded total share gift weight correction backedBy
+unfolding answerText replyText requestLines lines rows flatten nothingAfter gridLine scanLine rowLine stationLine number observation end word digits positive natural between count unsigned negative signed values fromFive inOrder refusedIf refusedAt first firstFrom orNext badScans badScan rising badGuess badStation isMissing analysisText firstTwo gridLines keyed cells integer decimal spelled analysis stored tab afterWithin scan start rowsJudged sumsAt corrected smoothed patternSum patternRow inner upTo guess fieldOf R E beforeScans firstThatFits outOfService serves offGrid nearAxis judged afterTest difference valueAt place sumAt cell corners rounded total share gift weight correction backedBy
 example-text = (refl, refl, refl)
 
 -- ---- So with smoothing a point without support may change: with one mast in the corner, whose radius reaches no other point, the middle does
@@ -172,5 +172,5 @@ abbrev pub lone : Request
 lone = asked-of (corner-mast ∷ []) 1 64 true
 
 pub smoothing-may-move-an-unsupported-point : (atEnd lone .support 1 1 ≡ 0) × (guess lone 1 1 ≡ pos 640) × (atEnd lone .field 1 1 ≡ pos 636)
-unfolding after scan start rowsJudged sumsAt corrected smoothed patternSum patternRow inner upTo guess fieldOf tab R E beforeScans firstThatFits isMissing outOfService serves offGrid onAxis judged afterTest difference valueAt place sumAt cell corners rounded total share gift weight correction backedBy
+unfolding afterWithin scan start rowsJudged sumsAt corrected smoothed patternSum patternRow inner upTo guess fieldOf tab R E beforeScans firstThatFits isMissing outOfService serves offGrid nearAxis judged afterTest difference valueAt place sumAt cell corners rounded total share gift weight correction backedBy
 smoothing-may-move-an-unsupported-point = (refl, refl, refl)

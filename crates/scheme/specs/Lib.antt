@@ -36,6 +36,7 @@ pub mod AnswerSize
 pub mod RoundTrip
 pub mod DeadMasts
 pub mod Entries
+pub mod Posts
 pub mod Axes
 pub mod Laws
 pub mod Near

@@ -1,14 +1,14 @@
 -- The bounds that follow from the scale and the greatest counts, each under a name.
 use Prim.Native.Nat.{ℕ, _+_, _-_, _*_, _/_}
-use Rattle.scheme.specs.Units.{mostValue, mostSide, step, mostStations, mostScans, mostRadius, mostLimit}
+use Rattle.scheme.specs.Units.{mostValue, mostSide, step, mostStations, border, mostScans, mostRadius, mostLimit}
 use Rattle.scheme.specs.Weight.{scale}
 
--- points of a grid, and how far along an axis its last point is at most
+-- points of a grid, and how far along an axis a station that takes part is at most: a post beyond the last point
 abbrev pub mostPoints : ℕ
 mostPoints = mostSide * mostSide
 
 abbrev pub mostAlong : ℕ
-mostAlong = step * (mostSide - 1)
+mostAlong = step * (mostSide - 1) + border
 
 -- a squared radius
 abbrev pub mostSquare : ℕ

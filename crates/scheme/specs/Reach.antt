@@ -1,12 +1,13 @@
 -- "Reach of a window": the reach, the cut, and the window's part of a field.
 use Prim.Native.Nat.{ℕ, _+_, _-_, _*_, _/_, min}
-use mathlib.Core.Bool.{Bool, false, cond, _&&_}
+use mathlib.Core.Bool.{Bool, cond, _&&_}
 use mathlib.Core.List.{List, map}
-use lib.IntN.{ℤ, pos, negsuc, _-ℤ_}
+use lib.IntN.{ℤ, pos, _-ℤ_}
 use Rattle.lists.specs.Sums.{upTo}
 use Rattle.lists.specs.Keep.{keep}
 use Rattle.scheme.specs.Units.{among, Field, stored, step, Station, Plan, R, Request, guess}
 use Rattle.scheme.specs.Refusals.{Span, Window, pointsAlong}
+use Rattle.scheme.specs.Value.{place}
 use Rattle.scheme.specs.Scan.{atEnd}
 
 -- For each scan count R/64 rounded up, plus 1 if smoothing is on
@@ -24,13 +25,12 @@ widened reach n s = record { first = s .first - reach; last = min (s .last + rea
 abbrev pub cutOf : Request → Window → Window
 cutOf q w = record { columns = widened (reach (q .plan)) (q .nx) (w .columns); rows = widened (reach (q .plan)) (q .ny) (w .rows) }
 
--- The cut keeps its stations, those on its edge included
-unfoldable pub onSpan : Span → ℤ → Bool
-onSpan c (pos x) = among (step * c .first) (step * c .last) x
-onSpan c (negsuc x) = false
+-- The cut keeps its stations, those on its edge included. A station belongs to it if its nearest position on the whole grid does
+unfoldable pub onSpan : ℕ → Span → ℤ → Bool
+onSpan n c x = among (step * c .first) (step * c .last) (place n x)
 
-abbrev pub onWindow : Window → Station → Bool
-onWindow w s = onSpan (w .columns) (s .x) && onSpan (w .rows) (s .y)
+abbrev pub onWindow : (nx ny : ℕ) → Window → Station → Bool
+onWindow nx ny w s = onSpan nx (w .columns) (s .x) && onSpan ny (w .rows) (s .y)
 
 -- with positions counted from its lower corner
 unfoldable pub counted : Window → Station → Station
@@ -51,7 +51,7 @@ cut q w =
       nx = pointsAlong (c .columns);
       ny = pointsAlong (c .rows);
       firstGuess = windowOf c (guess q);
-      stations = map (counted c) (keep (onWindow c) (q .stations));
+      stations = map (counted c) (keep (onWindow (q .nx) (q .ny) c) (q .stations));
       plan = q .plan;
       T = q .T;
       A = q .A;

@@ -13,7 +13,7 @@ use Rattle.scheme.specs.declared.Units.{Units}
 use Rattle.scheme.specs.declared.Summary.{Summary}
 use Rattle.scheme.specs.Units.{Field, partsOfUnit, fieldOf}
 use Rattle.scheme.specs.Refusals.{numberOf, placeOf, unlessRefused, readingRefusal, summaryRefusal}
-use Rattle.scheme.specs.Verdicts.{onAxis}
+use Rattle.scheme.specs.Verdicts.{onGrid}
 use Rattle.scheme.specs.Value.{place, cornersAt, sumAt}
 
 -- n / d as a double
@@ -37,7 +37,7 @@ readingIn nx ny z support x y =
     let px = place nx x in
     let py = place ny y in
     let value = double (sumAt nx ny z px py) 262144 in
-    cond (onAxis nx x && onAxis ny y) (cond (isBacked nx ny support px py) (Backed value) (FirstGuess value)) OffGrid
+    cond (onGrid nx ny x y) (cond (isBacked nx ny support px py) (Backed value) (FirstGuess value)) OffGrid
 
 -- of any field of i32 and its support, at any i32 (x, y)
 unfoldable pub reading : (nx ny : ℕ) → List ℤ → List ℕ → (x y : ℤ) → Reading

@@ -4,7 +4,7 @@ use mathlib.Core.Bool.{cond}
 use mathlib.Core.List.{List, map}
 use lib.IntN.{ℤ, _+ℤ_}
 use Rattle.lists.specs.Sums.{total}
-use Rattle.scheme.specs.Units.{Station, Field, stored, R, E, Request, guess}
+use Rattle.scheme.specs.Units.{Station, border, Field, stored, R, E, Request, guess}
 use Rattle.scheme.specs.Verdicts.{beforeScans}
 use Rattle.scheme.specs.Difference.{Row, difference, judged}
 use Rattle.scheme.specs.Correction.{Sums, nothing, plus, share, correction, backedBy}
@@ -16,18 +16,18 @@ pub record State : Type 0 where
   pub support : Field ℕ
   pub rows : List Row
 
--- a row before the first scan
-abbrev pub begins : (nx ny T A : ℕ) → Station → Row
-begins nx ny T A s = record { station = s; verdict = beforeScans nx ny T A s }
+-- a row before the first scan, with posts off the grid by at most b units
+abbrev pub begins : (b nx ny T A : ℕ) → Station → Row
+begins b nx ny T A s = record { station = s; verdict = beforeScans b nx ny T A s }
 
-unfoldable pub start : Request → State
-start q = record { field = guess q; support = λ i j. 0; rows = map (begins (q .nx) (q .ny) (q .T) (q .A)) (q .stations) }
+unfoldable pub start : (b : ℕ) → Request → State
+start b q = record { field = guess q; support = λ i j. 0; rows = map (begins b (q .nx) (q .ny) (q .T) (q .A)) (q .stations) }
 
 -- ---- scan number m + 1, from the state that it finds
 
--- its differences, from the field as it finds it
+-- its differences, from the field as it finds it and the first guess
 abbrev pub differences : Request → State → Station → ℤ
-differences q found = difference (q .nx) (q .ny) (found .field)
+differences q found = difference (q .nx) (q .ny) (guess q) (found .field)
 
 module _ (q : Request) (m : ℕ) (found : State) where
   -- All stations are judged before any point changes
@@ -51,9 +51,13 @@ module _ (q : Request) (m : ℕ) (found : State) where
 
 -- ---- the state after the first m scans, and at the end
 
-unfoldable pub after : Request → ℕ → State
-after q zero = start q
-after q (suc m) = scan q m (after q m)
+unfoldable pub afterWithin : (b : ℕ) → Request → ℕ → State
+afterWithin b q zero = start b q
+afterWithin b q (suc m) = scan q m (afterWithin b q m)
+
+-- with posts as far off as they may be
+abbrev pub after : Request → ℕ → State
+after = afterWithin border
 
 abbrev pub atEnd : Request → State
 atEnd q = after q (q .plan .scans)

@@ -20,15 +20,15 @@ use Rattle.lists.specs.Parted.{rank}
 use Rattle.lists.specs.Sums.{upTo}
 use Rattle.scheme.specs.declared.Reading.{Reading}
 use Rattle.scheme.specs.declared.Summary.{Summary}
-use Rattle.scheme.specs.Units.{isMissing, stored, fieldOf, step, Station, Plan, R, E, Request, guess, Call, asked, withStations, asking}
+use Rattle.scheme.specs.Units.{isMissing, stored, fieldOf, step, Station, border, Plan, R, E, Request, guess, Call, asked, withStations, asking}
 use Rattle.scheme.specs.Refusals.{accepted, numberOf, placeOf, asOne, badShape, Window, badWindow, fromFive, analysisRefusal, windowRefusal}
-use Rattle.scheme.specs.Verdicts.{serves, isAccepted, beforeScans}
+use Rattle.scheme.specs.Verdicts.{serves, onGrid, offGrid, isAccepted, beforeScans}
 use Rattle.scheme.specs.Rounding.{rounded}
-use Rattle.scheme.specs.Value.{place, sumAt}
+use Rattle.scheme.specs.Value.{place, sumAt, valueAt}
 use Rattle.scheme.specs.Difference.{Row}
 use Rattle.scheme.specs.Weight.{scale, weight, square}
 use Rattle.scheme.specs.Correction.{nothing, gift, share, correction}
-use Rattle.scheme.specs.Scan.{State, differences, rowsJudged, sumsAt, after, atEnd, Analysis, analysis}
+use Rattle.scheme.specs.Scan.{State, differences, rowsJudged, sumsAt, afterWithin, after, atEnd, Analysis, analysis}
 use Rattle.scheme.specs.Reach.{reach, cutOf, onWindow, counted, cut, Tile, windowOf}
 use Rattle.scheme.specs.Readings.{double, positiveZero, reading, valueOf, lowest, highest, summary}
 use Rattle.scheme.specs.Text.{requestLines, analysisText}
@@ -47,6 +47,7 @@ use Rattle.scheme.specs.Support as support
 use Rattle.scheme.specs.Support.{bit}
 use Rattle.scheme.specs.DeadMasts as dead
 use Rattle.scheme.specs.DeadMasts.{noRow}
+use Rattle.scheme.specs.Posts as posts
 use Rattle.scheme.specs.Entries as entries
 use Rattle.scheme.specs.Laws.{Scheme}
 use Rattle.scheme.specs.Near.{Side}
@@ -125,20 +126,40 @@ dead-mast-keeps-its-verdict = dead.dead-mast-keeps-its-verdict
 pub dead-mast-has-no-weight : (q : Request) (n t i j : ℕ) → isAccepted (rowAfter q 0 n .verdict) ≡ false → weightIn q t n i j ≡ 0
 dead-mast-has-no-weight = dead.dead-mast-has-no-weight
 
-pub taken-down-is-out-of-service : (nx ny T A : ℕ) (s : Station) → isMissing (s .value) ≡ false → (serves s (s .observed) && serves s T) ≡ false
-    → beforeScans nx ny T A s ≡ 2
+pub taken-down-is-out-of-service : (b nx ny T A : ℕ) (s : Station) → isMissing (s .value) ≡ false → (serves s (s .observed) && serves s T) ≡ false
+    → beforeScans b nx ny T A s ≡ 2
 taken-down-is-out-of-service = dead.taken-down-is-out-of-service
 
 -- the request without the masts that a verdict from 1 to 5 fits
 abbrev withoutDeadMasts : Request → Request
 withoutDeadMasts q =
-    withStations q (keep (λ s. isAccepted (beforeScans (q .nx) (q .ny) (q .T) (q .A) s)) (q .stations))
+    withStations q (keep (λ s. isAccepted (beforeScans border (q .nx) (q .ny) (q .T) (q .A) s)) (q .stations))
 
 pub removing-dead-masts-changes-no-value : (q : Request) → analysis (withoutDeadMasts q) .grid ≡ analysis q .grid
 removing-dead-masts-changes-no-value = dead.removing-dead-masts-changes-no-value
 
 pub removing-dead-masts-changes-no-support : (q : Request) → analysis (withoutDeadMasts q) .support ≡ analysis q .support
 removing-dead-masts-changes-no-support = dead.removing-dead-masts-changes-no-support
+
+-- ---- posts beyond the border
+
+-- whatever a scan finds, a post's difference is its observation less the first guess at its nearest place on the grid
+pub post-differs-from-first-guess : (q : Request) (found : State) (s : Station) → onGrid (q .nx) (q .ny) (s .x) (s .y) ≡ false
+    → differences q found s ≡ s .value -ℤ rounded (sumAt (q .nx) (q .ny) (guess q) (place (q .nx) (s .x)) (place (q .ny) (s .y))) 4096
+unfolding valueAt
+post-differs-from-first-guess = posts.post-differs-from-first-guess
+
+-- so a post that scan number m + 1 accepts stays as it is in the scans after it, up to one with a lower limit
+pub post-stays-accepted : (q : Request) (m n : ℕ) → onGrid (q .nx) (q .ny) (rowAfter q (suc m) n .station .x) (rowAfter q (suc m) n .station .y) ≡ false
+    → isAccepted (rowAfter q (suc m) n .verdict) ≡ true
+    → (t : ℕ) → ((k : ℕ) → k < t → E (q .plan) m ≤ E (q .plan) (suc m + k)) → rowAfter q (suc m + t) n ≡ rowAfter q (suc m) n
+post-stays-accepted = posts.post-stays-accepted
+
+-- where each station is on the grid, or off it by more than `most`, every border up to that gives the same run; border 0 is document 01
+pub without-posts-every-border-is-one : (q : Request) (most b b' : ℕ) → b ≤ most → b' ≤ most
+    → All (λ s. (onGrid (q .nx) (q .ny) (s .x) (s .y) ≡ true) ⊎ (offGrid most (q .nx) (q .ny) s ≡ true)) (q .stations)
+    → (m : ℕ) → afterWithin b q m ≡ afterWithin b' q m
+without-posts-every-border-is-one = posts.without-posts-every-border-is-one
 
 -- ---- DEMAND 3: windows agree with the whole
 
@@ -154,7 +175,7 @@ module _ (c : Call) (w : Window) (grid support verdict : ℕ) (e : analysisRefus
   at i j = (j - cutOf q w .rows .first) * part .nx + (i - cutOf q w .columns .first)
 
   abbrev row : ℕ → ℕ
-  row k = rank (onWindow (cutOf q w)) (q .stations) k
+  row k = rank (onWindow (q .nx) (q .ny) (cutOf q w)) (q .stations) k
 
   -- the cut is itself an accepted request; each point of the window has there the whole grid's value and support; each station of the window is
   -- kept, and has there its verdict
@@ -163,7 +184,7 @@ module _ (c : Call) (w : Window) (grid support verdict : ℕ) (e : analysisRefus
       × ((i j : ℕ) → w .columns .first ≤ i → i ≤ w .columns .last → w .rows .first ≤ j → j ≤ w .rows .last
       → (at i j < length (analysis part .grid)) × (getD (analysis part .grid) (at i j) (pos 0) ≡ getD (analysis q .grid) (j * q .nx + i) (pos 0))
       × (at i j < length (analysis part .support)) × (getD (analysis part .support) (at i j) 0 ≡ getD (analysis q .support) (j * q .nx + i) 0))
-      × ((k : ℕ) (o : Station) → k < length (q .stations) → onWindow w (getD (q .stations) k o) ≡ true
+      × ((k : ℕ) (o : Station) → k < length (q .stations) → onWindow (q .nx) (q .ny) w (getD (q .stations) k o) ≡ true
       → (row k < length (analysis part .verdict)) × (getD (analysis part .verdict) (row k) 0 ≡ getD (analysis q .verdict) k 0)
       × (getD (part .stations) (row k) (counted (cutOf q w) o) ≡ counted (cutOf q w) (getD (q .stations) k o)))
   windows-agree-with-the-whole =

@@ -20,7 +20,7 @@ use Rattle.scheme.specs.Difference.{Row, judged}
 use Rattle.scheme.specs.Weight.{weight, square}
 use Rattle.scheme.specs.Correction.{Sums, share, correction, backedBy}
 use Rattle.scheme.specs.Gifts.{sums, accepted-weight, rejected-gives-nothing}
-use Rattle.scheme.specs.Scan.{differences, start, rowsJudged, sumsAt, corrected, scan, after}
+use Rattle.scheme.specs.Scan.{differences, start, rowsJudged, sumsAt, corrected, scan, afterWithin, after}
 
 -- bit k of a number
 unfoldable pub bit : ℕ → ℕ → Bool
@@ -57,12 +57,12 @@ module _ (q : Request) (i j : ℕ) where
   weightsIn k = sumsAt q k (after q k) i j .weights
 
   support-next : (m : ℕ) → after q (suc m) .support i j ≡ after q m .support i j + cond (ltb 0 (weightsIn m)) (2 ^ m) 0
-  unfolding after scan backedBy
+  unfolding afterWithin scan backedBy
   support-next m = refl
 
   -- no bit is set but those of the scans made
   pub support-small : (m : ℕ) → after q m .support i j < 2 ^ m
-  unfolding after start
+  unfolding afterWithin start
   support-small zero = omega arith
   support-small (suc m) = go (ltb 0 (weightsIn m)) (support-small m) (support-next m)
     where
@@ -135,7 +135,7 @@ no-correction s e = rw (eq-eqb (s .weights) 0 e)
 
 module _ (q : Request) (rough : q .plan .smooth ≡ false) (i j : ℕ) where
   pub unsupported-point-keeps-first-guess : (m : ℕ) → after q m .support i j ≡ 0 → after q m .field i j ≡ guess q i j
-  unfolding after start scan
+  unfolding afterWithin start scan
   unsupported-point-keeps-first-guess zero e = refl
   unsupported-point-keeps-first-guess (suc m) e =
       let (old, none) = parts (after q m .support i j) (ltb 0 (weightsIn q i j m)) (sym (support-next q i j m) ∙ e) in
@@ -161,7 +161,7 @@ module _ (q : Request) (rough : q .plan .smooth ≡ false) (i j : ℕ) where
 
 module _ (q : Request) (empty : q .stations ≡ []) where
   no-rows : (m : ℕ) → after q m .rows ≡ []
-  unfolding after start scan rowsJudged
+  unfolding afterWithin start scan rowsJudged
   no-rows zero = rw empty
   no-rows (suc m) = rw (no-rows m)
 
@@ -172,6 +172,6 @@ module _ (q : Request) (empty : q .stations ≡ []) where
       (no-rows m)
 
   pub no-stations-no-support : (m i j : ℕ) → after q m .support i j ≡ 0
-  unfolding after start
+  unfolding afterWithin start
   no-stations-no-support zero i j = refl
   no-stations-no-support (suc m) i j = support-next q i j m ∙ rw (no-weights m i j, no-stations-no-support m i j)

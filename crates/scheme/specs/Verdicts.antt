@@ -1,6 +1,6 @@
 -- "Verdicts before the first scan".
-use Prim.Native.Nat.{ℕ, _-_, _*_}
-use mathlib.Core.Bool.{Bool, false, not, cond, _&&_, _||_}
+use Prim.Native.Nat.{ℕ, suc, _+_, _-_, _*_}
+use mathlib.Core.Bool.{Bool, not, cond, _&&_, _||_}
 use mathlib.Core.List.{List, [], _∷_}
 use lib.Dec.{leb, ltb, eqb}
 use lib.IntN.{ℤ, pos, negsuc}
@@ -14,13 +14,21 @@ serves s minute = leb (s .from) minute && (eqb (s .until) noEnd || ltb minute (s
 unfoldable pub outOfService : (T : ℕ) → Station → Bool
 outOfService T s = not (serves s (s .observed) && serves s T)
 
--- 5 off the grid, unless 0 ≤ x ≤ 64(nx-1) and 0 ≤ y ≤ 64(ny-1)
-unfoldable pub onAxis : ℕ → ℤ → Bool
-onAxis n (pos x) = leb x (step * (n - 1))
-onAxis n (negsuc x) = false
+-- off an axis of n points by at most so many units: -border ≤ x ≤ 64(n-1) + border
+unfoldable pub nearAxis : (border n : ℕ) → ℤ → Bool
+nearAxis border n (pos x) = leb x (step * (n - 1) + border)
+nearAxis border n (negsuc x) = leb (suc x) border
 
-unfoldable pub offGrid : (nx ny : ℕ) → Station → Bool
-offGrid nx ny s = not (onAxis nx (s .x) && onAxis ny (s .y))
+-- on it: 0 ≤ x ≤ 64(n-1). A station on the border is on the grid
+abbrev pub onAxis : ℕ → ℤ → Bool
+onAxis = nearAxis 0
+
+abbrev pub onGrid : (nx ny : ℕ) → (x y : ℤ) → Bool
+onGrid nx ny x y = onAxis nx x && onAxis ny y
+
+-- 5 off the grid by more than the border on either axis
+unfoldable pub offGrid : (border nx ny : ℕ) → Station → Bool
+offGrid border nx ny s = not (nearAxis border nx (s .x) && nearAxis border ny (s .y))
 
 -- a row that is still accepted
 abbrev pub isAccepted : ℕ → Bool
@@ -32,12 +40,12 @@ firstThatFits [] = 0
 firstThatFits (f ∷ rest) = cond (f .0) (f .1) (firstThatFits rest)
 
 -- 1 missing; 2; 3 observed after T; 4 T - observed > A; 5
-unfoldable pub beforeScans : (nx ny T A : ℕ) → Station → ℕ
-beforeScans nx ny T A s =
+unfoldable pub beforeScans : (border nx ny T A : ℕ) → Station → ℕ
+beforeScans border nx ny T A s =
     firstThatFits
     ((isMissing (s .value), 1)
     ∷ (outOfService T s, 2)
     ∷ (ltb T (s .observed), 3)
     ∷ (ltb A (T - s .observed), 4)
-    ∷ (offGrid nx ny s, 5)
+    ∷ (offGrid border nx ny s, 5)
     ∷ [])

@@ -22,11 +22,11 @@ use Rattle.scheme.specs.Stored.{place-in, length-stored, field-stored}
 use Rattle.scheme.specs.Lengths.{verdict-long}
 use Rattle.scheme.specs.Axes.{off, len}
 use Rattle.scheme.specs.Laws.{States, Run}
-use Rattle.scheme.specs.Near.{Side, cutAlong, Spot}
+use Rattle.scheme.specs.Near.{Side, cutAlong, Spot, spot-on}
 use Rattle.scheme.specs.Gathered.{Near, Twin}
 use Rattle.scheme.specs.Locality.{agree-inside, Runs, Alike, run-alike, twin-row, stations-stay}
 use Rattle.scheme.specs.Cut.{across, down, rowInCut, window-row, cut-sound, cut-accepted}
-use Rattle.scheme.specs.Cressman.{cressman, states, run, cressman-laws}
+use Rattle.scheme.specs.Cressman.{cressman, states, run, span-on, cressman-laws}
 
 -- ---- what it says
 
@@ -51,12 +51,12 @@ pub record Agrees (q : Request) (w : Window) : Type 0 where
       → (placeInCut q w i j < length (analysis (cut q w) .grid)) × (placeInCut q w i j < length (analysis (cut q w) .support))
   pub values : (i j : ℕ) → OfWindow w i j → getD (analysis (cut q w) .grid) (placeInCut q w i j) (pos 0) ≡ getD (analysis q .grid) (j * q .nx + i) (pos 0)
   pub supports : (i j : ℕ) → OfWindow w i j → getD (analysis (cut q w) .support) (placeInCut q w i j) 0 ≡ getD (analysis q .support) (j * q .nx + i) 0
-  -- each station on the window is kept; row k of the request is row `rowInCut` of the cut, and has there the same verdict
-  pub keeps : (s : Station) → onWindow w s ≡ true → onWindow (cutOf q w) s ≡ true
-  pub rows : (k : ℕ) (o : Station) → k < length (q .stations) → onWindow (cutOf q w) (getD (q .stations) k o) ≡ true
+  -- each station whose place is on the window is kept, posts included; row k of the request is row `rowInCut` of the cut, and has there the same verdict
+  pub keeps : (s : Station) → onWindow (q .nx) (q .ny) w s ≡ true → onWindow (q .nx) (q .ny) (cutOf q w) s ≡ true
+  pub rows : (k : ℕ) (o : Station) → k < length (q .stations) → onWindow (q .nx) (q .ny) (cutOf q w) (getD (q .stations) k o) ≡ true
       → (rowInCut q w k < length (cut q w .stations))
       × (getD (cut q w .stations) (rowInCut q w k) (counted (cutOf q w) o) ≡ counted (cutOf q w) (getD (q .stations) k o))
-  pub verdicts : (k : ℕ) (o : Station) → k < length (q .stations) → onWindow w (getD (q .stations) k o) ≡ true
+  pub verdicts : (k : ℕ) (o : Station) → k < length (q .stations) → onWindow (q .nx) (q .ny) w (getD (q .stations) k o) ≡ true
       → (rowInCut q w k < length (analysis (cut q w) .verdict)) × (getD (analysis (cut q w) .verdict) (rowInCut q w k) 0 ≡ getD (analysis q .verdict) k 0)
 
 -- ---- how it follows
@@ -66,31 +66,18 @@ steps-enough : (p : Plan) (m : ℕ) → R p m + 0 + step * cond (p .smooth) 1 0 
 unfolding steps
 steps-enough p m = omega arith
 
--- it is at no distance from the window, and on the cut
-span-spot : (v : Side) (x : ℤ) → onSpan (v .window) x ≡ true → Spot v 0 (place (v .n) x)
+-- a place on the window is at no distance from it
+span-spot : (v : Side) (x : ℤ) → onSpan (v .n) (v .window) x ≡ true → Spot v 0 (place (v .n) x)
 unfolding onSpan
-span-spot v (pos x) e =
+span-spot v x e =
     let (l, h) = and-true _ _ e in
-    go (leb-true _ _ l) (leb-true _ _ h)
-  where
-    go : step * v .window .first ≤ x → x ≤ step * v .window .last → Spot v 0 (place (v .n) (pos x))
-    go l h = rw (place-on (v .n) x (omega (arith, v .inside))) (record { low = omega arith; high = omega arith })
-span-spot v (negsuc x) e = absurd (not-both (sym e))
+    let low = leb-true (step * v .window .first) (place (v .n) x) l in
+    let high = leb-true (place (v .n) x) (step * v .window .last) h in
+    record { low = omega (arith, low); high = omega (arith, high) }
 
-span-keeps : (v : Side) (x : ℤ) → onSpan (v .window) x ≡ true → onSpan (widened (v .wider) (v .n) (v .window)) x ≡ true
-unfolding onSpan widened
-span-keeps v (pos x) e =
-    let (l, h) = and-true _ _ e in
-    go (leb-true _ _ l) (leb-true _ _ h)
-  where
-    go : step * v .window .first ≤ x → x ≤ step * v .window .last → onSpan (widened (v .wider) (v .n) (v .window)) (pos x) ≡ true
-    go l h =
-        unfold onSpan widened in
-        rw (
-          le-leb (step * (v .window .first - v .wider)) x (omega arith),
-          le-leb x (step * min (v .window .last + v .wider) (v .n - 1)) (omega (arith, v .inside)),
-        )
-span-keeps v (negsuc x) e = absurd (not-both (sym e))
+-- and so on the cut
+span-keeps : (v : Side) (x : ℤ) → onSpan (v .n) (v .window) x ≡ true → onSpan (v .n) (widened (v .wider) (v .n) (v .window)) x ≡ true
+span-keeps v x e = span-on (cutAlong v) x (spot-on v 0 x (omega arith) (span-spot v x e))
 
 module _ (q : Request) (w : Window) (sound : Sound q) (on : OnGrid (q .nx) (q .ny) w) where
   abbrev wide : Side
@@ -176,12 +163,12 @@ module _ (q : Request) (w : Window) (sound : Sound q) (on : OnGrid (q .nx) (q .n
   -- ---- stations
 
   -- the cut keeps the stations of the window
-  pub window-keeps : (s : Station) → onWindow w s ≡ true → onWindow (cutOf q w) s ≡ true
+  pub window-keeps : (s : Station) → onWindow (q .nx) (q .ny) w s ≡ true → onWindow (q .nx) (q .ny) (cutOf q w) s ≡ true
   window-keeps s e =
       let (x, y) = and-true _ _ e in
       rw (span-keeps wide (s .x) x, span-keeps tall (s .y) y)
 
-  window-verdict : (k : ℕ) (o : Station) → k < length (q .stations) → onWindow w (getD (q .stations) k o) ≡ true
+  window-verdict : (k : ℕ) (o : Station) → k < length (q .stations) → onWindow (q .nx) (q .ny) w (getD (q .stations) k o) ≡ true
       → getD (analysis (cut q w) .verdict) (rowInCut q w k) 0 ≡ getD (analysis q .verdict) k 0
   window-verdict k o l e =
       unfold analysis cut in
@@ -200,7 +187,7 @@ module _ (q : Request) (w : Window) (sound : Sound q) (on : OnGrid (q .nx) (q .n
           sym (List·getD-map (λ (r : Row). r .station) (after q (q .plan .scans) .rows) k past)
           ∙ ap (λ (ss : List Station). getD ss k o) same
 
-      here : onWindow w (getD (after q (q .plan .scans) .rows) k past .station) ≡ true
+      here : onWindow (q .nx) (q .ny) w (getD (after q (q .plan .scans) .rows) k past .station) ≡ true
       here = rw station-is e
 
       near : Near (cressman q) wide tall (step * 0) (getD (after q (q .plan .scans) .rows) k past .station)

@@ -63,14 +63,7 @@ fn work(
     window_cut::part_of_values(&mut part[..points], guess, t.nx, c.left, c.top, wide, high);
     let mut kept = [[0i32; 3]; 512];
     let mut times = [[0u32; 3]; 512];
-    let stations = window_cut::keep_stations(
-        &mut kept,
-        &mut times,
-        c,
-        numbers,
-        minutes,
-        t.stations,
-    );
+    let stations = window_cut::keep_stations(&mut kept, &mut times, t, c, numbers, minutes);
     window_tile::whole_at(
         cut_terms(t, wide, high, stations),
         moved(w, c),

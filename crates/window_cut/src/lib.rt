@@ -16,23 +16,23 @@ ghost use Rattle.window_cut.specs.Part.{copied, CopyReady, partOf, PartR
 pub fn keep_stations(
     kept: &mut [[i32; 3]; 512],
     times: &mut [[u32; 3]; 512],
+    t: request::Terms,
     c: request::Window,
     numbers: &[[i32; 3]; 512],
     minutes: &[[u32; 3]; 512],
-    n: usize,
 ) -> usize
-    requires { ⌜ KeepReady (windowIn c) (now numbers) n × (length (now kept) ≡ mostStations) × (length (now times) ≡ mostStations) ⌝ }
-    ensures { λ m. ⌜ Kept (windowIn c) (now (numbers .entry)) (now (minutes .entry)) (now (kept .exit)) (now (times .exit)) n m ⌝ }
+    requires { ⌜ KeepReady t (windowIn c) (now numbers) × (length (now kept) ≡ mostStations) × (length (now times) ≡ mostStations) ⌝ }
+    ensures { λ m. ⌜ Kept t (windowIn c) (now (numbers .entry)) (now (minutes .entry)) (now (kept .exit)) (now (times .exit)) (t .stations) m ⌝ }
 {
     let mut m: usize = 0;
     let mut k: usize = 0;
-    while k < n {
+    while k < t.stations {
         let row = numbers[k];
         let moved = window_spans::counted(row, c);
         kept[m] = moved;
         let stamps = minutes[k];
         times[m] = stamps;
-        m += window_spans::one_if_on_cut(c, row);
+        m += window_spans::one_if_on_cut(t.nx, t.ny, c, row);
         k += 1;
     }
     m

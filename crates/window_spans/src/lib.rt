@@ -63,25 +63,22 @@ pub fn widened(reach: usize, nx: usize, ny: usize, w: request::Window) -> reques
 
 // ---- a station's row on the cut
 
-// On a span of the cut, its ends included.
-fn on_span(first: usize, last: usize, x: i32) -> bool
-    requires { ⌜ (first ≤ mostSide - 1) × (last ≤ mostSide - 1) ⌝ }
-    ensures { λ r. ⌜ r ≡ onSpan (fromTo first last) x ⌝ }
+// Whether the place of a position on an axis of n points is on a span of the cut, its ends included.
+fn on_span(n: usize, first: usize, last: usize, x: i32) -> bool
+    requires { ⌜ (1 ≤ n) × (n ≤ mostSide) × (first ≤ mostSide - 1) × (last ≤ mostSide - 1) ⌝ }
+    ensures { λ r. ⌜ r ≡ onSpan n (fromTo first last) x ⌝ }
 {
-    if x < 0 {
-        return false;
-    }
-    let place = x as usize;
+    let place = field_value::place(n, x) as usize;
     (64 * first <= place) & (place <= 64 * last)
 }
 
-// 1 for a station on the cut, and else 0: what it adds to the number of those kept.
-pub fn one_if_on_cut(c: request::Window, numbers: [i32; 3]) -> usize
-    requires { ⌜ OnGrid mostSide mostSide (windowIn c) ⌝ }
-    ensures { λ r. ⌜ r ≡ cond (rowOn (windowIn c) numbers) 1 0 ⌝ }
+// 1 for a station of the cut, on a grid of nx columns and ny rows, and else 0: what it adds to the number of those kept.
+pub fn one_if_on_cut(nx: usize, ny: usize, c: request::Window, numbers: [i32; 3]) -> usize
+    requires { ⌜ OnGrid nx ny (windowIn c) × (nx ≤ mostSide) × (ny ≤ mostSide) ⌝ }
+    ensures { λ r. ⌜ r ≡ cond (rowOn nx ny (windowIn c) numbers) 1 0 ⌝ }
 {
-    let on = on_span(c.left, c.right, numbers[request::X])
-        & on_span(c.top, c.bottom, numbers[request::Y]);
+    let on = on_span(nx, c.left, c.right, numbers[request::X])
+        & on_span(ny, c.top, c.bottom, numbers[request::Y]);
     on as usize
 }
 

@@ -1,0 +1,105 @@
+-- Posts beyond the border: their difference is the same in every scan, so that none is rejected later under limits that do not fall; and for a
+-- request without posts every border gives the same run, document 01's among them.
+use Prim.Native.Nat.{ℕ, zero, suc, _+_, _-_, _*_, _≤_, _<_}
+use native.Mathlib.Omega.{arith}
+use native.Mathlib.Nat.{add-zero}
+use mathlib.Core.Path.{_≡_, refl, sym, ap, _∙_}
+use mathlib.Core.Logic.{_⊎_, inl, inr}
+use mathlib.Core.Bool.{true, false, not, _&&_}
+use mathlib.Core.List.{List, map}
+use borrow.Author.Tests.{leb-true, le-leb, le-ltb, eqb-true}
+use lib.IntN.{ℤ, pos, negsuc, natAbs, _-ℤ_}
+use Rattle.lists.specs.Tests.{true-or-false, not-both, and-true}
+use Rattle.lists.specs.Members.{All, none, more, all-also}
+use Rattle.scheme.specs.Units.{step, Station, E, Request, guess}
+use Rattle.scheme.specs.Verdicts.{nearAxis, onGrid, offGrid, isAccepted, beforeScans}
+use Rattle.scheme.specs.Value.{valueAt}
+use Rattle.scheme.specs.Difference.{Row, difference, afterTest, judged}
+use Rattle.scheme.specs.Scan.{State, begins, start, differences, scan, afterWithin, after}
+use Rattle.scheme.specs.Bounds.{passed}
+use Rattle.scheme.specs.DeadMasts.{rowAfter, judgedIn, row-next}
+
+-- ---- the difference of a post
+
+-- a station that is not on the grid
+abbrev pub Beyond : Request → Station → Type 0
+Beyond q s = onGrid (q .nx) (q .ny) (s .x) (s .y) ≡ false
+
+-- whatever the scan finds, it is the observation less the first guess at the nearest place on the grid
+pub post-differs-from-first-guess : (q : Request) (found : State) (s : Station) → Beyond q s
+    → differences q found s ≡ s .value -ℤ valueAt (q .nx) (q .ny) (guess q) s
+unfolding difference
+post-differs-from-first-guess q found s off = rw off
+
+-- ---- so a post that one scan accepts stays accepted in those after it, as long as none has a lower limit
+
+-- a row that is accepted and within the limit stays as it is
+within-stays : (number limit : ℕ) (D : Station → ℤ) (r : Row) → isAccepted (r .verdict) ≡ true → natAbs (D (r .station)) ≤ limit → judged number limit D r ≡ r
+unfolding judged afterTest
+within-stays number limit D r e h =
+    rw (e, le-ltb limit (natAbs (D (r .station))) h) (ap (λ (v : ℕ). record { station = r .station; verdict = v }) (sym (eqb-true (r .verdict) 0 e)))
+
+module _ (q : Request) (m n : ℕ) (off : Beyond q (rowAfter q (suc m) n .station)) (e : isAccepted (rowAfter q (suc m) n .verdict) ≡ true) where
+  -- the scan that accepted it found its difference within the limit
+  within-limit : natAbs (rowAfter q (suc m) n .station .value -ℤ valueAt (q .nx) (q .ny) (guess q) (rowAfter q (suc m) n .station)) ≤ E (q .plan) m
+  unfolding judged
+  within-limit =
+      rw (← (post-differs-from-first-guess q (after q m) (rowAfter q (suc m) n .station) off)) (go (rowAfter q (suc m) n) (row-next q m n) e)
+    where
+      go : (r : Row) → r ≡ judgedIn q m (rowAfter q m n) → isAccepted (r .verdict) ≡ true → natAbs (differences q (after q m) (r .station)) ≤ E (q .plan) m
+      go r same a = rw same (passed (m + 1) (E (q .plan) m) _ (rowAfter q m n .verdict) (rw same at a))
+
+  pub post-stays-accepted : (t : ℕ) → ((k : ℕ) → k < t → E (q .plan) m ≤ E (q .plan) (suc m + k)) → rowAfter q (suc m + t) n ≡ rowAfter q (suc m) n
+  post-stays-accepted zero limits = ap (λ (k : ℕ). rowAfter q k n) (add-zero (suc m))
+  post-stays-accepted (suc t) limits =
+      let s : suc m + suc t ≡ suc (suc m + t) = omega arith in
+      ap (λ (k : ℕ). rowAfter q k n) s
+      ∙ row-next q (suc m + t) n
+      ∙ ap (judgedIn q (suc m + t)) (post-stays-accepted t (λ k h. limits k (omega arith)))
+      ∙ within-stays (suc m + t + 1) (E (q .plan) (suc m + t)) (differences q (after q (suc m + t))) (rowAfter q (suc m) n) e
+      (rw (post-differs-from-first-guess q (after q (suc m + t)) (rowAfter q (suc m) n .station) off) (omega (arith, within-limit, limits t (omega arith))))
+
+-- ---- without posts every border is one
+
+near-more : (b b' n : ℕ) (x : ℤ) → b ≤ b' → nearAxis b n x ≡ true → nearAxis b' n x ≡ true
+unfolding nearAxis
+near-more b b' n (pos x) h e =
+    le-leb x (step * (n - 1) + b') (omega (arith, leb-true x (step * (n - 1) + b) e))
+near-more b b' n (negsuc x) h e = le-leb (suc x) b' (omega (arith, leb-true (suc x) b e))
+
+module _ (nx ny b b' : ℕ) (s : Station) (h : b ≤ b') where
+  both-more : nearAxis b nx (s .x) && nearAxis b ny (s .y) ≡ true → nearAxis b' nx (s .x) && nearAxis b' ny (s .y) ≡ true
+  both-more e =
+      let (x, y) = and-true (nearAxis b nx (s .x)) (nearAxis b ny (s .y)) e in
+      rw (near-more b b' nx (s .x) h x, near-more b b' ny (s .y) h y)
+
+  off-less : offGrid b' nx ny s ≡ true → offGrid b nx ny s ≡ true
+  unfolding offGrid
+  off-less e = go (true-or-false (nearAxis b nx (s .x) && nearAxis b ny (s .y)))
+    where
+      go : (nearAxis b nx (s .x) && nearAxis b ny (s .y) ≡ true) ⊎ (nearAxis b nx (s .x) && nearAxis b ny (s .y) ≡ false)
+          → not (nearAxis b nx (s .x) && nearAxis b ny (s .y)) ≡ true
+      go (inl near) = absurd (not-both (sym e ∙ rw (both-more near)))
+      go (inr far) = rw far
+
+-- a station that is on the grid, or off it by more than any border in question
+abbrev pub NoPost : (most : ℕ) → Request → Station → Type 0
+NoPost most q s = (onGrid (q .nx) (q .ny) (s .x) (s .y) ≡ true) ⊎ (offGrid most (q .nx) (q .ny) s ≡ true)
+
+module _ (q : Request) (most b b' : ℕ) (h : b ≤ most) (h' : b' ≤ most) where
+  same-off : (s : Station) → NoPost most q s → offGrid b (q .nx) (q .ny) s ≡ offGrid b' (q .nx) (q .ny) s
+  same-off s (inl on) = unfold offGrid in rw (both-more (q .nx) (q .ny) 0 b s (omega arith) on, both-more (q .nx) (q .ny) 0 b' s (omega arith) on)
+  same-off s (inr off) = off-less (q .nx) (q .ny) b most s h off ∙ sym (off-less (q .nx) (q .ny) b' most s h' off)
+
+  same-first : (s : Station) → NoPost most q s → beforeScans b (q .nx) (q .ny) (q .T) (q .A) s ≡ beforeScans b' (q .nx) (q .ny) (q .T) (q .A) s
+  unfolding beforeScans
+  same-first s post = rw (same-off s post)
+
+  same-rows : {ss : List Station} → All (NoPost most q) ss → map (begins b (q .nx) (q .ny) (q .T) (q .A)) ss ≡ map (begins b' (q .nx) (q .ny) (q .T) (q .A)) ss
+  same-rows none = refl
+  same-rows (more {a = s} post rest) = cc (same-first s post, same-rows rest)
+
+  pub without-posts-every-border-is-one : All (NoPost most q) (q .stations) → (m : ℕ) → afterWithin b q m ≡ afterWithin b' q m
+  unfolding afterWithin start
+  without-posts-every-border-is-one none-is zero = cc (same-rows none-is)
+  without-posts-every-border-is-one none-is (suc m) = ap (scan q m) (without-posts-every-border-is-one none-is m)
