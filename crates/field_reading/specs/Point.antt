@@ -1,49 +1,38 @@
 -- A reading, case by case.
 use Prim.Native.Nat.{ℕ}
 use mathlib.Core.Path.{_≡_, refl}
-use mathlib.Core.Bool.{true, false, _&&_}
+use mathlib.Core.Bool.{true, false}
 use mathlib.Core.List.{List}
 use lib.Dec.{eqb}
 use lib.ListN.{length}
-use lib.IntN.{ℤ, pos, natAbs}
+use lib.IntN.{ℤ, pos}
 use lib.Ieee.{binary64, ofBits, ofInt}
-use Rattle.lists.specs.Tests.{and-true}
 use Rattle.scheme.specs.declared.Reading.{Reading}
 use Rattle.scheme.specs.declared.Reading.the-variants.{Backed, FirstGuess, OffGrid, Refused}
 use Rattle.scheme.specs.Units.{Field, fieldOf}
 use Rattle.scheme.specs.Refusals.{refusedIf, badShape, readingRefusal}
-use Rattle.scheme.specs.Verdicts.{onAxis}
+use Rattle.scheme.specs.Verdicts.{onGrid}
 use Rattle.scheme.specs.Value.{place, sumAt}
 use Rattle.scheme.specs.Readings.{double, positiveZero, isBacked, readingIn, reading}
-use Rattle.field_value.specs.Axis.{Along, on-axis, own-place}
 
 -- ---- of a field of the right shape
 
-pub along-both : (nx ny : ℕ) (x y : ℤ) → onAxis nx x && onAxis ny y ≡ true → Along nx x × Along ny y
-along-both nx ny x y on = let (h, k) = and-true (onAxis nx x) (onAxis ny y) on in (on-axis nx x h, on-axis ny y k)
-
 module _ (nx ny : ℕ) (z : Field ℤ) (support : Field ℕ) (x y : ℤ) where
-  pub off-grid : onAxis nx x && onAxis ny y ≡ false → OffGrid ≡ readingIn nx ny z support x y
+  pub off-grid : onGrid nx ny x y ≡ false → OffGrid ≡ readingIn nx ny z support x y
   unfolding readingIn
   off-grid e = rw e
 
-  module _ (on : onAxis nx x && onAxis ny y ≡ true) where
-    place-x : place nx x ≡ natAbs x
-    place-x = own-place nx x (along-both nx ny x y on .0)
-
-    place-y : place ny y ≡ natAbs y
-    place-y = own-place ny y (along-both nx ny x y on .1)
-
+  module _ (on : onGrid nx ny x y ≡ true) where
     abbrev pub here : Reading → Type 0
     here r = r ≡ readingIn nx ny z support x y
 
-    pub backed : isBacked nx ny support (natAbs x) (natAbs y) ≡ true → here (Backed (double (sumAt nx ny z (natAbs x) (natAbs y)) 262144))
+    pub backed : isBacked nx ny support (place nx x) (place ny y) ≡ true → here (Backed (double (sumAt nx ny z (place nx x) (place ny y)) 262144))
     unfolding readingIn
-    backed e = rw (on, place-x, place-y, e)
+    backed e = rw (on, e)
 
-    pub not-backed : isBacked nx ny support (natAbs x) (natAbs y) ≡ false → here (FirstGuess (double (sumAt nx ny z (natAbs x) (natAbs y)) 262144))
+    pub not-backed : isBacked nx ny support (place nx x) (place ny y) ≡ false → here (FirstGuess (double (sumAt nx ny z (place nx x) (place ny y)) 262144))
     unfolding readingIn
-    not-backed e = rw (on, place-x, place-y, e)
+    not-backed e = rw (on, e)
 
 -- ---- of any field
 

@@ -7,8 +7,8 @@ use borrow.Author.Tests.{lt-ltb, le-ltb, not-true, not-false}
 use lib.ListN.{getD}
 use lib.IntN.{pos}
 use mir.Facts.{toZ-ofZ}
-use Rattle.scheme.specs.Units.{isMissing}
-use Rattle.scheme.specs.Verdicts.{outOfService, onAxis, offGrid, firstThatFits, beforeScans}
+use Rattle.scheme.specs.Units.{isMissing, border}
+use Rattle.scheme.specs.Verdicts.{outOfService, nearAxis, offGrid, firstThatFits, beforeScans}
 use Rattle.request.specs.Tables.{stationOf}
 use Rattle.scan_verdict.proofs.first_verdict.Statement.{statement}
 use Rattle.scan_verdict.proofs.first_verdict.Tie as tie
@@ -22,8 +22,8 @@ serving : (c : tie.Else2) → (let a = c .before .before .before .before .before
 serving c = sym (c .before .out-of-service .ensures (c .before .before .before .before .before .args .t1)) ∙ c .if2 .left
 
 -- the fifth test
-on-grid-is : (c : tie.After-on-grid) → (let a = c .before .before .before .before .before .before .before .before .before .before .args in c .on-grid .result ≡ onAxis (a .nx) (getD (a .t1) 0 (pos 0)) && onAxis (a .ny) (getD (a .t1) 1 (pos 0)))
-on-grid-is c = rw (toZ-ofZ (sfits-of (c .before .before .on-grid-arg .given)), toZ-ofZ (sfits-of (c .before .on-grid-arg2 .given))) at (c .on-grid .ensures)
+near-grid-is : (c : tie.After-near-grid) → (let a = c .before .before .before .before .before .before .before .before .before .before .args in c .near-grid .result ≡ nearAxis border (a .nx) (getD (a .t1) 0 (pos 0)) && nearAxis border (a .ny) (getD (a .t1) 1 (pos 0)))
+near-grid-is c = rw (toZ-ofZ (sfits-of (c .before .before .near-grid-arg .given)), toZ-ofZ (sfits-of (c .before .near-grid-arg2 .given))) at (c .near-grid .ensures)
 
 array-copy-out-is-missing : tie.Need-array-copy-out-is-missing
 array-copy-out-is-missing c = search needs
@@ -57,28 +57,28 @@ returns-4 : tie.Need-returns-4
 unfolding beforeScans firstThatFits stationOf
 returns-4 c = let e = c .before .before in rw (there (e .before .before), serving e, le-ltb _ _ (c .before .if3 .left), lt-ltb _ _ (c .if4 .taken))
 
-array-copy-out-on-grid : tie.Need-array-copy-out-on-grid
-array-copy-out-on-grid c = search needs
+array-copy-out-near-grid : tie.Need-array-copy-out-near-grid
+array-copy-out-near-grid c = search needs
 
-array-copy-out-on-grid-2 : tie.Need-array-copy-out-on-grid-2
-array-copy-out-on-grid-2 c = search needs
+array-copy-out-near-grid-2 : tie.Need-array-copy-out-near-grid-2
+array-copy-out-near-grid-2 c = search needs
 
-on-grid-requires : tie.Need-on-grid-requires
-on-grid-requires c κs = search needs
+near-grid-requires : tie.Need-near-grid-requires
+near-grid-requires c κs = search needs
 
 returns-5 : tie.Need-returns-5
 unfolding beforeScans firstThatFits offGrid stationOf
 returns-5 c =
     let f = c .before .before .before .before in
     let e = f .before .before in
-    rw (there (e .before .before), serving e, le-ltb _ _ (f .before .if3 .left), le-ltb _ _ (f .if4 .left), sym (on-grid-is (c .before)) ∙ not-true _ (c .if5 .taken))
+    rw (there (e .before .before), serving e, le-ltb _ _ (f .before .if3 .left), le-ltb _ _ (f .if4 .left), sym (near-grid-is (c .before)) ∙ not-true _ (c .if5 .taken))
 
 returns-6 : tie.Need-returns-6
 unfolding beforeScans firstThatFits offGrid stationOf
 returns-6 c =
     let f = c .before .before .before .before in
     let e = f .before .before in
-    rw (there (e .before .before), serving e, le-ltb _ _ (f .before .if3 .left), le-ltb _ _ (f .if4 .left), sym (on-grid-is (c .before)) ∙ not-false _ (c .if5 .left))
+    rw (there (e .before .before), serving e, le-ltb _ _ (f .before .if3 .left), le-ltb _ _ (f .if4 .left), sym (near-grid-is (c .before)) ∙ not-false _ (c .if5 .left))
 
 pub first-verdict-spec : {M : Type 1} → statement M
 first-verdict-spec =
@@ -92,8 +92,8 @@ first-verdict-spec =
     array-read-observed
     returns-3
     returns-4
-    array-copy-out-on-grid
-    array-copy-out-on-grid-2
-    on-grid-requires
+    array-copy-out-near-grid
+    array-copy-out-near-grid-2
+    near-grid-requires
     returns-5
     returns-6)
