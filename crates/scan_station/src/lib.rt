@@ -17,12 +17,14 @@ fn value_for(row: [i32; 3], guess: &[i32], z: &[i32], nx: usize, ny: usize) -> i
     requires { ⌜ Shaped nx ny (length (now guess)) × Shaped nx ny (length (now z)) × Small (now guess) × Small (now z) ⌝ }
     ensures { λ r. ⌜ (r ≡ valueFor (now (guess .entry)) (now (z .entry)) nx ny row) × (natAbs r ≤ mostField) ⌝ }
 {
-    let x = field_value::place(nx, row[request::X]);
-    let y = field_value::place(ny, row[request::Y]);
-    if field_value::near_grid(0, nx, ny, row[request::X], row[request::Y]) {
-        field_value::value_at(z, nx, ny, x, y)
+    let x = row[request::X];
+    let y = row[request::Y];
+    let px = field_value::place(nx, x);
+    let py = field_value::place(ny, y);
+    if field_value::near_grid(0, nx, ny, x, y) {
+        field_value::value_at(z, nx, ny, px, py)
     } else {
-        field_value::value_at(guess, nx, ny, x, y)
+        field_value::value_at(guess, nx, ny, px, py)
     }
 }
 

@@ -15,21 +15,21 @@ use Rattle.scan_station.proofs.judge.Statement.{statement}
 use Rattle.scan_station.proofs.judge.Tie as tie
 
 abbrev Inv-loop : tie.InvT-loop
-Inv-loop z verdict₀ d₀ t numbers limit scan k₀ verdict d k =
+Inv-loop guess z verdict₀ d₀ t numbers limit scan k₀ verdict d k =
     (k ≤ t .stations)
-    × Filled (pos 0) (diffAt z t numbers verdict₀) 0 k d₀ d
-    × Filled 0 (verdictAt z t numbers verdict₀ scan limit) 0 k verdict₀ verdict
+    × Filled (pos 0) (diffAt guess z t numbers verdict₀) 0 k d₀ d
+    × Filled 0 (verdictAt guess z t numbers verdict₀ scan limit) 0 k verdict₀ verdict
 
 abbrev μ-loop : tie.MeasureT-loop
-μ-loop z verdict₀ d₀ t numbers limit scan k₀ verdict d k = t .stations - k
+μ-loop guess z verdict₀ d₀ t numbers limit scan k₀ verdict d k = t .stations - k
 
 -- what the loop is to fill in
 module _ (s : tie.Start Inv-loop μ-loop) where
   abbrev diffs : ℕ → ℤ
-  diffs = diffAt (s .args .z .now) (s .args .t) (s .args .numbers .now) (s .args .verdict .now)
+  diffs = diffAt (s .args .guess .now) (s .args .z .now) (s .args .t) (s .args .numbers .now) (s .args .verdict .now)
 
   abbrev verdicts : ℕ → ℕ
-  verdicts = verdictAt (s .args .z .now) (s .args .t) (s .args .numbers .now) (s .args .verdict .now) (s .args .scan) (s .args .limit)
+  verdicts = verdictAt (s .args .guess .now) (s .args .z .now) (s .args .t) (s .args .numbers .now) (s .args .verdict .now) (s .args .scan) (s .args .limit)
 
 -- a turn, at row k
 module _ (c : tie.Then1 Inv-loop μ-loop) where
@@ -83,7 +83,7 @@ difference-requires : tie.Need-difference-requires Inv-loop μ-loop
 difference-requires c κs =
     let t = c .before .before in
     let p = start t .pre in
-    (p .shape, p .small, λ e. p .on-grid (k t) (t .if1 .taken) (sym (verdict-is t) ∙ e))
+    (p .guess-shape, p .shape, p .guess-small, p .small, λ e. p .heard (k t) (t .if1 .taken) (sym (verdict-is t) ∙ e))
 
 mul-dk : tie.Need-mul-dk Inv-loop μ-loop
 mul-dk c = omega (arith, few (turn c))
@@ -115,7 +115,7 @@ loop-again c =
       omega (arith, t .if1 .taken),
       filled-set (pos 0) (diffs s) 0 (k t) (k t + 1) (s .args .d .now) (l .d) _ refl (omega arith) (in-d t) (diff-is d) (l .inv .1),
       filled-set 0 (verdicts s) 0 (k t) (k t + 1) (s .args .verdict .now) (l .verdict) _ refl (omega arith) (in-verdict t)
-          (c .verdict-after .ensures ∙ rw (diff-is d, verdict-is t) (same-test _ _ _ _ _ _ _)) (l .inv .2),
+          (c .verdict-after .ensures ∙ rw (diff-is d, verdict-is t) (same-test _ _ _ _ _ _ _ _)) (l .inv .2),
     )
 
 same-length : tie.Need-same-length Inv-loop μ-loop
