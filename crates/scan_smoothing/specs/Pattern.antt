@@ -22,10 +22,7 @@ use Rattle.scheme.specs.Smoothing.{pattern, patternAt, patternRow, patternSum, 
 use Rattle.scheme.specs.Most.{mostPoints, mostField}
 use Rattle.scheme.specs.Accepted.{Shaped}
 use Rattle.scheme.specs.Nearest.{rounded-size}
-
--- a stored field whose values are all within the bound of an accepted run
-abbrev pub Small : List ℤ → Type 0
-Small l = (k : ℕ) → natAbs (getD l k (pos 0)) ≤ mostField
+use Rattle.scheme.specs.Bounds.{Small}
 
 -- one row of the pattern over three places from p on, and three such rows, nx places apart
 unfoldable pub term : List ℤ → (p b a : ℕ) → ℤ

@@ -9,7 +9,8 @@ ghost use Rattle.scheme.specs.Units.{mostSide, stored, fieldOf};
 ghost use Rattle.scheme.specs.Smoothing.{inner, smoothed};
 ghost use Rattle.scheme.specs.Most.{mostPoints};
 ghost use Rattle.scheme.specs.Accepted.{Shaped};
-ghost use Rattle.scan_smoothing.specs.Pattern.{Small, rowAt, nineAt};
+ghost use Rattle.scheme.specs.Bounds.{Small};
+ghost use Rattle.scan_smoothing.specs.Pattern.{rowAt, nineAt};
 ghost use Rattle.scan_smoothing.specs.Pass.{smoothK};
 use rounding::Total;
 

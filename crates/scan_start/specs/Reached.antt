@@ -11,7 +11,7 @@ use Rattle.scheme.specs.Scan.{State, after}
 use Rattle.scheme.specs.Accepted.{Sound}
 use Rattle.request.specs.declared.Terms.{Terms}
 use Rattle.request.specs.Tables.{stationIn, requestIn}
-use Rattle.scan_station.specs.Judge.{AcceptedOnGrid}
+use Rattle.scan_station.specs.Judge.{AcceptedHeard}
 
 -- row k of the tables, with its verdict
 abbrev pub rowIn : List (List ℤ) → List (List ℕ) → List ℕ → ℕ → Row
@@ -24,8 +24,8 @@ pub record Holds (t : Terms) (numbers : List (List ℤ)) (minutes : List (List �
   pub rows : s .rows ≡ tab (t .stations) (rowIn numbers minutes st)
   pub long : length st ≡ t .stations
 
--- the slices hold the state after m scans, in which an accepted row is on the grid
+-- the slices hold the state after m scans, in which an accepted row is near the grid
 pub record Reached (t : Terms) (guess : List ℤ) (numbers : List (List ℤ)) (minutes : List (List ℕ)) (m : ℕ) (z : List ℤ) (sup st : List ℕ) : Type 0 where
   pub sound : Sound (requestIn t guess numbers minutes)
   pub holds : Holds t numbers minutes (after (requestIn t guess numbers minutes) m) z sup st
-  pub on-grid : AcceptedOnGrid t numbers st
+  pub heard : AcceptedHeard t numbers st

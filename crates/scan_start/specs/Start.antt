@@ -1,23 +1,23 @@
 -- The slices before the first scan hold the run's start.
-use Prim.Native.Nat.{ℕ, _*_, _<_}
+use Prim.Native.Nat.{ℕ, suc, _+_, _-_, _*_, _≤_, _<_}
 use native.Mathlib.Omega.{arith}
 use native.Mathlib.Nat.{div-add-mod'}
 use mathlib.Core.Path.{_≡_, refl, sym, ap, _∙_}
 use mathlib.Core.Bool.{Bool, true, false}
 use mathlib.Core.List.{List, [], _∷_}
-use borrow.Author.Tests.{not-false}
+use borrow.Author.Tests.{leb-true, not-false}
 use lib.ListN.{length, getD}
-use lib.IntN.{ℤ, pos}
+use lib.IntN.{ℤ, pos, negsuc, natAbs}
 use Rattle.lists.specs.Tests.{and-true}
 use Rattle.lists.specs.Tab.{tab, length-tab, getD-tab, is-tab, map-tab, tab-same}
-use Rattle.scheme.specs.Units.{isMissing, stored, fieldOf, Station, guess}
-use Rattle.scheme.specs.Verdicts.{onAxis, offGrid, firstThatFits, beforeScans}
+use Rattle.scheme.specs.Units.{isMissing, mostSide, stored, fieldOf, step, Station, border, guess}
+use Rattle.scheme.specs.Verdicts.{nearAxis, offGrid, firstThatFits, beforeScans}
+use Rattle.scheme.specs.Most.{mostAlong}
 use Rattle.scheme.specs.Scan.{start, afterWithin}
 use Rattle.scheme.specs.Accepted.{Stationed, noStation, Sound}
 use Rattle.request.specs.declared.Terms.{Terms}
 use Rattle.request.specs.Tables.{stationOf, stationIn, requestIn}
-use Rattle.field_value.specs.Axis.{on-axis}
-use Rattle.scan_station.specs.Judge.{AcceptedOnGrid}
+use Rattle.scan_station.specs.Judge.{AcceptedHeard}
 use Rattle.scan_start.specs.Reached.{rowIn, Reached}
 
 -- a stored first guess is stored
@@ -25,7 +25,7 @@ guess-stored : (nx ny : ℕ) (l : List ℤ) → length l ≡ nx * ny → l ≡ s
 unfolding stored fieldOf
 guess-stored nx ny l e = is-tab (pos 0) (nx * ny) _ l e (λ k h. ap (λ (n : ℕ). getD l n (pos 0)) (sym (div-add-mod' k nx)))
 
--- an accepted row is there and on the grid
+-- an accepted row is there, and on the grid or a post
 all-five : (a b c d e : Bool) → firstThatFits ((a, 1) ∷ (b, 2) ∷ (c, 3) ∷ (d, 4) ∷ (e, 5) ∷ []) ≡ 0 → (a ≡ false) × (e ≡ false)
 unfolding firstThatFits
 all-five true b c d e h = absurd (omega arith)
@@ -35,16 +35,23 @@ all-five false false false true e h = absurd (omega arith)
 all-five false false false false true h = absurd (omega arith)
 all-five false false false false false h = (refl, refl)
 
-accepted-on-grid : (nx ny T A : ℕ) (s : Station) → beforeScans nx ny T A s ≡ 0 → (isMissing (s .value) ≡ false) × (onAxis nx (s .x) ≡ true) × (onAxis ny (s .y) ≡ true)
+accepted-near : (nx ny T A : ℕ) (s : Station) → beforeScans border nx ny T A s ≡ 0
+    → (isMissing (s .value) ≡ false) × (nearAxis border nx (s .x) ≡ true) × (nearAxis border ny (s .y) ≡ true)
 unfolding beforeScans offGrid
-accepted-on-grid nx ny T A s e =
+accepted-near nx ny T A s e =
     let (a, b) = all-five _ _ _ _ _ e in
     let (x, y) = and-true _ _ (not-false _ b) in
     (a, x, y)
 
+-- so it is not far along an axis
+near-small : (n : ℕ) (x : ℤ) → n ≤ mostSide → nearAxis border n x ≡ true → natAbs x ≤ mostAlong
+unfolding nearAxis
+near-small n (pos x) few e = omega (arith, leb-true x (step * (n - 1) + border) e)
+near-small n (negsuc x) few e = omega (arith, leb-true (suc x) border e)
+
 -- the verdict of row k before the first scan
 abbrev pub firstAt : Terms → List (List ℤ) → List (List ℕ) → ℕ → ℕ
-firstAt t numbers minutes k = beforeScans (t .nx) (t .ny) (t .time) (t .age) (stationIn numbers minutes k)
+firstAt t numbers minutes k = beforeScans border (t .nx) (t .ny) (t .time) (t .age) (stationIn numbers minutes k)
 
 -- the start
 module _ (t : Terms) (first : List ℤ) (numbers : List (List ℤ)) (minutes : List (List ℕ)) (sound : Sound (requestIn t first numbers minutes)) (st : List ℕ)
@@ -52,7 +59,7 @@ module _ (t : Terms) (first : List ℤ) (numbers : List (List ℤ)) (minutes : L
   verdict-is : (k : ℕ) → k < t .stations → getD st k 0 ≡ firstAt t numbers minutes k
   verdict-is k h = ap (λ (l : List ℕ). getD l k 0) verdicts ∙ getD-tab (t .stations) _ k 0 h
 
-  start-rows : start (requestIn t first numbers minutes) .rows ≡ tab (t .stations) (rowIn numbers minutes st)
+  start-rows : start border (requestIn t first numbers minutes) .rows ≡ tab (t .stations) (rowIn numbers minutes st)
   unfolding start
   start-rows = map-tab _ (t .stations) (stationIn numbers minutes) ∙ tab-same (t .stations) _ _ (λ k h. cc (verdict-is k h))
 
@@ -61,11 +68,11 @@ module _ (t : Terms) (first : List ℤ) (numbers : List (List ℤ)) (minutes : L
       rw (← (getD-tab (t .stations) (stationIn numbers minutes) k noStation h))
       (sound .stations k (omega (arith, length-tab (t .stations) (stationIn numbers minutes))))
 
-  on-grid : AcceptedOnGrid t numbers st
+  heard : AcceptedHeard t numbers st
   unfolding stationOf
-  on-grid k h e =
-      let (there, x, y) = accepted-on-grid (t .nx) (t .ny) (t .time) (t .age) (stationIn numbers minutes k) (sym (verdict-is k h) ∙ e) in
-      record { x = on-axis (t .nx) _ x; y = on-axis (t .ny) _ y; value = in-range k h .value there }
+  heard k h e =
+      let (there, x, y) = accepted-near (t .nx) (t .ny) (t .time) (t .age) (stationIn numbers minutes k) (sym (verdict-is k h) ∙ e) in
+      record { x = near-small (t .nx) _ (sound .shape .few-columns) x; y = near-small (t .ny) _ (sound .shape .few-rows) y; value = in-range k h .value there }
 
   pub begun : {z : List ℤ} {sup : List ℕ} {len : ℕ} → z ≡ first → len ≡ t .nx * t .ny → sup ≡ tab len (λ k. 0) → Reached t first numbers minutes 0 z sup st
   unfolding afterWithin start guess stored
@@ -79,5 +86,5 @@ module _ (t : Terms) (first : List ℤ) (numbers : List (List ℤ)) (minutes : L
               rows = start-rows;
               long = ap length verdicts ∙ length-tab (t .stations) _;
             };
-        on-grid = on-grid;
+        heard = heard;
       }

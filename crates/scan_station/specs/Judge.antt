@@ -13,6 +13,7 @@ use Rattle.scheme.specs.Difference.{difference, afterTest}
 use Rattle.scheme.specs.Most.{mostAlong, mostField}
 use Rattle.scheme.specs.Accepted.{Shaped}
 use Rattle.scheme.specs.Nearest.{rounded-size}
+use Rattle.scheme.specs.Bounds.{Small}
 use Rattle.scheme.specs.Exact.{sum-size}
 use Rattle.scheme.specs.Axes.{place-most}
 use Rattle.request.specs.declared.Terms.{Terms}
@@ -31,10 +32,6 @@ pub record Heard (row : List ℤ) : Type 0 where
 -- every accepted row is heard
 abbrev pub AcceptedHeard : Terms → List (List ℤ) → List ℕ → Type 0
 AcceptedHeard t numbers st = (k : ℕ) → k < t .stations → getD st k 0 ≡ 0 → Heard (getD numbers k [])
-
--- a stored field of an accepted run
-abbrev pub Small : List ℤ → Type 0
-Small z = (k : ℕ) → natAbs (getD z k (pos 0)) ≤ mostField
 
 -- what judging needs
 pub record JudgeReady (guess z : List ℤ) (st : List ℕ) (ds : List ℤ) (t : Terms) (numbers : List (List ℤ)) (scan : ℕ) : Type 0 where

@@ -8,7 +8,8 @@ ghost use Rattle.scheme.specs.Units.{mostScans};
 ghost use Rattle.scheme.specs.Difference.{afterTest};
 ghost use Rattle.scheme.specs.Most.{mostField, mostDifference};
 ghost use Rattle.scheme.specs.Accepted.{Shaped};
-ghost use Rattle.scan_station.specs.Judge.{Small, Heard, JudgeReady, valueFor, diffOf, diffAt, verdictAt};
+ghost use Rattle.scheme.specs.Bounds.{Small};
+ghost use Rattle.scan_station.specs.Judge.{Heard, JudgeReady, valueFor, diffOf, diffAt, verdictAt};
 use request::Terms;
 
 // The value that a row's observation is held to: on the grid the field's as the scan finds it, and a post's the first guess's at the nearest

@@ -18,12 +18,11 @@ use Rattle.scheme.specs.Smoothing.{smoothed}
 use Rattle.scheme.specs.Accepted.{Shaped, same-shape}
 use Rattle.scheme.specs.Accepted as accepted
 use Rattle.scheme.specs.Most.{mostField}
-use Rattle.scheme.specs.Bounds.{passed, was-accepted, correction-size}
+use Rattle.scheme.specs.Bounds.{Small, passed, was-accepted, correction-size}
 use Rattle.scheme.specs.Stored.{Same, length-stored, field-stored, stored-same, smoothed-same, stored-all}
 use Rattle.request.specs.declared.Terms.{Terms}
 use Rattle.request.specs.Tables.{planIn}
-use Rattle.scan_station.specs.Judge.{AcceptedOnGrid, JudgeReady, diffOf, diffAt, verdictAt}
-use Rattle.scan_smoothing.specs.Pattern.{Small}
+use Rattle.scan_station.specs.Judge.{AcceptedHeard, JudgeReady, diffOf, diffAt, verdictAt}
 use Rattle.scan_point.specs.Near.{Stations, stationsWith, xAt, yAt, dAt, Inside, Ready, sumsOver, over-small}
 use Rattle.scan_point.specs.Pass.{corrected, backed, PassReady}
 use Rattle.scans.specs.Scanned.{r2In, Scanned}
@@ -41,7 +40,9 @@ pub entry-is : {v : ℤ} {n : ℕ} → v ≡ pos n → n < 2147483648 → toZ w3
 entry-is {n = n} e h = ap (λ (z : ℤ). toZ w32 (ofZ w32 z)) e ∙ bits-back w32 (pos n) (omega arith)
 
 -- what that scan needs
-pub record ScanReady (t : Terms) (numbers : List (List ℤ)) (m bit : ℕ) (z : List ℤ) (sup st : List ℕ) (ds : List ℤ) : Type 0 where
+pub record ScanReady (t : Terms) (guess : List ℤ) (numbers : List (List ℤ)) (m bit : ℕ) (z : List ℤ) (sup st : List ℕ) (ds : List ℤ) : Type 0 where
+  pub guess-shape : Shaped (t .nx) (t .ny) (length guess)
+  pub guess-small : Small guess
   pub shape : Shaped (t .nx) (t .ny) (length z)
   pub both : length sup ≡ length z
   pub low : (k : ℕ) → natAbs (getD z k (pos 0)) ≤ mostBefore
@@ -51,28 +52,30 @@ pub record ScanReady (t : Terms) (numbers : List (List ℤ)) (m bit : ℕ) (z : 
   pub long : length ds ≡ mostStations
   pub entry : EntryIn t m
   pub bit-is : bit ≡ 2 ^ m
-  pub on-grid : AcceptedOnGrid t numbers st
+  pub heard : AcceptedHeard t numbers st
 
 -- smoothing, if it is on
 unfoldable pub smoothedIf : Terms → List ℤ → List ℤ
 smoothedIf t l = cond (t .smooth) (stored (t .nx) (t .ny) (smoothed (t .nx) (t .ny) (fieldOf (pos 0) (t .nx) l))) l
 
-module _ {t : Terms} {numbers : List (List ℤ)} {m bit : ℕ} {z : List ℤ} {sup st : List ℕ} {ds₀ : List ℤ} (ok : ScanReady t numbers m bit z sup st ds₀) where
-  pub judge-ready : JudgeReady z st ds₀ t numbers (m + 1)
+module _ {t : Terms} {guess : List ℤ} {numbers : List (List ℤ)} {m bit : ℕ} {z : List ℤ} {sup st : List ℕ} {ds₀ : List ℤ} (ok : ScanReady t guess numbers m bit z sup st ds₀) where
+  pub judge-ready : JudgeReady guess z st ds₀ t numbers (m + 1)
   judge-ready =
       record {
+        guess-shape = ok .guess-shape;
         shape = ok .shape;
+        guess-small = ok .guess-small;
         small = λ k. omega (arith, ok .low k);
         few = ok .few;
         len-st = ok .len-st;
         long = ok .long;
         scan-few = omega (arith, ok .entry .0);
-        on-grid = ok .on-grid;
+        heard = ok .heard;
       }
 
   -- after judging
-  module _ {st' : List ℕ} {ds : List ℤ} (vf : Filled 0 (verdictAt z t numbers st (m + 1) (E (planIn t) m)) 0 (t .stations) st st')
-      (df : Filled (pos 0) (diffAt z t numbers st) 0 (t .stations) ds₀ ds) where
+  module _ {st' : List ℕ} {ds : List ℤ} (vf : Filled 0 (verdictAt guess z t numbers st (m + 1) (E (planIn t) m)) 0 (t .stations) st st')
+      (df : Filled (pos 0) (diffAt guess z t numbers st) 0 (t .stations) ds₀ ds) where
     abbrev all : Stations
     all = stationsWith (t .stations) numbers st' ds
 
@@ -81,10 +84,10 @@ module _ {t : Terms} {numbers : List (List ℤ)} {m bit : ℕ} {z : List ℤ} {s
     inside k h e =
         let a = eq-eqb _ 0 (sym (vf .new k (omega arith) h) ∙ e) in
         let w = was-accepted (m + 1) (E (planIn t) m) _ (getD st k 0) a in
-        let o = ok .on-grid k h (eqb-true (getD st k 0) 0 w) in
+        let o = ok .heard k h (eqb-true (getD st k 0) 0 w) in
         record {
-          x-small = omega (arith, o .x .1, ok .shape .few-columns);
-          y-small = omega (arith, o .y .1, ok .shape .few-rows);
+          x-small = o .x;
+          y-small = o .y;
           d-small = rw (df .new k (omega arith) h, w) (omega (arith, passed (m + 1) (E (planIn t) m) _ (getD st k 0) a, ok .entry .1 .limit-most));
         }
 
@@ -135,11 +138,11 @@ module _ {t : Terms} {numbers : List (List ℤ)} {m bit : ℕ} {z : List ℤ} {s
       values false f h = kept f h
 
       pub scanned : {z' : List ℤ} {sup' : List ℕ} → z' ≡ smoothedIf t z1 → sup' ≡ stored (t .nx) (t .ny) (backed sup (t .nx) all (r2In t m) bit)
-          → Scanned t numbers m z sup st z' sup' st' ds
+          → Scanned t guess numbers m z sup st z' sup' st' ds
       unfolding smoothedIf
       scanned ez es =
           record {
-            verdicts = filled-all 0 (verdictAt z t numbers st (m + 1) (E (planIn t) m)) (t .stations) st st' (ok .len-st) vf;
+            verdicts = filled-all 0 (verdictAt guess z t numbers st (m + 1) (E (planIn t) m)) (t .stations) st st' (ok .len-st) vf;
             differences = λ k h. df .new k (omega arith) h;
             supports = rw (ok .bit-is) at es;
             values = λ f h. ez ∙ values (t .smooth) f h;

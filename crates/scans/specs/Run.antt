@@ -13,13 +13,13 @@ use Rattle.scheme.specs.Difference.{Row}
 use Rattle.scheme.specs.Scan.{afterWithin, after, atEnd, analysis}
 use Rattle.scheme.specs.Promises.{slices}
 use Rattle.scheme.specs.Accepted.{same-shape}
-use Rattle.scheme.specs.Bounds.{after-within}
+use Rattle.scheme.specs.Bounds.{first-guess-small, after-within}
 use Rattle.scheme.specs.Support.{support-small}
 use Rattle.scheme.specs.Stored.{length-stored, stored-all}
 use Rattle.request.specs.declared.Terms.{Terms}
 use Rattle.request.specs.Tables.{stationIn, requestIn}
 use Rattle.scan_start.specs.Reached.{rowIn, Reached}
-use Rattle.scans.specs.Scanned.{Scanned, scan-holds, scan-on-grid}
+use Rattle.scans.specs.Scanned.{Scanned, scan-holds, scan-heard}
 use Rattle.scans.specs.Ready.{mostBefore, ScanReady}
 
 module _ {t : Terms} {guess : List ℤ} {numbers : List (List ℤ)} {minutes : List (List ℕ)} {m : ℕ} {z : List ℤ} {sup st : List ℕ}
@@ -41,9 +41,11 @@ module _ {t : Terms} {guess : List ℤ} {numbers : List (List ℤ)} {minutes : L
     pub bit-small : 2 ^ m ≤ 32
     bit-small = pow-le-pow-right {n = 2} (omega arith) {i = m} {j = mostScans - 1} (omega (arith, few-scans))
 
-    pub scan-ready : {bit : ℕ} {ds : List ℤ} → bit ≡ 2 ^ m → length ds ≡ mostStations → ScanReady t numbers m bit z sup st ds
+    pub scan-ready : {bit : ℕ} {ds : List ℤ} → bit ≡ 2 ^ m → length ds ≡ mostStations → ScanReady t guess numbers m bit z sup st ds
     scan-ready {bit = bit} bit-is long =
         record {
+          guess-shape = now .sound .shape;
+          guess-small = first-guess-small q (now .sound);
           shape = same-shape (now .sound .shape) (length z) z-long;
           both = sup-long ∙ sym z-long;
           low = low;
@@ -53,7 +55,7 @@ module _ {t : Terms} {guess : List ℤ} {numbers : List (List ℤ)} {minutes : L
           long = long;
           entry = (few-scans, now .sound .plan .scan m turn);
           bit-is = bit-is;
-          on-grid = now .on-grid;
+          heard = now .heard;
         }
       where
         low : (k : ℕ) → natAbs (getD z k (pos 0)) ≤ mostBefore
@@ -68,14 +70,14 @@ module _ {t : Terms} {guess : List ℤ} {numbers : List (List ℤ)} {minutes : L
             (stored-all (λ (b : ℕ). b + 2 ^ m < 256) 0 (t .nx) (t .ny) (after q m .support) (omega (arith, bit-small))
             (λ i j. omega (arith, support-small q i j m, bit-small)) k)
 
-    pub next : {z' : List ℤ} {sup' st' : List ℕ} {ds : List ℤ} → Scanned t numbers m z sup st z' sup' st' ds → Reached t guess numbers minutes (m + 1) z' sup' st'
+    pub next : {z' : List ℤ} {sup' st' : List ℕ} {ds : List ℤ} → Scanned t guess numbers m z sup st z' sup' st' ds → Reached t guess numbers minutes (m + 1) z' sup' st'
     unfolding afterWithin
     next {z' = z'} {sup' = sup'} {st' = st'} {ds = ds} did =
         subst (λ (n : ℕ). Reached t guess numbers minutes n z' sup' st') (sym (add-one m))
         (record {
           sound = now .sound;
           holds = scan-holds t guess numbers minutes (now .sound .shape) m (after q m) z sup st (now .holds) z' sup' st' ds did;
-          on-grid = scan-on-grid t guess numbers minutes (now .sound .shape) m (after q m) z sup st (now .holds) z' sup' st' ds did (now .on-grid);
+          heard = scan-heard t guess numbers minutes (now .sound .shape) m (after q m) z sup st (now .holds) z' sup' st' ds did (now .heard);
         })
 
 -- after the last scan they hold the analysis

@@ -1,8 +1,8 @@
 -- One scan in code, on stored grids and rows of tables, is one scan of document 01.
 use Prim.Native.Nat.{ℕ, _+_, _*_, _<_, _^_}
-use mathlib.Core.Path.{_≡_, sym, ap, _∙_}
+use mathlib.Core.Path.{_≡_, refl, sym, ap, _∙_}
 use mathlib.Core.Logic.{⊎-elim}
-use mathlib.Core.Bool.{true, cond}
+use mathlib.Core.Bool.{Bool, true, false, cond}
 use mathlib.Core.List.{List, [], map}
 use borrow.Author.Tests.{eqb-true, eq-eqb}
 use lib.ListN.{length, getD}
@@ -10,8 +10,9 @@ use lib.IntN.{ℤ, pos, _-ℤ_}
 use Rattle.lists.specs.Tests.{true-or-false}
 use Rattle.lists.specs.Tab.{tab, length-tab, getD-tab, map-tab, tab-same}
 use Rattle.lists.specs.Sums.{upTo-same, total, total-tab}
-use Rattle.scheme.specs.Units.{Field, stored, fieldOf, R, E, Request}
-use Rattle.scheme.specs.Verdicts.{isAccepted}
+use Rattle.scheme.specs.Units.{Field, stored, fieldOf, Station, R, E, Request}
+use Rattle.scheme.specs.Units as units
+use Rattle.scheme.specs.Verdicts.{onGrid, isAccepted}
 use Rattle.scheme.specs.Rounding.{rounded}
 use Rattle.scheme.specs.Value.{valueAt}
 use Rattle.scheme.specs.Difference.{difference, afterTest, judged}
@@ -26,7 +27,7 @@ use Rattle.scheme.specs.Stored.{Same, field-stored, stored-same, sum-same}
 use Rattle.request.specs.declared.Terms.{Terms}
 use Rattle.request.specs.Tables.{stationOf, stationIn, planIn, requestIn}
 use Rattle.scan_start.specs.Reached.{rowIn, Holds}
-use Rattle.scan_station.specs.Judge.{mast, AcceptedOnGrid, diffOf, diffAt, verdictAt}
+use Rattle.scan_station.specs.Judge.{AcceptedHeard, differs, diffOf, diffAt, verdictAt}
 use Rattle.scan_point.specs.Near.{Stations, stationsWith, shareAt, sumsOver}
 use Rattle.scan_point.specs.Pass.{corrected, backed}
 
@@ -35,9 +36,9 @@ abbrev pub r2In : Terms → ℕ → ℕ
 r2In t m = R (planIn t) m * R (planIn t) m
 
 -- what that scan leaves in the slices, as its three parts compute it
-pub record Scanned (t : Terms) (numbers : List (List ℤ)) (m : ℕ) (z : List ℤ) (sup st : List ℕ) (z' : List ℤ) (sup' st' : List ℕ) (ds : List ℤ) : Type 0 where
-  pub verdicts : st' ≡ tab (t .stations) (verdictAt z t numbers st (m + 1) (E (planIn t) m))
-  pub differences : (k : ℕ) → k < t .stations → getD ds k (pos 0) ≡ diffAt z t numbers st k
+pub record Scanned (t : Terms) (guess : List ℤ) (numbers : List (List ℤ)) (m : ℕ) (z : List ℤ) (sup st : List ℕ) (z' : List ℤ) (sup' st' : List ℕ) (ds : List ℤ) : Type 0 where
+  pub verdicts : st' ≡ tab (t .stations) (verdictAt guess z t numbers st (m + 1) (E (planIn t) m))
+  pub differences : (k : ℕ) → k < t .stations → getD ds k (pos 0) ≡ diffAt guess z t numbers st k
   pub supports : sup' ≡ stored (t .nx) (t .ny) (backed sup (t .nx) (stationsWith (t .stations) numbers st' ds) (r2In t m) (2 ^ m))
   pub values : (f : Field ℤ) → Same (t .nx) (t .ny) (corrected z (t .nx) (stationsWith (t .stations) numbers st' ds) (r2In t m)) f
       → z' ≡ stored (t .nx) (t .ny) (cond (t .smooth) (smoothed (t .nx) (t .ny) f) f)
@@ -46,7 +47,7 @@ pub record Scanned (t : Terms) (numbers : List (List ℤ)) (m : ℕ) (z : List �
 
 module _ (t : Terms) (guess : List ℤ) (numbers : List (List ℤ)) (minutes : List (List ℕ)) {len : ℕ} (shape : Shaped (t .nx) (t .ny) len) (m : ℕ) (s : State)
     (z : List ℤ) (sup st : List ℕ) (holds : Holds t numbers minutes s z sup st) (z' : List ℤ) (sup' st' : List ℕ) (ds : List ℤ)
-    (did : Scanned t numbers m z sup st z' sup' st' ds) where
+    (did : Scanned t guess numbers m z sup st z' sup' st' ds) where
   abbrev q : Request
   q = requestIn t guess numbers minutes
 
@@ -62,11 +63,19 @@ module _ (t : Terms) (guess : List ℤ) (numbers : List (List ℤ)) (minutes : L
   same-support : Same (t .nx) (t .ny) (fieldOf 0 (t .nx) sup) (s .support)
   same-support i j hi hj = ap (λ (l : List ℕ). fieldOf 0 (t .nx) l i j) (holds .support) ∙ field-stored (t .nx) (t .ny) 0 (s .support) i j hi hj
 
-  same-difference : (k : ℕ) → difference (t .nx) (t .ny) (fieldOf (pos 0) (t .nx) z) (mast (getD numbers k [])) ≡ D k
-  unfolding difference valueAt stationOf
-  same-difference k =
-      ap (λ (v : ℤ). getD (getD numbers k []) 2 (pos 0) -ℤ rounded v 4096)
-      (sum-same (t .nx) (t .ny) (fieldOf (pos 0) (t .nx) z) (s .field) (shape .two-columns) (shape .two-rows) same-field _ _)
+  -- any field that holds the same on the grid has the same value at a station
+  same-value : (f g : Field ℤ) → Same (t .nx) (t .ny) f g → (o : Station) → valueAt (t .nx) (t .ny) f o ≡ valueAt (t .nx) (t .ny) g o
+  unfolding valueAt
+  same-value f g h o = ap (λ (v : ℤ). rounded v 4096) (sum-same (t .nx) (t .ny) f g (shape .two-columns) (shape .two-rows) h _ _)
+
+  same-difference : (k : ℕ) → differs guess z (t .nx) (t .ny) (getD numbers k []) ≡ D k
+  unfolding difference stationOf units.guess
+  same-difference k = ap (λ (v : ℤ). getD (getD numbers k []) 2 (pos 0) -ℤ v) (go (onGrid (t .nx) (t .ny) _ _))
+    where
+      go : (on : Bool) → valueAt (t .nx) (t .ny) (cond on (fieldOf (pos 0) (t .nx) z) (fieldOf (pos 0) (t .nx) guess)) (stationIn numbers minutes k)
+          ≡ valueAt (t .nx) (t .ny) (cond on (s .field) (fieldOf (pos 0) (t .nx) guess)) (stationIn numbers minutes k)
+      go true = same-value (fieldOf (pos 0) (t .nx) z) (s .field) same-field (stationIn numbers minutes k)
+      go false = refl
 
   -- the rows after judging
   new-verdict : (k : ℕ) → k < t .stations → getD st' k 0 ≡ afterTest (m + 1) (E (planIn t) m) (D k) (getD st k 0)
@@ -85,8 +94,8 @@ module _ (t : Terms) (guess : List ℤ) (numbers : List (List ℤ)) (minutes : L
   still : (k : ℕ) → k < t .stations → isAccepted (getD st' k 0) ≡ true → isAccepted (getD st k 0) ≡ true
   still k h e = was-accepted (m + 1) (E (planIn t) m) (D k) (getD st k 0) (sym (ap isAccepted (new-verdict k h)) ∙ e)
 
-  pub scan-on-grid : AcceptedOnGrid t numbers st → AcceptedOnGrid t numbers st'
-  scan-on-grid on k h e = on k h (eqb-true (getD st k 0) 0 (still k h (eq-eqb (getD st' k 0) 0 e)))
+  pub scan-heard : AcceptedHeard t numbers st → AcceptedHeard t numbers st'
+  scan-heard heard k h e = heard k h (eqb-true (getD st k 0) 0 (still k h (eq-eqb (getD st' k 0) 0 e)))
 
   -- what a row gives to a point of the grid
   d-is : (k : ℕ) → k < t .stations → isAccepted (getD st' k 0) ≡ true → getD ds k (pos 0) ≡ D k

@@ -6,7 +6,7 @@ ghost use Rattle.scheme.specs.Scan.{analysis};
 ghost use Rattle.scheme.specs.Promises.{slices};
 ghost use Rattle.scheme.specs.Accepted.{Shaped, Sound, Fits};
 ghost use Rattle.request.specs.Tables.{planIn, requestIn};
-ghost use Rattle.scan_smoothing.specs.Pattern.{Small};
+ghost use Rattle.scheme.specs.Bounds.{Small};
 ghost use Rattle.scan_point.specs.Near.{Roomy};
 ghost use Rattle.scans.specs.Scanned.{Scanned};
 ghost use Rattle.scans.specs.Ready.{EntryIn, ScanReady, smoothedIf};

@@ -31,6 +31,10 @@ use Rattle.scheme.specs.Accepted.{Sound, analysis-sound}
 abbrev pub Within : ℕ → Field ℤ → Type 0
 Within most z = (i j : ℕ) → natAbs (z i j) ≤ most
 
+-- a stored field whose values are all as small as those of an accepted run
+abbrev pub Small : List ℤ → Type 0
+Small l = (k : ℕ) → natAbs (getD l k (pos 0)) ≤ mostField
+
 -- ---- an accepted row has passed the E test
 
 abbrev Passed : ℕ → (Station → ℤ) → Row → Type 0
@@ -153,14 +157,19 @@ run-stays-within q most limit first (suc n) limits =
     )
 
 module _ (q : Request) (sound : Sound q) where
+  first-guess-within : (k : ℕ) → natAbs (getD (q .firstGuess) k (pos 0)) ≤ mostValue
+  first-guess-within k = go (lt-or-le k (length (q .firstGuess)))
+    where
+      go : (k < length (q .firstGuess)) ⊎ (length (q .firstGuess) ≤ k) → natAbs (getD (q .firstGuess) k (pos 0)) ≤ mostValue
+      go (inl h) = sound .first-guess k h
+      go (inr h) = rw (List·getD-eq-default (q .firstGuess) (pos 0) h) (omega arith)
+
   pub guess-within : Within mostValue (guess q)
   unfolding guess fieldOf
-  guess-within i j = go (lt-or-le (j * q .nx + i) (length (q .firstGuess)))
-    where
-      go : (j * q .nx + i < length (q .firstGuess)) ⊎ (length (q .firstGuess) ≤ j * q .nx + i)
-          → natAbs (getD (q .firstGuess) (j * q .nx + i) (pos 0)) ≤ mostValue
-      go (inl h) = sound .first-guess (j * q .nx + i) h
-      go (inr h) = rw (List·getD-eq-default (q .firstGuess) (pos 0) h) (omega arith)
+  guess-within i j = first-guess-within (j * q .nx + i)
+
+  pub first-guess-small : Small (q .firstGuess)
+  first-guess-small k = omega (arith, first-guess-within k)
 
   -- after m scans
   pub after-within : (m : ℕ) → m ≤ q .plan .scans → Within (mostValue + m * mostLimit) (after q m .field)

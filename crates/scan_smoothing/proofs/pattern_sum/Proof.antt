@@ -10,7 +10,8 @@ use mir.Val.{toZ, ofZ}
 use Rattle.integers.specs.Ring.{one-mul}
 use Rattle.integers.specs.Words.{bits-back}
 use Rattle.lists.specs.Sums.{upTo, upTo-next}
-use Rattle.scan_smoothing.specs.Pattern.{Small, rowAt, nineAt, row-whole, rows-size}
+use Rattle.scheme.specs.Bounds.{Small}
+use Rattle.scan_smoothing.specs.Pattern.{rowAt, nineAt, row-whole, rows-size}
 use Rattle.scan_smoothing.proofs.pattern_sum.Statement.{statement}
 use Rattle.scan_smoothing.proofs.pattern_sum.Tie as tie
 

@@ -11,7 +11,8 @@ use mir.Val.{SFits, toZ, ofZ}
 use Rattle.integers.specs.Words.{fits-size, bits-back}
 use Rattle.lists.specs.Sums.{upTo, upTo-next}
 use Rattle.scheme.specs.Smoothing.{patternAt}
-use Rattle.scan_smoothing.specs.Pattern.{Small, term, rowAt, pattern-most, row-size}
+use Rattle.scheme.specs.Bounds.{Small}
+use Rattle.scan_smoothing.specs.Pattern.{term, rowAt, pattern-most, row-size}
 use Rattle.scan_smoothing.proofs.row_sum.Statement.{statement}
 use Rattle.scan_smoothing.proofs.row_sum.Tie as tie
 

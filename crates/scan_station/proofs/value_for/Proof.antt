@@ -16,9 +16,10 @@ use Rattle.scheme.specs.Verdicts.{onGrid}
 use Rattle.scheme.specs.Value.{place, sumAt, valueAt}
 use Rattle.scheme.specs.Most.{mostField}
 use Rattle.scheme.specs.Accepted.{Shaped}
+use Rattle.scheme.specs.Bounds.{Small}
 use Rattle.scheme.specs.Axes.{place-most}
 use Rattle.request.specs.Tables.{stationOf}
-use Rattle.scan_station.specs.Judge.{mast, Small, value-size}
+use Rattle.scan_station.specs.Judge.{mast, value-size}
 use Rattle.scan_station.proofs.value_for.Statement.{statement}
 use Rattle.scan_station.proofs.value_for.Tie as tie
 
