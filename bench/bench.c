@@ -31,6 +31,9 @@ enum { MINUTE = 1000, AGE = 120 };
 /* The widest limit that a plan may have. */
 enum { ANY = 2000000 };
 
+/* How far off the grid a post may stand, on each axis. */
+enum { BORDER = 256 };
+
 struct evening {
     const char *name;
     uint32_t nx, ny;
@@ -38,13 +41,15 @@ struct evening {
     uint32_t scans;
     int32_t radius[MOST_SCANS], limit[MOST_SCANS];
     bool smooth;
+    enum { ON_GRID, POSTS } where; /* all its stations are */
 };
 
 static const struct evening EVENINGS[] = {
-    {"a", 64, 64, 512, 6, {1024, 1024, 1024, 1024, 1024, 1024}, {ANY, ANY, ANY, ANY, ANY, ANY}, true},
-    {"b", 48, 48, 60, 4, {512, 320, 192, 128}, {640, 512, 384, 320}, true},
-    {"c", 16, 16, 12, 2, {320, 192}, {640, 384}, false},
-    {"w", 64, 64, 512, 2, {128, 64}, {640, 512}, true},
+    {"a", 64, 64, 512, 6, {1024, 1024, 1024, 1024, 1024, 1024}, {ANY, ANY, ANY, ANY, ANY, ANY}, true, ON_GRID},
+    {"b", 48, 48, 60, 4, {512, 320, 192, 128}, {640, 512, 384, 320}, true, ON_GRID},
+    {"c", 16, 16, 12, 2, {320, 192}, {640, 384}, false, ON_GRID},
+    {"p", 64, 64, 64, 4, {512, 320, 192, 128}, {640, 512, 384, 320}, true, POSTS},
+    {"w", 64, 64, 512, 2, {128, 64}, {640, 512}, true, ON_GRID},
 };
 
 struct input {
@@ -73,7 +78,7 @@ static struct sosnyavik_ends ends;
 static void complain(const char *what, const char *word) {
     fprintf(
         stderr,
-        "bench: %s '%s': use bench a|b|c|w ours|plain|both REPEAT, window SIDE, one reading|summary, text, or stack "
+        "bench: %s '%s': use bench a|b|c|p|w ours|plain|both REPEAT, window SIDE, one reading|summary, text, or stack "
         "[SIDE|reading|summary]\n",
         what, word);
     exit(2);
@@ -101,17 +106,42 @@ static void make_first_guess(uint64_t *state) {
     }
 }
 
+static int32_t last_position(uint32_t side) { return 64 * (int32_t)(side - 1); }
+
+static void stand_on_grid(uint64_t *state, size_t row) {
+    input.x[row] = draw(state, 0, last_position(input.evening->nx));
+    input.y[row] = draw(state, 0, last_position(input.evening->ny));
+}
+
+/* The rows take the four sides in turn, and go along each from a corner: the first of a side is off on both axes. */
+static void stand_beyond(uint64_t *state, size_t row) {
+    size_t a_side = input.evening->stations / 4;
+    int32_t right = last_position(input.evening->nx), bottom = last_position(input.evening->ny);
+    int32_t length = row % 2 == 0 ? right : bottom;
+    int32_t along = (length + BORDER) * (int32_t)(row / 4) / (int32_t)a_side - draw(state, 1, BORDER);
+    int32_t off = draw(state, 1, BORDER);
+    int32_t x[] = {along, right + off, right - along, -off}, y[] = {-off, along, bottom + off, bottom - along};
+    input.x[row] = x[row % 4];
+    input.y[row] = y[row % 4];
+}
+
+/* The column or row of the grid that is nearest to a position. */
+static int32_t nearest(int32_t position, uint32_t side) {
+    int32_t number = (position + 32) / 64, last = (int32_t)side - 1;
+    return number < 0 ? 0 : number > last ? last : number;
+}
+
 /* In service and fresh; within 2 degrees of the nearest point, but for about one in 32 with a gross error. */
 static void make_stations(uint64_t *state) {
     const struct evening *evening = input.evening;
     for (size_t row = 0; row < evening->stations; row++) {
-        int32_t x = draw(state, 0, 64 * (int32_t)(evening->nx - 1));
-        int32_t y = draw(state, 0, 64 * (int32_t)(evening->ny - 1));
-        int32_t nearest = input.first_guess[(y + 32) / 64 * (int32_t)evening->nx + (x + 32) / 64];
+        if (evening->where == POSTS)
+            stand_beyond(state, row);
+        else
+            stand_on_grid(state, row);
+        int32_t i = nearest(input.x[row], evening->nx), j = nearest(input.y[row], evening->ny);
         int32_t gross_error = draw(state, 0, 31) == 0 ? 1280 : 0;
-        input.x[row] = x;
-        input.y[row] = y;
-        input.value[row] = nearest + draw(state, -128, 128) + gross_error;
+        input.value[row] = input.first_guess[j * (int32_t)evening->nx + i] + draw(state, -128, 128) + gross_error;
         input.observed[row] = (uint32_t)draw(state, MINUTE - AGE, MINUTE);
         input.from[row] = 0;
         input.until[row] = SOSNYAVIK_NO_END;

@@ -1,14 +1,15 @@
 /*
- * plain.c: document 01's analysis as a C programmer would write it first: its loops, its numbers, no tricks.
- * It assumes what include/sosnyavik.h says that the caller owes.
+ * plain.c: document 01's analysis, as request 1 of document 02 changed it, the way a C programmer would write it first:
+ * its loops, its numbers, no tricks. It assumes what include/sosnyavik.h says that the caller owes.
  */
 #include "plain.h"
 
 #include <string.h>
 
-/* Document 01, "Units and sizes". */
+/* Document 01, "Units and sizes"; BORDER is document 02's: how far off the grid, on each axis, a post may stand. */
 enum {
     STEP = 64,
+    BORDER = 256,
     LEAST_SIDE = 2,
     GREATEST_SIDE = 64,
     MOST_POINTS = GREATEST_SIDE * GREATEST_SIDE,
@@ -31,7 +32,7 @@ struct request {
     uint32_t time, age;
 };
 
-/* What the points need to know of an accepted station. */
+/* What the points need to know of an accepted station, a post's true position included. */
 struct accepted {
     int32_t x, y, difference;
 };
@@ -78,7 +79,11 @@ static bool in_service(uint32_t from, uint32_t minute, uint32_t until) {
     return from <= minute && (until == SOSNYAVIK_NO_END || minute < until);
 }
 
-static bool on_axis(int32_t position, uint32_t side) { return within(position, 0, STEP * ((int32_t)side - 1)); }
+static int32_t last_position(uint32_t side) { return STEP * ((int32_t)side - 1); }
+
+static bool near_axis(int32_t position, uint32_t side) {
+    return within(position, -BORDER, last_position(side) + BORDER);
+}
 
 static uint8_t verdict_before(const struct request *request, size_t row) {
     uint32_t from = request->from[row], until = request->until[row], observed = request->observed[row];
@@ -90,7 +95,7 @@ static uint8_t verdict_before(const struct request *request, size_t row) {
         return 3;
     if (request->time - observed > request->age)
         return 4;
-    if (!on_axis(request->x[row], request->nx) || !on_axis(request->y[row], request->ny))
+    if (!near_axis(request->x[row], request->nx) || !near_axis(request->y[row], request->ny))
         return 5;
     return 0;
 }
@@ -115,6 +120,19 @@ static int32_t value_at(const int32_t *grid, uint32_t nx, uint32_t ny, int32_t x
     return (int32_t)rounded(sum, STEP * STEP);
 }
 
+/* The nearest position that is on the axis. */
+static int32_t onto_axis(int32_t position, uint32_t side) {
+    int32_t last = last_position(side);
+    return position < 0 ? 0 : position > last ? last : position;
+}
+
+/* A post is held against the first guess in every scan, any other station against the field as the scan finds it. */
+static int32_t difference_of(const struct request *request, size_t row, const int32_t *grid) {
+    int32_t x = onto_axis(request->x[row], request->nx), y = onto_axis(request->y[row], request->ny);
+    bool is_post = x != request->x[row] || y != request->y[row];
+    return request->value[row] - value_at(is_post ? request->first_guess : grid, request->nx, request->ny, x, y);
+}
+
 /* The E test of a scan, counted from 0: fills the list of those that stay accepted, and gives its length. */
 static size_t judge(const struct request *request, uint32_t scan, const int32_t *grid, uint8_t *verdict,
                     struct accepted *accepted) {
@@ -123,10 +141,9 @@ static size_t judge(const struct request *request, uint32_t scan, const int32_t 
     for (size_t row = 0; row < request->stations; row++) {
         if (verdict[row] != 0)
             continue;
-        int32_t x = request->x[row], y = request->y[row];
-        int32_t difference = request->value[row] - value_at(grid, request->nx, request->ny, x, y);
+        int32_t difference = difference_of(request, row, grid);
         if (within(difference, -limit, limit))
-            accepted[count++] = (struct accepted){x, y, difference};
+            accepted[count++] = (struct accepted){request->x[row], request->y[row], difference};
         else
             verdict[row] = (uint8_t)(11 + scan);
     }

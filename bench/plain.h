@@ -1,4 +1,4 @@
-/* plain.h: document 01's analysis in plain C, which the bench measures the proved one against. */
+/* plain.h: the analysis in plain C, which the bench measures the proved one against. */
 #ifndef PLAIN_H
 #define PLAIN_H
 
