@@ -69,7 +69,7 @@ module _ (t : Terms) (guess : List ℤ) (numbers : List (List ℤ)) (minutes : L
   same-value f g h o = ap (λ (v : ℤ). rounded v 4096) (sum-same (t .nx) (t .ny) f g (shape .two-columns) (shape .two-rows) h _ _)
 
   same-difference : (k : ℕ) → differs guess z (t .nx) (t .ny) (getD numbers k []) ≡ D k
-  unfolding difference stationOf units.guess
+  unfolding difference valueAt stationOf units.guess
   same-difference k = ap (λ (v : ℤ). getD (getD numbers k []) 2 (pos 0) -ℤ v) (go (onGrid (t .nx) (t .ny) _ _))
     where
       go : (on : Bool) → valueAt (t .nx) (t .ny) (cond on (fieldOf (pos 0) (t .nx) z) (fieldOf (pos 0) (t .nx) guess)) (stationIn numbers minutes k)

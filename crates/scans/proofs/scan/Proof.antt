@@ -18,7 +18,7 @@ module _ (c : tie.After-judge) where
   abbrev s : tie.Start
   s = c .before .before .before .before .before .before .before
 
-  judged : Filled 0 (verdictAt (s .args .z .now) (s .args .t) (s .args .numbers .now) (s .args .verdict .now) (s .args .m + 1) (E (planIn (s .args .t)) (s .args .m))) 0 (s .args .t .stations) (s .args .verdict .now) (c .judge .last .1 .0)
+  judged : Filled 0 (verdictAt (s .args .guess .now) (s .args .z .now) (s .args .t) (s .args .numbers .now) (s .args .verdict .now) (s .args .m + 1) (E (planIn (s .args .t)) (s .args .m))) 0 (s .args .t .stations) (s .args .verdict .now) (c .judge .last .1 .1 .0)
   judged = rw (c .before .limit-of .ensures) at (c .judge .ensures .1)
 
 -- and what the correction leaves
@@ -27,7 +27,7 @@ module _ (c : tie.After-correct) where
   j = c .before .before .before .before .before .before .before .before .before .before .before
 
   abbrev all : Stations
-  all = stationsWith (s j .args .t .stations) (s j .args .numbers .now) (j .judge .last .1 .0) (j .judge .last .1 .1 .0)
+  all = stationsWith (s j .args .t .stations) (s j .args .numbers .now) (j .judge .last .1 .1 .0) (j .judge .last .1 .1 .1 .0)
 
   values : c .correct .last .0 ≡ stored (s j .args .t .nx) (s j .args .t .ny) (corrected (s j .args .z .now) (s j .args .t .nx) all (r2In (s j .args .t) (s j .args .m)))
   values = rw (c .before .radius-of .ensures) at (c .correct .ensures .1)
