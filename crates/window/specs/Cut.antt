@@ -2,7 +2,7 @@
 use Prim.Native.Nat.{ℕ, _+_, _-_, _*_, _≤_, _<_}
 use native.Mathlib.Omega.{arith}
 use native.Mathlib.Nat.{mul-le-mul}
-use mathlib.Core.Path.{_≡_, sym, ap, ap₂, subst, _∙_}
+use mathlib.Core.Path.{_≡_, refl, sym, ap, ap₂, subst, _∙_}
 use mathlib.Core.List.{List, []}
 use lib.ListN.{length, getD}
 use lib.IntN.{ℤ, pos}
@@ -12,7 +12,7 @@ use Rattle.scheme.specs.Refusals.{Span, Window, pointsAlong}
 use Rattle.scheme.specs.Scan.{atEnd}
 use Rattle.scheme.specs.Reach.{reach, widened, cutOf, windowOf, cut, wholeAt}
 use Rattle.scheme.specs.Most.{mostPoints}
-use Rattle.scheme.specs.Accepted.{Stationed, noStation, Sound, FitsWindow, OnGrid}
+use Rattle.scheme.specs.Accepted.{same-shape, Stationed, noStation, Sound, FitsWindow, OnGrid}
 use Rattle.scheme.specs.Stored.{stored-same}
 use Rattle.scheme.specs.Cut.{cut-sound}
 use Rattle.scheme.specs.Windows.{OfWindow, window-value, window-support}
@@ -133,8 +133,8 @@ module _ (t : Terms) (guessed : List ℤ) (numbers : List (List ℤ)) (minutes :
     rows-long : length (whole .stations) ≡ t .stations
     rows-long = length-tab (t .stations) (stationIn numbers minutes)
 
-    pub keep-ready : KeepReady here numbers (t .stations)
-    keep-ready = record { few = omega (arith, rows-long, sound .few-stations); on = small sound on e; placed = placed }
+    pub keep-ready : KeepReady t here numbers
+    keep-ready = record { shape = same-shape (sound .shape) _ refl; few = omega (arith, rows-long, sound .few-stations); on = small sound on e; placed = placed }
       where
         station : (k : ℕ) → k < t .stations → Stationed (stationIn numbers minutes k)
         station k h = rw (← getD-tab (t .stations) (stationIn numbers minutes) k noStation h) (sound .stations k (omega (arith, rows-long)))
@@ -145,7 +145,7 @@ module _ (t : Terms) (guessed : List ℤ) (numbers : List (List ℤ)) (minutes :
     -- the request that the code makes of it, and the window on it
     module _ {part : List ℤ} {kept : List (List ℤ)} {times : List (List ℕ)} {m : ℕ} {t' : Terms} {w' : Window}
         (first-guess : part ≡ stored (pointsAlong (here .columns)) (pointsAlong (here .rows)) (partOf (pos 0) (t .nx) (here .columns .first) (here .rows .first) guessed))
-        (stays : Kept here numbers minutes kept times (t .stations) m)
+        (stays : Kept t here numbers minutes kept times (t .stations) m)
         (terms : t' ≡ cutTerms t (pointsAlong (here .columns)) (pointsAlong (here .rows)) m) (window : w' ≡ movedOn here w) where
       is-cut : requestIn t' part kept times ≡ cut whole w
       unfolding cut windowOf guess

@@ -1,5 +1,5 @@
 -- The stations of the cut, as a loop keeps them: each is put after those kept, and counted if it is on the cut.
-use Prim.Native.Nat.{ℕ, _+_, _≤_, _<_}
+use Prim.Native.Nat.{ℕ, _+_, _*_, _≤_, _<_}
 use native.Mathlib.Omega.{arith}
 use mathlib.Core.Path.{_≡_, refl, sym, ap, _∙_}
 use mathlib.Core.Bool.{Bool, true, false, cond}
@@ -12,7 +12,8 @@ use Rattle.lists.specs.Keep.{keep}
 use Rattle.scheme.specs.Units.{mostSide, mostStations, Station}
 use Rattle.scheme.specs.Refusals.{Window}
 use Rattle.scheme.specs.Reach.{onWindow, counted}
-use Rattle.scheme.specs.Accepted.{OnGrid}
+use Rattle.scheme.specs.Accepted.{Shaped, OnGrid}
+use Rattle.request.specs.declared.Terms.{Terms}
 use Rattle.request.specs.Tables.{stationOf, stationIn}
 use Rattle.window_spans.specs.Spans.{rowOn, Placed, countedRow}
 
@@ -36,26 +37,27 @@ kept-same {A = A} p a (b ∷ l) e = ap (λ (r : List A). cond (p b) (b ∷ r) r)
 
 -- ---- the loop
 
--- what it needs, of the first n rows
-pub record KeepReady (w : Window) (numbers : List (List ℤ)) (n : ℕ) : Type 0 where
-  pub few : n ≤ mostStations
+-- what it needs
+pub record KeepReady (t : Terms) (w : Window) (numbers : List (List ℤ)) : Type 0 where
+  pub shape : Shaped (t .nx) (t .ny) (t .nx * t .ny)
+  pub few : t .stations ≤ mostStations
   pub on : OnGrid mostSide mostSide w
-  pub placed : (k : ℕ) → k < n → Placed (getD numbers k [])
+  pub placed : (k : ℕ) → k < t .stations → Placed (getD numbers k [])
 
 -- the first m rows of the tables that it fills are the cut of the first k rows
-pub record Kept (w : Window) (numbers : List (List ℤ)) (minutes : List (List ℕ)) (kept : List (List ℤ)) (times : List (List ℕ)) (k m : ℕ) : Type 0 where
+pub record Kept (t : Terms) (w : Window) (numbers : List (List ℤ)) (minutes : List (List ℕ)) (kept : List (List ℤ)) (times : List (List ℕ)) (k m : ℕ) : Type 0 where
   pub kept-long : length kept ≡ mostStations
   pub times-long : length times ≡ mostStations
   pub no-more : m ≤ k
-  pub stations : tab m (stationIn kept times) ≡ map (counted w) (keep (onWindow w) (tab k (stationIn numbers minutes)))
+  pub stations : tab m (stationIn kept times) ≡ map (counted w) (keep (onWindow (t .nx) (t .ny) w) (tab k (stationIn numbers minutes)))
 
-module _ (w : Window) (numbers : List (List ℤ)) (minutes : List (List ℕ)) where
-  pub kept-none : (kept : List (List ℤ)) (times : List (List ℕ)) → length kept ≡ mostStations → length times ≡ mostStations → Kept w numbers minutes kept times 0 0
+module _ (t : Terms) (w : Window) (numbers : List (List ℤ)) (minutes : List (List ℕ)) where
+  pub kept-none : (kept : List (List ℤ)) (times : List (List ℕ)) → length kept ≡ mostStations → length times ≡ mostStations → Kept t w numbers minutes kept times 0 0
   unfolding tab keep
   kept-none kept times l l' = record { kept-long = l; times-long = l'; no-more = omega arith; stations = refl }
 
   -- a turn: row k is put after those kept
-  module _ {kept : List (List ℤ)} {times : List (List ℕ)} {k m : ℕ} (p : Kept w numbers minutes kept times k m) (h : m < mostStations)
+  module _ {kept : List (List ℤ)} {times : List (List ℕ)} {k m : ℕ} (p : Kept t w numbers minutes kept times k m) (h : m < mostStations)
       {row : List ℤ} (e : row ≡ countedRow w (getD numbers k [])) where
     abbrev here : Station
     here = stationIn numbers minutes k
@@ -79,10 +81,10 @@ module _ (w : Window) (numbers : List (List ℤ)) (minutes : List (List ℕ)) wh
     put-same =
         rw (getD-set-same kept m row [] (omega (arith, p .kept-long)), getD-set-same times m stamps [] (omega (arith, p .times-long)), e)
 
-    before : tab m (stationIn kept' times') ≡ map (counted w) (keep (onWindow w) (tab k (stationIn numbers minutes)))
+    before : tab m (stationIn kept' times') ≡ map (counted w) (keep (onWindow (t .nx) (t .ny) w) (tab k (stationIn numbers minutes)))
     before = tab-same m (stationIn kept' times') (stationIn kept times) put-other ∙ p .stations
 
-    next : (t : Bool) → onWindow w here ≡ t → Kept w numbers minutes kept' times' (k + 1) (m + cond t 1 0)
+    next : (b : Bool) → onWindow (t .nx) (t .ny) w here ≡ b → Kept t w numbers minutes kept' times' (k + 1) (m + cond b 1 0)
     next true q =
         record {
           kept-long = length-set kept m row ∙ p .kept-long;
@@ -90,7 +92,7 @@ module _ (w : Window) (numbers : List (List ℤ)) (minutes : List (List ℕ)) wh
           no-more = omega (arith, p .no-more);
           stations =
               tab-more m (stationIn kept' times')
-              ∙ rw (before, put-same, tab-more k (stationIn numbers minutes)) (sym (kept-more (onWindow w) (counted w) here (tab k (stationIn numbers minutes)) q));
+              ∙ rw (before, put-same, tab-more k (stationIn numbers minutes)) (sym (kept-more (onWindow (t .nx) (t .ny) w) (counted w) here (tab k (stationIn numbers minutes)) q));
         }
     next false q =
         let z : m + 0 ≡ m = omega arith in
@@ -99,9 +101,9 @@ module _ (w : Window) (numbers : List (List ℤ)) (minutes : List (List ℕ)) wh
           kept-long = length-set kept m row ∙ p .kept-long;
           times-long = length-set times m stamps ∙ p .times-long;
           no-more = omega (arith, p .no-more);
-          stations = before ∙ rw (tab-more k (stationIn numbers minutes), kept-same (onWindow w) here (tab k (stationIn numbers minutes)) q);
+          stations = before ∙ rw (tab-more k (stationIn numbers minutes), kept-same (onWindow (t .nx) (t .ny) w) here (tab k (stationIn numbers minutes)) q);
         })
 
-    pub kept-turn : {n : ℕ} → n ≡ cond (rowOn w (getD numbers k [])) 1 0 → Kept w numbers minutes kept' times' (k + 1) (m + n)
+    pub kept-turn : {n : ℕ} → n ≡ cond (rowOn (t .nx) (t .ny) w (getD numbers k [])) 1 0 → Kept t w numbers minutes kept' times' (k + 1) (m + n)
     unfolding stationOf
-    kept-turn en = rw en (next (rowOn w (getD numbers k [])) refl)
+    kept-turn en = rw en (next (rowOn (t .nx) (t .ny) w (getD numbers k [])) refl)

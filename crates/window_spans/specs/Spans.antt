@@ -4,13 +4,10 @@ use native.Mathlib.Omega.{arith}
 use mathlib.Core.Path.{_≡_, refl, sym, ap, _∙_}
 use mathlib.Core.Bool.{Bool, true, false, cond, _&&_}
 use mathlib.Core.List.{List, [], _∷_}
-use lib.Dec.{T}
 use lib.ListN.{getD}
-use lib.IntN.{ℤ, pos, negsuc, natAbs, _-ℤ_}
-use lib.Signed.{ltZ, nonNeg}
-use Rattle.integers.specs.Order.{less-parts, not-less-parts}
+use lib.IntN.{ℤ, pos, natAbs, _-ℤ_}
 use Rattle.lists.specs.Sums.{upTo, upTo-next}
-use Rattle.scheme.specs.Units.{among, step, mostPosition, Plan, R}
+use Rattle.scheme.specs.Units.{step, mostPosition, Plan, R}
 use Rattle.scheme.specs.Refusals.{Span, Window}
 use Rattle.scheme.specs.Reach.{steps, reach, onSpan}
 
@@ -41,22 +38,10 @@ pub one-most : (b : Bool) → cond b 1 0 ≤ 1
 one-most true = omega arith
 one-most false = omega arith
 
--- ---- positions on a span: one below zero is on none, and any other is where it says
-
-pub below-span : (c : Span) (x : ℤ) → ltZ x (pos 0) ≡ true → onSpan c x ≡ false
-unfolding onSpan
-below-span c (pos x) e = absurd (omega (arith, less-parts (pos x) (pos 0) e))
-below-span c (negsuc x) e = refl
-
-pub along-span : (c : Span) (x : ℤ) → ltZ x (pos 0) ≡ false → (T (nonNeg x)) × (among (step * c .first) (step * c .last) (natAbs x) ≡ onSpan c x)
-unfolding onSpan
-along-span c (pos x) e = (tt, refl)
-along-span c (negsuc x) e = absurd (omega (arith, not-less-parts (negsuc x) (pos 0) e))
-
 -- ---- the numbers of a station's row: whether it is on the cut, and where it is there
 
-abbrev pub rowOn : Window → List ℤ → Bool
-rowOn w numbers = onSpan (w .columns) (getD numbers 0 (pos 0)) && onSpan (w .rows) (getD numbers 1 (pos 0))
+abbrev pub rowOn : (nx ny : ℕ) → Window → List ℤ → Bool
+rowOn nx ny w numbers = onSpan nx (w .columns) (getD numbers 0 (pos 0)) && onSpan ny (w .rows) (getD numbers 1 (pos 0))
 
 abbrev pub countedRow : Window → List ℤ → List ℤ
 countedRow w numbers =

@@ -6,7 +6,7 @@ ghost use lib.IntN.{pos, natAbs, _-ℤ_};
 ghost use Rattle.scheme.specs.Units.{mostSide, step, mostPosition, mostRadius};
 ghost use Rattle.scheme.specs.Reach.{reach, widened, onSpan};
 ghost use Rattle.scheme.specs.Most.{mostReach};
-ghost use Rattle.scheme.specs.Accepted.{Planned, OnGrid};
+ghost use Rattle.scheme.specs.Accepted.{Shaped, Planned, OnGrid};
 ghost use Rattle.request.specs.Tables.{planIn, windowIn};
 ghost use Rattle.window_spans.specs.Spans.{fromTo, rowOn, Placed, countedRow};
 
@@ -74,7 +74,7 @@ fn on_span(n: usize, first: usize, last: usize, x: i32) -> bool
 
 // 1 for a station of the cut, on a grid of nx columns and ny rows, and else 0: what it adds to the number of those kept.
 pub fn one_if_on_cut(nx: usize, ny: usize, c: request::Window, numbers: [i32; 3]) -> usize
-    requires { ⌜ OnGrid nx ny (windowIn c) × (nx ≤ mostSide) × (ny ≤ mostSide) ⌝ }
+    requires { ⌜ Shaped nx ny (nx * ny) × OnGrid mostSide mostSide (windowIn c) ⌝ }
     ensures { λ r. ⌜ r ≡ cond (rowOn nx ny (windowIn c) numbers) 1 0 ⌝ }
 {
     let on = on_span(nx, c.left, c.right, numbers[request::X])
