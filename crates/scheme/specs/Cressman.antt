@@ -2,10 +2,10 @@
 use Prim.Native.Nat.{ℕ, _+_, _-_, _*_, _≤_, _<_, min}
 use native.Mathlib.Omega.{arith}
 use mathlib.Core.Path.{_≡_, refl, sym, ap}
-use mathlib.Core.Bool.{Bool, true, false, cond, _&&_}
+use mathlib.Core.Bool.{Bool, true, false, cond}
 use borrow.Author.Tests.{leb-true, le-leb}
 use lib.Dec.{leb}
-use lib.IntN.{ℤ, pos, negsuc, _+ℤ_, _-ℤ_, _*ℤ_}
+use lib.IntN.{ℤ, pos, negsuc, _+ℤ_, _*ℤ_}
 use Rattle.integers.specs.Parts.{up, dn}
 use Rattle.lists.specs.Tests.{and-true, leb-same}
 use Rattle.lists.specs.Sums.{upTo-same}
@@ -23,7 +23,7 @@ use Rattle.scheme.specs.Reach.{onSpan, onWindow, counted}
 use Rattle.scheme.specs.Adding.{nothing-plus}
 use Rattle.scheme.specs.Gifts.{gift-far}
 use Rattle.scheme.specs.Axes.{Axis, off, len, fromFirst, On, SameBeside, place-up, counted-parts, place-counted}
-use Rattle.scheme.specs.Laws.{Influence, Scheme, States, Run, given, gathered, smoothedIf, Placed, Ranged, Laws}
+use Rattle.scheme.specs.Laws.{Influence, Scheme, States, Run, given, gathered, smoothedIf, Ranged, Laws}
 use Rattle.scheme.specs.Shares.{sum-local}
 
 -- ---- the pieces

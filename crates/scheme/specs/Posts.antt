@@ -10,7 +10,7 @@ use mathlib.Core.List.{List, map}
 use borrow.Author.Tests.{leb-true, le-leb, le-ltb, eqb-true}
 use lib.IntN.{ℤ, pos, negsuc, natAbs, _-ℤ_}
 use Rattle.lists.specs.Tests.{true-or-false, not-both, and-true}
-use Rattle.lists.specs.Members.{All, none, more, all-also}
+use Rattle.lists.specs.Members.{All, none, more}
 use Rattle.scheme.specs.Units.{step, Station, E, Request, guess}
 use Rattle.scheme.specs.Verdicts.{nearAxis, onGrid, offGrid, isAccepted, beforeScans}
 use Rattle.scheme.specs.Value.{valueAt}

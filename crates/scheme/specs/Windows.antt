@@ -1,14 +1,14 @@
 -- DEMAND 3: windows agree with the whole. The window theorem (Locality), of document 01's scheme (Cressman), for every accepted request and
 -- every window on its grid.
-use Prim.Native.Nat.{ℕ, _+_, _-_, _*_, _≤_, _<_, min}
+use Prim.Native.Nat.{ℕ, _+_, _-_, _*_, _≤_, _<_}
 use native.Mathlib.Omega.{arith}
 use mathlib.Core.Path.{_≡_, sym, ap, _∙_}
 use mathlib.Core.Bool.{true, false, cond}
 use mathlib.Core.List.{List, map}
-use borrow.Author.Tests.{leb-true, le-leb}
+use borrow.Author.Tests.{leb-true}
 use lib.ListN.{length, getD, length-map, List·getD-map}
-use lib.IntN.{ℤ, pos, negsuc}
-use Rattle.lists.specs.Tests.{and-true, not-both}
+use lib.IntN.{ℤ, pos}
+use Rattle.lists.specs.Tests.{and-true}
 use Rattle.scheme.specs.Units.{Field, stored, fieldOf, step, Station, Plan, R, Request, guess, Call, asked}
 use Rattle.scheme.specs.Refusals.{accepted, Window, badWindow, pointsAlong, analysisRefusal}
 use Rattle.scheme.specs.Value.{place}
@@ -17,7 +17,6 @@ use Rattle.scheme.specs.Scan.{sumsAt, after, analysis}
 use Rattle.scheme.specs.Reach.{steps, reach, widened, cutOf, onSpan, onWindow, counted, windowOf, cut}
 use Rattle.scheme.specs.Accepted.{Sound, OnGrid, on-grid, analysis-sound}
 use Rattle.scheme.specs.Calls.{Accepts}
-use Rattle.scheme.specs.Cells.{place-on}
 use Rattle.scheme.specs.Stored.{place-in, length-stored, field-stored}
 use Rattle.scheme.specs.Lengths.{verdict-long}
 use Rattle.scheme.specs.Axes.{off, len}
