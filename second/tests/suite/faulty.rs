@@ -6,7 +6,7 @@ use second::field::Shape;
 use second::scan::{correct, difference, judge, smoothed, sums, Accepted};
 use second::scheme::analyse;
 use second::summary::Summary;
-use second::units::{rounded, MISSING};
+use second::units::{rounded, BORDER, MISSING};
 use second::verdicts::before_first_scan;
 use second::window::{cut, pick, widened};
 
@@ -146,7 +146,7 @@ fn faulty_run(call: &Call, fault: Fault) -> Analysis {
     }
     let mut grid = call.first_guess.clone();
     let mut support = vec![0; grid.len()];
-    let mut verdict = before_first_scan(&call);
+    let mut verdict = before_first_scan(&call, BORDER);
     for scan in 0..call.scans as usize {
         if fault == Fault::TakenBack {
             verdict.iter_mut().filter(|verdict| **verdict > 10).for_each(|verdict| *verdict = 0);

@@ -137,7 +137,7 @@ fn without_edges(call: &Call, part: &Window) -> Call {
     for row in 0..call.x.len() {
         let on_column = [at(part.left), at(part.right)].contains(&call.x[row]);
         if on_column || [at(part.top), at(part.bottom)].contains(&call.y[row]) {
-            call.x[row] = -1;
+            call.x[row] = -1_000_000;
         }
     }
     call
