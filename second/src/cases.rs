@@ -7,7 +7,9 @@ use crate::generate_query;
 use crate::generate_text;
 use crate::generate_window;
 use crate::harm;
+use crate::impossible::late_rejection;
 use crate::patterned::{Patterned, BYTE_PATTERN, GRID_PATTERN};
+use crate::post_sorts;
 use crate::query_sorts;
 use crate::reading::Reading;
 use crate::scheme::analyse;
@@ -40,11 +42,19 @@ fn length_floors() -> Vec<Floor> {
     floors
 }
 
-fn count_scheme(call: &Call, outcome: &Result<Analysis, Refusal>, tally: &mut Tally) {
+fn count_scheme(outcome: Result<(&Call, &Analysis), &Refusal>, tally: &mut Tally) {
     match outcome {
-        Ok(analysis) => tally.add_analysis(call, analysis),
+        Ok((call, analysis)) => {
+            tally.add_analysis(call, analysis);
+            tally.add_sorts(&post_sorts::of_accepted(call, &analysis.verdict));
+        }
         Err(refusal) => tally.add_refusal(refusal),
     }
+}
+
+/// What is wrong with an accepted answer, whatever it is compared with.
+fn wrong_by_itself(call: &Call, expected: &Result<Analysis, Refusal>) -> Option<String> {
+    late_rejection(call, &expected.as_ref().ok()?.verdict)
 }
 
 /// The refusal number of an outcome, 0 where it is accepted.
@@ -83,7 +93,7 @@ impl Case for AnalysisCase {
 
     fn count(&self, expected: &Self::Expected, tally: &mut Tally) {
         let call = &self.0;
-        count_scheme(call, expected, tally);
+        count_scheme(expected.as_ref().map(|analysis| (call, analysis)), tally);
         let (points, rows) = (call.first_guess.len(), call.x.len());
         let results = [call.grid_len, call.support_len, call.verdict_len];
         tally.add_lengths(call, &results, &[points, points, rows], number_of(expected));
@@ -104,6 +114,10 @@ impl Case for AnalysisCase {
             .or_else(|| grid.difference(answer.map(|a| &a.grid[..])))
     }
 
+    fn impossible(&self, expected: &Self::Expected) -> Option<String> {
+        wrong_by_itself(&self.0, expected)
+    }
+
     fn smaller(&self) -> Box<dyn Iterator<Item = Self> + '_> {
         Box::new(shrink::smaller_calls(&self.0).map(AnalysisCase))
     }
@@ -113,7 +127,8 @@ impl Case for AnalysisCase {
     }
 
     fn floors() -> Vec<Floor> {
-        [scheme_floors(10_000, &[1, 3, 4, 5, 6, 7, 8]), length_floors()].concat()
+        let scheme = scheme_floors(10_000, &[1, 3, 4, 5, 6, 7, 8]);
+        [scheme, length_floors(), post_sorts::call_floors()].concat()
     }
 }
 
@@ -139,14 +154,15 @@ impl Case for WindowCase {
 
     fn count(&self, expected: &Self::Expected, tally: &mut Tally) {
         let (call, window) = (&self.call, &self.window);
-        count_scheme(call, expected, tally);
+        count_scheme(expected.as_ref().map(|analysis| (call, analysis)), tally);
         let number = number_of(expected);
         // After refusals 1 and 2 the ends are in order, and nothing wraps.
         let asked = [window.wrapped_area() as usize; 2];
         tally.add_lengths(call, &[call.grid_len, call.support_len], &asked, number);
         match (expected, number) {
             (Ok(analysis), _) => {
-                tally.add_sorts(&sorts::of_accepted(call, window, &analysis.verdict))
+                tally.add_sorts(&sorts::of_accepted(call, window, &analysis.verdict));
+                tally.add_sorts(&post_sorts::of_window(call, window, &analysis.verdict));
             }
             (_, 2) => tally.add_sorts(&sorts::of_bad(call, window)),
             _ => (),
@@ -166,6 +182,10 @@ impl Case for WindowCase {
             .or_else(|| grid.difference(answer.as_ref().map(|a| &a.grid[..])))
     }
 
+    fn impossible(&self, expected: &Self::Expected) -> Option<String> {
+        wrong_by_itself(&self.call, expected)
+    }
+
     fn smaller(&self) -> Box<dyn Iterator<Item = Self> + '_> {
         let cases = shrink::smaller_windows(&self.call, &self.window);
         Box::new(cases.map(|(call, window)| WindowCase { call, window }))
@@ -180,7 +200,8 @@ impl Case for WindowCase {
     fn floors() -> Vec<Floor> {
         let scheme = scheme_floors(10_000, &[1, 2, 3, 4, 5, 6, 7, 8]);
         let empty = vec![Floor::times("empty slice", 2, 50)];
-        [scheme, length_floors(), empty, sorts::floors()].concat()
+        let posts = [post_sorts::call_floors(), post_sorts::window_floors()].concat();
+        [scheme, length_floors(), empty, sorts::floors(), posts].concat()
     }
 }
 
@@ -302,10 +323,7 @@ impl Case for TextCase {
     }
 
     fn count(&self, expected: &Self::Expected, tally: &mut Tally) {
-        match expected {
-            Ok((call, analysis)) => tally.add_analysis(call, analysis),
-            Err(refusal) => tally.add_refusal(refusal),
-        }
+        count_scheme(expected.as_ref().map(|(call, analysis)| (call, analysis)), tally);
         tally.add_sorts(&text_sorts::of_text(&self.text, expected.is_ok()));
         tally.add_sorts(self.harm.as_slice());
     }
@@ -328,6 +346,11 @@ impl Case for TextCase {
         Some(format!("answer line {} is {given}, not {asked}", at + 1))
     }
 
+    fn impossible(&self, expected: &Self::Expected) -> Option<String> {
+        let (call, analysis) = expected.as_ref().ok()?;
+        late_rejection(call, &analysis.verdict)
+    }
+
     fn smaller(&self) -> Box<dyn Iterator<Item = Self> + '_> {
         Box::new(shrink::smaller_texts(&self.text).map(|text| TextCase { text, harm: None }))
     }
@@ -342,6 +365,6 @@ impl Case for TextCase {
 
     fn floors() -> Vec<Floor> {
         let scheme = scheme_floors(10_000, &[6, 7, 8, 9, 10]);
-        [scheme, text_sorts::floors(), harm::floors()].concat()
+        [scheme, text_sorts::floors(), harm::floors(), post_sorts::text_floors()].concat()
     }
 }

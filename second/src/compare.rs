@@ -121,13 +121,24 @@ pub trait Case: Clone {
     fn rerun_form(&self) -> String;
     fn floors() -> Vec<Floor>;
 
+    /// What no answer may hold, found in the second program's own.
+    fn impossible(&self, _expected: &Self::Expected) -> Option<String> {
+        None
+    }
+
     /// The case as plain bytes, for the `generate` command.
     fn plain(&self) -> Vec<u8> {
         self.rerun_form().into_bytes()
     }
 
     fn differs(&self, subject: &dyn Subject) -> Option<String> {
-        self.difference(&self.expected(), subject)
+        self.found_wrong(&self.expected(), subject)
+    }
+
+    /// First the second program's answer by itself, then the subject's beside
+    /// it: one that equals it cannot hold what it does not.
+    fn found_wrong(&self, expected: &Self::Expected, subject: &dyn Subject) -> Option<String> {
+        self.impossible(expected).or_else(|| self.difference(expected, subject))
     }
 }
 
@@ -160,7 +171,7 @@ fn seen<C: Case>(
     let expected = case.expected();
     tally.count += 1;
     case.count(&expected, tally);
-    let difference = case.difference(&expected, subject)?;
+    let difference = case.found_wrong(&expected, subject)?;
     Some(Found { index, difference, case })
 }
 

@@ -3,7 +3,7 @@
 
 use crate::call::{Call, Query, Window};
 use crate::rng::Rng;
-use crate::units::{MISSING, MOST_STATIONS, NO_END};
+use crate::units::{BORDER, MISSING, MOST_STATIONS, NO_END};
 
 const SIDES: [u32; 4] = [0, 1, 65, u32::MAX];
 const BAD_VALUES: [i32; 4] = [1_000_001, -1_000_001, i32::MAX, i32::MIN + 1];
@@ -187,7 +187,9 @@ fn edge_position(rng: &mut Rng, last: i64, bad: bool) -> i32 {
     if bad {
         past
     } else {
-        rng.pick(&[far, far, -1, 0, last, last + 1])
+        let border = BORDER as i32;
+        let by_border = rng.pick(&[-border, -border - 1, last + border, last + border + 1]);
+        rng.pick(&[far, far, -1, 0, last, last + 1, by_border, by_border])
     }
 }
 

@@ -23,9 +23,22 @@ impl Shape {
         (STEP * (self.nx as i64 - 1), STEP * (self.ny as i64 - 1))
     }
 
+    /// Whether a place is on the grid. On its border is on it.
     pub fn holds(&self, x: i32, y: i32) -> bool {
+        self.holds_within(x, y, 0)
+    }
+
+    /// Whether a place is off the grid by at most this on each axis, or on it.
+    pub fn holds_within(&self, x: i32, y: i32, border: i64) -> bool {
         let (last_x, last_y) = self.far_corner();
-        (0..=last_x).contains(&i64::from(x)) && (0..=last_y).contains(&i64::from(y))
+        (-border..=last_x + border).contains(&i64::from(x))
+            && (-border..=last_y + border).contains(&i64::from(y))
+    }
+
+    /// The nearest place on the grid: each axis brought to its bound.
+    pub fn nearest(&self, x: i32, y: i32) -> (i32, i32) {
+        let (last_x, last_y) = self.far_corner();
+        (x.clamp(0, last_x as i32), y.clamp(0, last_y as i32))
     }
 
     /// The corners of the cell around a place on the grid: each point's index

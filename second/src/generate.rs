@@ -1,14 +1,15 @@
 //! The seeded generator: calls, each valid, heavy with bounds, or damaged by a
 //! schedule over the index. `generate_window` places windows on such calls,
-//! `generate_text` writes them out as texts; `generate_query` makes readings
-//! and summaries.
+//! `generate_text` writes them out as texts, `generate_posts` sets stations
+//! beyond the border; `generate_query` makes readings and summaries.
 
 use crate::call::Call;
 use crate::damage;
+use crate::generate_posts::beyond;
 use crate::rng::Rng;
-use crate::scan::difference;
+use crate::scan::{difference, rounded_at};
 use crate::scheme::run;
-use crate::units::{rounded, CELL, DEFAULT_AGE, MISSING, NO_END, VALUE};
+use crate::units::{DEFAULT_AGE, MISSING, NO_END, VALUE};
 
 /// Every so many indices a request is big: both sides 48 or more and at least
 /// 300 stations. A little more than the floor asks for, since they are slow.
@@ -102,6 +103,7 @@ pub fn boundary_call(rng: &mut Rng) -> Call {
 pub fn call_of(rng: &mut Rng, nx: u32, ny: u32, stations: usize) -> Call {
     let mut call = untuned_call(rng, nx, ny, stations);
     tune_limits(rng, &mut call);
+    order_limits(rng, &mut call);
     call
 }
 
@@ -196,7 +198,7 @@ fn position(rng: &mut Rng, call: &Call) -> (i32, i32) {
     let (last_x, last_y) = (64 * call.nx as i32 - 64, 64 * call.ny as i32 - 64);
     let x = rng.between(0, last_x.max(0));
     let y = rng.between(0, last_y.max(0));
-    match rng.below(24) {
+    match rng.below(28) {
         0..=9 => (x, y),
         10..=14 => (x / 64 * 64, y / 64 * 64),
         15 | 16 => (last_x, y),
@@ -206,18 +208,18 @@ fn position(rng: &mut Rng, call: &Call) -> (i32, i32) {
             let shared = rng.below(call.x.len());
             (call.x[shared], call.y[shared])
         }
-        22 => rng.pick(&[(-1, y), (last_x + 1, y), (x, -1), (x, last_y + 1)]),
-        23 => rng.pick(&[(-1_000_000, y), (x, 1_000_000), (-64, -64), (x + 7_000, y)]),
+        22..=26 => beyond(rng, call),
+        27 => rng.pick(&[(-1_000_000, y), (x, 1_000_000), (-64, -64), (x + 7_000, y)]),
         _ => (0, 0),
     }
 }
 
-/// The first guess at a place, or any value where it has none.
+/// The first guess at the nearest place on the grid, or any value where there
+/// are no cells.
 pub fn guess_at(call: &Call, x: i32, y: i32) -> i32 {
     let shape = call.shape();
-    let sizable = shape.nx >= 2 && shape.ny >= 2 && shape.holds(x, y);
-    if sizable {
-        rounded(shape.interpolation_sum(&call.first_guess, x, y), CELL) as i32
+    if shape.nx >= 2 && shape.ny >= 2 {
+        rounded_at(shape, &call.first_guess, x, y) as i32
     } else {
         640
     }
@@ -286,5 +288,20 @@ pub fn tune_limits(rng: &mut Rng, call: &mut Call) {
             let size = difference(call, &before.grid, row).abs() as i32;
             call.limit[scan as usize] = (size - rng.pick(&[0, 1])).clamp(0, 2_000_000);
         }
+    }
+}
+
+/// Makes the limits of some plans equal, never falling or never rising. What a
+/// post has for D stays the same, so it goes only where a limit falls.
+pub fn order_limits(rng: &mut Rng, call: &mut Call) {
+    let limits = &mut call.limit[..call.scans as usize];
+    let order = rng.below(8);
+    for scan in 1..limits.len() {
+        limits[scan] = match order {
+            0 => limits[0],
+            1 => limits[scan].max(limits[scan - 1]),
+            2 | 3 => limits[scan].min(limits[scan - 1]),
+            _ => limits[scan],
+        };
     }
 }

@@ -4,6 +4,7 @@
 use crate::call::Query;
 use crate::damage;
 use crate::field::Shape;
+use crate::generate_posts::distance;
 use crate::rng::Rng;
 
 /// Every so many indices a query is damaged. The turns of the places have no
@@ -80,7 +81,8 @@ fn any_field(rng: &mut Rng, points: usize) -> Vec<i32> {
 }
 
 /// The places in turn: inside a cell, on grid lines, corners and edges of the
-/// grid, one unit off it, the extremes of i32, and anywhere off it.
+/// grid, one unit off it, the extremes of i32, anywhere off it, and where a
+/// post may stand.
 fn place(rng: &mut Rng, shape: Shape, turn: u64) -> (i32, i32) {
     let (last_x, last_y) = shape.far_corner();
     let (last_x, last_y) = (last_x as i32, last_y as i32);
@@ -88,7 +90,7 @@ fn place(rng: &mut Rng, shape: Shape, turn: u64) -> (i32, i32) {
     let inside_x = 64 * rng.below(shape.nx - 1) as i32 + rng.between(1, 63);
     let inside_y = 64 * rng.below(shape.ny - 1) as i32 + rng.between(1, 63);
     let (x, y) = (rng.between(0, last_x), rng.between(0, last_y));
-    match turn % 25 {
+    match turn % 29 {
         0..=3 => (inside_x, inside_y),
         4 | 5 => (64 * i, inside_y),
         6 | 7 => (inside_x, 64 * j),
@@ -109,8 +111,17 @@ fn place(rng: &mut Rng, shape: Shape, turn: u64) -> (i32, i32) {
         22 => (rng.pick(&[x, i32::MIN, i32::MAX]), rng.pick(&[i32::MIN, i32::MAX])),
         // One unit inside: the last that no border is reached by.
         23 => (rng.pick(&[1, last_x - 1]), rng.pick(&[1, last_y - 1])),
-        _ => (rng.between(i32::MIN, i32::MAX), rng.between(-64, last_y + 64)),
+        24 => (rng.between(i32::MIN, i32::MAX), rng.between(-64, last_y + 64)),
+        25 => (out_of(rng, last_x), y),
+        26 => (x, out_of(rng, last_y)),
+        _ => (out_of(rng, last_x), out_of(rng, last_y)),
     }
+}
+
+/// A position off the grid, about as far as a post may be.
+fn out_of(rng: &mut Rng, last: i32) -> i32 {
+    let out = distance(rng);
+    rng.pick(&[-out, last + out])
 }
 
 /// Some cells hold an extreme at every corner, which gives the largest sums.

@@ -1,12 +1,13 @@
 //! The generator of window queries: where the window lies, and which stations
-//! stand by the edge of its cut.
+//! stand by the edge of its cut or beyond it.
 
 use crate::call::{Call, Window};
 use crate::damage;
 use crate::generate::{
-    big_call, edge_call, flavour, guess_at, push_station, small_call, tune_limits, untuned_call,
-    Flavour, TURNS,
+    big_call, edge_call, flavour, guess_at, order_limits, push_station, small_call, tune_limits,
+    untuned_call, Flavour, TURNS,
 };
+use crate::generate_posts::move_beyond_the_cut;
 use crate::rng::Rng;
 use crate::scan::weight;
 use crate::units::{STEP, VALUE};
@@ -46,10 +47,12 @@ fn with_window(rng: &mut Rng, make: fn(&mut Rng) -> Call, place: Place) -> (Call
     let mut call = make(rng);
     let window = place(rng, call.nx, call.ny);
     move_to_the_cut(rng, &mut call, &window);
+    move_beyond_the_cut(rng, &mut call, &window);
     if rng.one_in(2) {
         lay_chain(rng, &mut call, &window);
     } else {
         tune_limits(rng, &mut call);
+        order_limits(rng, &mut call);
     }
     call.grid_len = window.area();
     call.support_len = window.area();
@@ -70,7 +73,7 @@ fn roomy_call(rng: &mut Rng) -> Call {
     call.radius.drain(scans.min(most)..scans);
     call.limit.drain(scans.min(most)..scans);
     call.scans = scans.min(most) as u32;
-    let longest = rng.pick(&[64, 100, 128, 200]);
+    let longest = rng.pick(&[64, 100, 128, 200, 400]);
     call.radius.iter_mut().for_each(|radius| *radius = (*radius).min(longest));
     call
 }

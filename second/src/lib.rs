@@ -1,5 +1,6 @@
-//! The independent second program: document 01 worked out plainly, to be
-//! compared number for number with the proved implementation.
+//! The independent second program: document 01 with request 1 of document 02,
+//! worked out plainly, to be compared number for number with the proved
+//! implementation.
 
 #![forbid(unsafe_code)]
 
@@ -11,12 +12,15 @@ pub mod damage;
 pub mod damage_text;
 pub mod field;
 pub mod generate;
+pub mod generate_posts;
 pub mod generate_query;
 pub mod generate_text;
 pub mod generate_window;
 pub mod harm;
+pub mod impossible;
 pub mod near;
 pub mod patterned;
+pub mod post_sorts;
 pub mod program;
 pub mod query_sorts;
 pub mod reading;

@@ -4,14 +4,15 @@
 use crate::call::Query;
 use crate::field::Shape;
 use crate::reading::Reading;
-use crate::sorts::{named, Sort};
+use crate::sorts::{floors_of, named, Sort};
 use crate::tally::Floor;
-use crate::units::SIDE;
+use crate::units::{BORDER, SIDE};
 
 const PLACE: &str = "place (in a cell, on a column, on a row, on a point)";
 const EDGE: &str = "place on an edge (left, right, top, bottom)";
 const CORNER: &str = "place on a corner (left top, right top, left bottom, right bottom)";
 const BY_ONE: &str = "place off the grid by one unit (left, right, top, bottom)";
+const POST: &str = "place off the grid where a post may be (left, right, top, bottom, a corner)";
 const EXTREME: &str = "place at i32's (least x, greatest x, least y, greatest y)";
 const CORNERS: &str = "corners that count hold i32's (least, greatest, both, one at all four)";
 const IDLE: &str = "bare corner without a share, though backed (one, more)";
@@ -27,14 +28,6 @@ const ENDS: &str = "field with i32's (least, greatest, both)";
 const SIGNS: &str = "field (all negative, all positive, of both signs, flat, all zero)";
 const SIZE: &str = "grid of (2 by 2, 64 by 64, 64 columns, 64 rows)";
 
-fn floors_of(sorts: &[(&'static str, u32, u64)]) -> Vec<Floor> {
-    let numbered = |(name, numbers, least): &(&'static str, u32, u64)| {
-        let (name, least) = (*name, *least);
-        (0..*numbers).map(move |number| Floor::times(name, number, least))
-    };
-    sorts.iter().flat_map(numbered).collect()
-}
-
 /// The least of each sort of reading in a full run.
 pub fn reading_floors() -> Vec<Floor> {
     floors_of(&[
@@ -42,6 +35,7 @@ pub fn reading_floors() -> Vec<Floor> {
         (EDGE, 4, 500),
         (CORNER, 4, 500),
         (BY_ONE, 4, 500),
+        (POST, 5, 300),
         (EXTREME, 4, 200),
         (CORNERS, 4, 200),
         (IDLE, 2, 200),
@@ -109,8 +103,12 @@ fn of_off_grid(query: &Query) -> Vec<Sort> {
     let (on_x, on_y) = ((0..=last_x).contains(&x), (0..=last_y).contains(&y));
     let by_one =
         [on_y && x == -1, on_y && x == last_x + 1, on_x && y == -1, on_x && y == last_y + 1];
+    let posts = shape(query).holds_within(query.x, query.y, BORDER);
+    let sides = [on_y && x < 0, on_y && x > last_x, on_x && y < 0, on_x && y > last_y];
+    let [left, right, top, bottom] = sides.map(|beyond| posts && beyond);
+    let posts = [left, right, top, bottom, posts && !on_x && !on_y];
     let ends = [query.x == i32::MIN, query.x == i32::MAX, query.y == i32::MIN, query.y == i32::MAX];
-    [named(BY_ONE, by_one), named(EXTREME, ends)].concat()
+    [named(BY_ONE, by_one), named(POST, posts), named(EXTREME, ends)].concat()
 }
 
 fn of_place(query: &Query) -> Vec<Sort> {

@@ -4,6 +4,7 @@
 
 use crate::call::{Analysis, Call, Query, Window};
 use crate::cases::{AnalysisCase, ReadingCase, SummaryCase, TextCase, WindowCase};
+use crate::post_sorts::is_post;
 use crate::scheme::run;
 use crate::units::{DEFAULT_AGE, MOST_STATIONS, NO_END};
 use crate::write::{written_out, Style};
@@ -56,8 +57,8 @@ fn station(number: usize, line: &str) -> Option<Station> {
     }
 }
 
-/// The limits of the four scans, and how many of the stations on the grid they
-/// are to reject: whether a number rejected, out of so many, will do.
+/// The limits of the four scans, and how many of the stations that take part
+/// they are to reject: whether a number rejected, out of so many, will do.
 struct Plan {
     limits: [i32; 4],
     rejects: &'static str,
@@ -69,12 +70,12 @@ const PLANS: [Plan; 3] = [
     Plan {
         limits: [200_000, 120_000, 80_000, 50_000],
         rejects: "some",
-        holds: |rejected, on_grid| rejected > 0 && 2 * rejected <= on_grid,
+        holds: |rejected, of| rejected > 0 && 2 * rejected <= of,
     },
     Plan {
         limits: [40_000, 20_000, 10_000, 5_000],
         rejects: "most",
-        holds: |rejected, on_grid| 2 * rejected > on_grid,
+        holds: |rejected, of| 2 * rejected > of,
     },
 ];
 
@@ -115,16 +116,16 @@ impl Accepted {
     fn new(stations: &[Station], plan: &Plan, smooth: bool) -> Result<Self, String> {
         let call = call(&stations[..MOST_STATIONS.min(stations.len())], plan, smooth);
         let analysis = run(&call);
-        let count = |fits: fn(u8) -> bool| {
-            analysis.verdict.iter().filter(|verdict| fits(**verdict)).count()
-        };
-        let (on_grid, rejected) = (count(|verdict| verdict != 5), count(|verdict| verdict > 10));
+        let verdicts = analysis.verdict.iter().copied().enumerate();
+        let part: Vec<(usize, u8)> = verdicts.filter(|(_, verdict)| *verdict != 5).collect();
+        let posts = part.iter().filter(|(row, verdict)| is_post(&call, *row, *verdict)).count();
+        let (rejected, of) = (part.iter().filter(|(_, verdict)| *verdict > 10).count(), part.len());
         let Plan { limits, rejects, holds } = plan;
         let switch = if smooth { "on" } else { "off" };
         let said = format!(
-            "limits {limits:?}, smoothing {switch}: {rejected} of {on_grid} on the grid rejected"
+            "limits {limits:?}, smoothing {switch}: {rejected} of {of} rejected, {posts} are posts"
         );
-        if holds(rejected, on_grid) {
+        if holds(rejected, of) {
             Ok(Accepted { call, analysis, said })
         } else {
             Err(format!("{said}, where {rejects} were to be: choose other limits in real.rs"))

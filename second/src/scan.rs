@@ -5,7 +5,8 @@ use crate::field::Shape;
 use crate::units::{rounded, CELL, STEP, WEIGHT_SCALE};
 use crate::verdicts::{ACCEPTED, REJECTED};
 
-/// A station that takes part in a scan, with its difference D.
+/// A station that takes part in a scan, at its true position, with its
+/// difference D.
 #[derive(Clone, Copy, Debug)]
 pub struct Accepted {
     pub x: i64,
@@ -13,10 +14,19 @@ pub struct Accepted {
     pub difference: i64,
 }
 
-/// D of one row: its observation less the rounded field at its position.
+/// D of one row: its observation less a rounded field at its place. On the
+/// grid that is the field as the scan finds it; a post has the first guess in
+/// every scan, at the nearest place on the grid.
 pub fn difference(call: &Call, field: &[i32], row: usize) -> i64 {
-    let sum = call.shape().interpolation_sum(field, call.x[row], call.y[row]);
-    i64::from(call.value[row]) - rounded(sum, CELL)
+    let (shape, x, y) = (call.shape(), call.x[row], call.y[row]);
+    let field = if shape.holds(x, y) { field } else { &call.first_guess };
+    i64::from(call.value[row]) - rounded_at(shape, field, x, y)
+}
+
+/// A field at the nearest place on the grid, interpolated and rounded once.
+pub fn rounded_at(shape: Shape, field: &[i32], x: i32, y: i32) -> i64 {
+    let (x, y) = shape.nearest(x, y);
+    rounded(shape.interpolation_sum(field, x, y), CELL)
 }
 
 /// Judges every station against the field as the scan finds it and gives

@@ -31,6 +31,15 @@ pub fn floors() -> Vec<Floor> {
     all.map(|(name, number, least)| Floor::times(name, number, least)).collect()
 }
 
+/// Floors by name, how many numbers it has, and the least of each.
+pub fn floors_of(sorts: &[(&'static str, u32, u64)]) -> Vec<Floor> {
+    let numbered = |(name, numbers, least): &(&'static str, u32, u64)| {
+        let (name, least) = (*name, *least);
+        (0..*numbers).map(move |number| Floor::times(name, number, least))
+    };
+    sorts.iter().flat_map(numbered).collect()
+}
+
 /// The numbers at which something holds, in order.
 pub fn named(name: &'static str, holds: impl IntoIterator<Item = bool>) -> Vec<Sort> {
     let numbered = (0..).zip(holds).filter(|(_, holds)| *holds);
@@ -53,7 +62,7 @@ pub fn of_accepted(call: &Call, window: &Window, verdict: &[u8]) -> Vec<Sort> {
 }
 
 /// Which sides of the grid a part of it lies on: left, right, top, bottom.
-fn sides(call: &Call, part: &Window) -> [bool; 4] {
+pub fn sides(call: &Call, part: &Window) -> [bool; 4] {
     [part.left == 0, part.right == call.nx - 1, part.top == 0, part.bottom == call.ny - 1]
 }
 
@@ -77,12 +86,15 @@ fn cut_off(call: &Call, cut: &Window) -> Vec<Sort> {
     named(CUT, sides(call, cut).map(|lies| !lies))
 }
 
-/// Stations that take part in the whole analysis and stand at an edge of the
-/// cut which is not the grid's border, beside the cut's own points.
+/// Stations on the grid that take part in the whole analysis and stand at an
+/// edge of the cut which is not the grid's border, beside the cut's own points.
+/// Those one unit outside must not become posts of the cut.
 fn by_the_cut(call: &Call, cut: &Window, verdict: &[u8]) -> Vec<Sort> {
     let off = sides(call, cut).map(|lies| !lies);
+    let on_grid = |row: &usize| call.shape().holds(call.x[*row], call.y[*row]);
+    let takes_part = |row: &usize| !(1..=5).contains(&verdict[*row]);
     let mut found = [[false; 4]; 3];
-    for row in (0..verdict.len()).filter(|row| !(1..=5).contains(&verdict[*row])) {
+    for row in (0..verdict.len()).filter(takes_part).filter(on_grid) {
         let outside = outside(cut, call.x[row], call.y[row]);
         for side in (0..4).filter(|side| off[*side]) {
             let beside = (0..4).all(|other| other / 2 == side / 2 || outside[other] <= 0);

@@ -4,6 +4,7 @@
 use crate::cases::{AnalysisCase, ReadingCase, SummaryCase, TextCase, WindowCase};
 use crate::compare::{run, run_over, run_two_at_a_time, Case, Run, Shared, Subject};
 use crate::near::{Edits, PAPER};
+use crate::post_sorts::real_floors;
 use crate::real::{stations, Cases};
 use crate::tally::Floor;
 use std::io::{self, Write};
@@ -90,7 +91,9 @@ pub fn compare_near(program: Shared, stride: u64, out: &mut dyn Write) -> Result
 /// Runs calls over the real stations of a data file.
 pub fn compare_real(subject: &dyn Subject, data: &str, out: &mut dyn Write) -> Result<(), String> {
     let cases = real_cases(data, out)?;
-    let all_but_one = |cases: usize| [fixed("accepted", 0, cases - 1), fixed("refusal", 4, 1)];
+    let all_but_one = |cases: usize| {
+        [vec![fixed("accepted", 0, cases - 1), fixed("refusal", 4, 1)], real_floors()].concat()
+    };
     let floors = all_but_one(cases.analyses.len());
     real_kind("real analysis", subject, cases.analyses, &floors, out)?;
     let floors = all_but_one(cases.windows.len());
@@ -108,7 +111,8 @@ pub fn compare_real_texts(
     out: &mut dyn Write,
 ) -> Result<(), String> {
     let texts = real_cases(data, out)?.texts;
-    let floors = [fixed("accepted", 0, texts.len() - 1), fixed("refusal with a place", 9, 1)];
+    let refused = fixed("refusal with a place", 9, 1);
+    let floors = [vec![fixed("accepted", 0, texts.len() - 1), refused], real_floors()].concat();
     real_kind("real text", program, texts, &floors, out)
 }
 

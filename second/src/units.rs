@@ -8,6 +8,8 @@ pub const MISSING: i32 = i32::MIN;
 pub const NO_END: u32 = u32::MAX;
 /// Position units between neighbouring grid points.
 pub const STEP: i64 = 64;
+/// A station off the grid by at most this on each axis takes part: a post.
+pub const BORDER: i64 = 256;
 /// Shares of a cell's four corners add up to this.
 pub const CELL: i64 = STEP * STEP;
 /// An interpolation sum over this gives whole units: 4096ths of 1/64 unit.

@@ -12,11 +12,13 @@ pub const OFF_GRID: u8 = 5;
 /// A station rejected in scan k, counted from 1, gets this plus k.
 pub const REJECTED: u8 = 10;
 
-pub fn before_first_scan(call: &Call) -> Vec<u8> {
-    (0..call.x.len()).map(|row| first_that_fits(call, row)).collect()
+/// A station off the grid by more than the border on either axis takes no
+/// part.
+pub fn before_first_scan(call: &Call, border: i64) -> Vec<u8> {
+    (0..call.x.len()).map(|row| first_that_fits(call, border, row)).collect()
 }
 
-fn first_that_fits(call: &Call, row: usize) -> u8 {
+fn first_that_fits(call: &Call, border: i64, row: usize) -> u8 {
     let (observed, time) = (call.observed[row], call.time);
     let serves = |minute| in_service(call.from[row], call.until[row], minute);
     if call.value[row] == MISSING {
@@ -27,7 +29,7 @@ fn first_that_fits(call: &Call, row: usize) -> u8 {
         AFTER_TIME
     } else if time - observed > call.age {
         TOO_OLD
-    } else if !call.shape().holds(call.x[row], call.y[row]) {
+    } else if !call.shape().holds_within(call.x[row], call.y[row], border) {
         OFF_GRID
     } else {
         ACCEPTED

@@ -5,7 +5,7 @@ use crate::call::{Analysis, Call, Refusal, Window, WindowAnswer};
 use crate::field::Shape;
 use crate::refusals::check_window;
 use crate::scheme::run;
-use crate::units::STEP;
+use crate::units::{BORDER, STEP};
 
 pub fn window(call: &Call, window: &Window) -> Result<WindowAnswer, Refusal> {
     Ok(pick(call.shape(), &whole(call, window)?, window))
@@ -52,20 +52,32 @@ pub fn widened(call: &Call, window: &Window, steps: u32) -> Window {
     }
 }
 
-/// The rows of the stations that stand on a part of the grid, edges included.
+/// The rows of the stations that belong to a part of the grid, edges included:
+/// those on the grid by where they stand, posts by their nearest place on the
+/// whole grid.
 pub fn rows_on(call: &Call, part: &Window) -> Vec<usize> {
     let columns = STEP * i64::from(part.left)..=STEP * i64::from(part.right);
     let lines = STEP * i64::from(part.top)..=STEP * i64::from(part.bottom);
-    let on_part = |row: &usize| {
-        columns.contains(&i64::from(call.x[*row])) && lines.contains(&i64::from(call.y[*row]))
+    let belongs = |row: &usize| {
+        let (x, y) = (call.x[*row], call.y[*row]);
+        let place = call.shape().nearest(x, y);
+        call.shape().holds_within(x, y, BORDER)
+            && columns.contains(&i64::from(place.0))
+            && lines.contains(&i64::from(place.1))
     };
-    (0..call.x.len()).filter(on_part).collect()
+    (0..call.x.len()).filter(belongs).collect()
 }
 
 /// The part of an accepted request as a request of its own: positions count
-/// from its lower corner, the plan and the minutes stay.
+/// from its lower corner, the plan and the minutes stay. A post of the whole
+/// grid is one of the part, with the same nearest place; a station on the grid
+/// beside the part is not in it.
 pub fn cut(call: &Call, part: &Window) -> Call {
-    let rows = rows_on(call, part);
+    cut_with(call, part, &rows_on(call, part))
+}
+
+/// The part with the stations of some rows, whether or not they belong to it.
+pub fn cut_with(call: &Call, part: &Window, rows: &[usize]) -> Call {
     let (dx, dy) = (64 * part.left as i32, 64 * part.top as i32);
     let first_guess = (part.top..=part.bottom)
         .flat_map(|j| (part.left..=part.right).map(move |i| (i as usize, j as usize)))

@@ -1,14 +1,16 @@
 //! Subjects with one planted fault each, to show that the harness sees it.
 
-use second::call::{Analysis, Call, Query, Window};
+use crate::windows::from_part;
+use second::call::{Analysis, Call, Query, Window, WindowAnswer};
 use second::compare::{Answer, Own, Results, Subject};
 use second::field::Shape;
 use second::scan::{correct, difference, judge, smoothed, sums, Accepted};
 use second::scheme::analyse;
 use second::summary::Summary;
-use second::units::{rounded, MISSING};
-use second::verdicts::before_first_scan;
-use second::window::{cut, pick, widened};
+use second::text;
+use second::units::{rounded, BORDER, MISSING};
+use second::verdicts::{before_first_scan, ACCEPTED, OFF_GRID};
+use second::window::{pick, reach, rows_on, widened};
 
 #[derive(Clone, Copy, Debug, PartialEq, Eq)]
 pub enum Fault {
@@ -21,11 +23,22 @@ pub enum Fault {
     VerdictOffByOne,
     SmoothsBorder,
     WidenedByLargestOnly,
+    NoPosts,
+    Border255,
+    Border257,
+    BorderIsRound,
+    FieldForPosts,
+    FirstGuessForAll,
+    DistanceFromPlace,
+    PostsLeaveTheCut,
+    CornerPostsLeaveTheCut,
+    PostsOfTheWindowOnly,
     IdleCornersCount,
     NegativeZero,
     AnyCornerBacks,
     LastEdgeIsOff,
     OneUnitOffIsOn,
+    PostsAreRead,
     ReadingRounded,
     SupportUnmeasured,
     RefusedSummaryFilled,
@@ -54,13 +67,8 @@ impl Subject for Faulty {
     fn window(&self, call: &Call, ends: &Window, results: Results) -> Answer<u32> {
         let (grid, support) = (results.grid, results.support);
         let code = Own.window(call, ends, Results { grid, support, verdict: &mut [] });
-        if code == Ok(0) && self.0 == Fault::WidenedByLargestOnly {
-            let part = widened(call, ends, call.radius[0].unsigned_abs().div_ceil(64));
-            let cut = cut(call, &part);
-            let (left, right) = (ends.left - part.left, ends.right - part.left);
-            let (top, bottom) = (ends.top - part.top, ends.bottom - part.top);
-            let whole = faulty_run(&cut, self.0);
-            let answer = pick(cut.shape(), &whole, &Window::new(left, right, top, bottom));
+        if code == Ok(0) {
+            let answer = faulty_window(call, ends, self.0);
             grid.copy_from_slice(&answer.grid);
             support.copy_from_slice(&answer.support);
         }
@@ -115,12 +123,21 @@ impl Subject for Faulty {
             let kept = request.iter().copied().filter(|byte| *byte != b'\r');
             return Own.text(&kept.collect::<Vec<u8>>());
         }
-        Own.text(request)
+        let answer = text::decide(request).map(|(call, _)| {
+            let analysis = faulty_run(&call, self.0);
+            (call, analysis)
+        });
+        Ok(text::print(&answer))
     }
 }
 
 fn shape(query: &Query) -> Shape {
     Shape { nx: query.nx as usize, ny: query.ny as usize }
+}
+
+/// Whether a post may stand at the place of a query, if it is not refused.
+fn post_may_stand_at(query: &Query) -> bool {
+    Own.reading_kind(query) == Ok(0) && shape(query).holds_within(query.x, query.y, BORDER)
 }
 
 /// The query as somebody might take it who tests too little of it.
@@ -131,14 +148,98 @@ fn misread(query: &Query, fault: Fault) -> Query {
         Fault::OneUnitOffIsOn if i64::from(query.y) == shape(&query).far_corner().1 + 1 => {
             query.y -= 1;
         }
+        Fault::PostsAreRead if post_may_stand_at(&query) => {
+            (query.x, query.y) = shape(&query).nearest(query.x, query.y);
+        }
         Fault::SupportUnmeasured => query.support.resize(query.field.len(), 0),
         _ => (),
     }
     query
 }
 
+/// The window's numbers, out of a cut where the fault is one of cuts.
+fn faulty_window(call: &Call, ends: &Window, fault: Fault) -> WindowAnswer {
+    let part = widened(call, ends, reach(call));
+    let shape = call.shape();
+    let is_post = |row: usize| !shape.holds(call.x[row], call.y[row]);
+    match fault {
+        Fault::WidenedByLargestOnly => {
+            let largest = call.radius[0].unsigned_abs().div_ceil(64);
+            from_part(call, ends, &widened(call, ends, largest))
+        }
+        Fault::PostsLeaveTheCut => from_part(&moved_away(call, is_post), ends, &part),
+        Fault::CornerPostsLeaveTheCut => {
+            let (last_x, last_y) = shape.far_corner();
+            let off = |position: i32, last: i64| !(0..=last).contains(&i64::from(position));
+            let dropped = |row: usize| off(call.x[row], last_x) && off(call.y[row], last_y);
+            from_part(&moved_away(call, dropped), ends, &part)
+        }
+        Fault::PostsOfTheWindowOnly => {
+            let kept = rows_on(call, ends);
+            let dropped = |row: usize| is_post(row) && !kept.contains(&row);
+            from_part(&moved_away(call, dropped), ends, &part)
+        }
+        _ => pick(shape, &faulty_run(call, fault), ends),
+    }
+}
+
+/// The call with some rows where no station takes part.
+pub fn moved_away(call: &Call, moved: impl Fn(usize) -> bool) -> Call {
+    let mut call = call.clone();
+    for row in (0..call.x.len()).filter(|row| moved(*row)) {
+        call.x[row] = 1_000_000;
+    }
+    call
+}
+
+/// Verdicts before the first scan, with another border where that is at fault.
+fn faulty_verdicts(call: &Call, fault: Fault) -> Vec<u8> {
+    let border = match fault {
+        Fault::NoPosts => 0,
+        Fault::Border255 => 255,
+        Fault::Border257 => 257,
+        _ => BORDER,
+    };
+    let mut verdict = before_first_scan(call, border);
+    let judged = verdict.iter_mut().enumerate().filter(|(_, verdict)| **verdict == ACCEPTED);
+    for (row, verdict) in judged.filter(|_| fault == Fault::BorderIsRound) {
+        let (x, y) = (call.x[row], call.y[row]);
+        let place = call.shape().nearest(x, y);
+        if i64::from(x - place.0).pow(2) + i64::from(y - place.1).pow(2) > BORDER * BORDER {
+            *verdict = OFF_GRID;
+        }
+    }
+    verdict
+}
+
+/// The stations that pass, their differences taken otherwise, or their places.
+fn faulty_judge(
+    call: &Call,
+    grid: &[i32],
+    scan: usize,
+    verdict: &mut [u8],
+    fault: Fault,
+) -> Vec<Accepted> {
+    match fault {
+        Fault::FieldForPosts => {
+            let call = Call { first_guess: grid.to_vec(), ..call.clone() };
+            judge(&call, grid, scan, verdict)
+        }
+        Fault::FirstGuessForAll => judge(call, &call.first_guess, scan, verdict),
+        Fault::DistanceFromPlace => {
+            let mut accepted = judge(call, grid, scan, verdict);
+            for station in &mut accepted {
+                let (x, y) = call.shape().nearest(station.x as i32, station.y as i32);
+                (station.x, station.y) = (x.into(), y.into());
+            }
+            accepted
+        }
+        _ => judge(call, grid, scan, verdict),
+    }
+}
+
 /// The scheme with a fault in it.
-fn faulty_run(call: &Call, fault: Fault) -> Analysis {
+pub fn faulty_run(call: &Call, fault: Fault) -> Analysis {
     let mut call = call.clone();
     if fault == Fault::Missing32767 {
         let marks = call.value.iter_mut().filter(|value| **value == 32_767);
@@ -146,12 +247,12 @@ fn faulty_run(call: &Call, fault: Fault) -> Analysis {
     }
     let mut grid = call.first_guess.clone();
     let mut support = vec![0; grid.len()];
-    let mut verdict = before_first_scan(&call);
+    let mut verdict = faulty_verdicts(&call, fault);
     for scan in 0..call.scans as usize {
         if fault == Fault::TakenBack {
             verdict.iter_mut().filter(|verdict| **verdict > 10).for_each(|verdict| *verdict = 0);
         }
-        let accepted = judge(&call, &grid, scan, &mut verdict);
+        let accepted = faulty_judge(&call, &grid, scan, &mut verdict, fault);
         match fault {
             Fault::HalvesTowardZero => halves_down(&call, scan, &accepted, &mut grid, &mut support),
             Fault::FedBySameScan => feeding(&call, scan, &verdict, &mut grid, &mut support),

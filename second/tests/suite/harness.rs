@@ -165,7 +165,7 @@ fn faults_of_readings_and_summaries_are_seen() {
     let zero = failure::<ReadingCase>(Fault::NegativeZero).smallest.0;
     assert_eq!(zero.field.iter().filter(|value| **value != 0).count(), 0);
     use Fault::*;
-    for fault in [AnyCornerBacks, LastEdgeIsOff, OneUnitOffIsOn, ReadingRounded] {
+    for fault in [AnyCornerBacks, LastEdgeIsOff, OneUnitOffIsOn, PostsAreRead, ReadingRounded] {
         let query = failure::<ReadingCase>(fault).smallest.0;
         assert_eq!((query.nx, query.ny), (2, 2), "{fault:?}: {query:?}");
     }

@@ -5,6 +5,7 @@ mod command;
 mod faulty;
 mod harness;
 mod numbers;
+mod posts;
 mod program;
 mod readings;
 mod real;

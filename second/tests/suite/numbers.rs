@@ -109,10 +109,10 @@ fn verdicts_come_in_order() {
     assert_eq!(verdict(|call| (call.from[0], call.observed[0]) = (990, 989)), 2);
     assert_eq!(verdict(|call| call.from[0] = 1001), 2);
     assert_eq!(verdict(|call| call.observed[0] = 1001), 3);
-    assert_eq!(verdict(|call| (call.observed[0], call.x[0]) = (939, -1)), 4, "4 before 5");
+    assert_eq!(verdict(|call| (call.observed[0], call.x[0]) = (939, -257)), 4, "4 before 5");
     assert_eq!(verdict(|call| call.observed[0] = 940), 0);
-    assert_eq!(verdict(|call| call.x[0] = -1), 5);
-    assert_eq!(verdict(|call| call.y[0] = 129), 5);
+    assert_eq!(verdict(|call| call.x[0] = -257), 5);
+    assert_eq!(verdict(|call| call.y[0] = 128 + 257), 5);
     assert_eq!(verdict(|call| (call.x[0], call.y[0]) = (128, 128)), 0);
     assert_eq!(verdict(|call| (call.time, call.observed[0]) = (u32::MAX, u32::MAX)), 0, "no end");
     assert_eq!(verdict(|call| call.value[0] = 32_767), 11, "32767 is a proper value");

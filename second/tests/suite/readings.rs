@@ -11,7 +11,9 @@ fn the_edges_of_the_grid_are_on_it() {
     assert_eq!(read(128, 0), Reading::Backed(2.0));
     assert_eq!(read(0, 64), Reading::Backed(3.0));
     assert_eq!(read(96, 32), Reading::Backed(3.0));
-    for (x, y) in [(-1, 0), (0, -1), (129, 0), (0, 65), (i32::MIN, 0), (0, i32::MAX)] {
+    let by_one = [(-1, 0), (0, -1), (129, 0), (0, 65)];
+    let posts = [(-256, 0), (384, 64), (128, -255), (-256, 320)];
+    for (x, y) in [by_one, posts, [(i32::MIN, 0), (0, i32::MAX), (-257, 0), (0, 321)]].concat() {
         let off = read(x, y);
         assert_eq!((off, off.kind(), off.value().to_bits()), (Reading::OffGrid, 0, 0));
     }

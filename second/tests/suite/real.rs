@@ -2,8 +2,8 @@
 //! faults that these must show.
 
 use crate::faulty::{Fault, Faulty};
-use second::call::{Call, Refusal};
-use second::compare::{Answer, Case, Own, Results, Subject};
+use second::call::Refusal;
+use second::compare::{Case, Own};
 use second::field::Shape;
 use second::real::{stations, Cases, Station, DATA};
 use second::scheme::analyse;
@@ -24,6 +24,9 @@ fn the_figures_are_those_of_the_document() {
     };
     assert_eq!((stations.len(), on_grid(&stations)), (536, 333));
     assert_eq!(on_grid(&stations[..512]), 317);
+    let within = |station: &&Station| GRID.holds_within(station.x, station.y, 256);
+    assert_eq!(stations.iter().filter(within).count(), 333 + 96);
+    assert_eq!(stations[..512].iter().filter(within).count(), 317 + 88);
     assert_eq!(stations[0], Station { x: -505, y: -224, value: 146_752 });
 }
 
@@ -51,11 +54,9 @@ fn limits_that_reject_too_many_are_said() {
     let wild: Vec<Station> =
         (0..512).map(|row| Station { x: row, y: row, value: 1_000_000 }).collect();
     let said = Cases::new(&wild).err().expect("all are rejected");
-    let opening = "limits [500000, 500000, 500000, 500000], smoothing off: 512 of 512 on the grid";
-    assert_eq!(
-        said,
-        format!("{opening} rejected, where none were to be: choose other limits in real.rs")
-    );
+    let opening = "limits [500000, 500000, 500000, 500000], smoothing off: 512 of 512 rejected";
+    let close = "0 are posts, where none were to be: choose other limits in real.rs";
+    assert_eq!(said, format!("{opening}, {close}"));
 }
 
 #[test]
@@ -90,8 +91,8 @@ fn the_cases_are_counted() {
     let out = String::from_utf8(out).expect("plain");
     for said in [
         "536 stations of document 002\n  limits [500000, 500000, 500000, 500000], smoothing off: 0 of",
-        "smoothing off: 37 of 317 on the grid rejected\n",
-        "smoothing on: 249 of 317 on the grid rejected\n",
+        "smoothing off: 96 of 405 rejected, 88 are posts\n",
+        "smoothing on: 329 of 405 rejected, 88 are posts\n",
         "\nreal analysis, 7 cases\n",
         "\nreal window, 205 cases\n",
         "\nreal reading, 3072 cases\n",
@@ -99,23 +100,6 @@ fn the_cases_are_counted() {
         "\nreal text, 7 cases\n",
     ] {
         assert!(out.contains(said), "{said} is not in {out}");
-    }
-}
-
-/// Takes stations one step off the grid for stations on its border.
-struct TakesPosts;
-
-impl Subject for TakesPosts {
-    fn analyse(&self, call: &Call, results: Results) -> Answer<u32> {
-        let mut call = call.clone();
-        let pulled = |at: &mut i32, last: i32| {
-            if (-64..=last + 64).contains(at) {
-                *at = (*at).clamp(0, last);
-            }
-        };
-        call.x.iter_mut().for_each(|x| pulled(x, 1280));
-        call.y.iter_mut().for_each(|y| pulled(y, 1664));
-        Own.analyse(&call, results)
     }
 }
 
@@ -130,12 +114,19 @@ fn faults_are_seen_in_the_real_stations() {
         Fault::VerdictOffByOne,
         Fault::SmoothsBorder,
         Fault::WritesBeforeRefusal,
+        Fault::NoPosts,
+        Fault::BorderIsRound,
+        Fault::FieldForPosts,
+        Fault::FirstGuessForAll,
+        Fault::DistanceFromPlace,
     ] {
         let seen = cases.analyses.iter().any(|case| case.differs(&Faulty(fault)).is_some());
         assert!(seen, "{fault:?} was not seen");
     }
-    let cut = Faulty(Fault::WidenedByLargestOnly);
-    assert!(cases.windows.iter().any(|case| case.differs(&cut).is_some()));
-    assert!(cases.analyses[0].differs(&TakesPosts).is_some());
+    for fault in [Fault::WidenedByLargestOnly, Fault::PostsLeaveTheCut, Fault::PostsOfTheWindowOnly]
+    {
+        let seen = cases.windows.iter().any(|case| case.differs(&Faulty(fault)).is_some());
+        assert!(seen, "{fault:?} was not seen");
+    }
     assert!(analyse(&cases.analyses[0].0).is_ok_and(|analysis| analysis.verdict.contains(&5)));
 }

@@ -1,9 +1,12 @@
-//! The sorts of windows, readings and summaries are told apart, and each has
-//! its floor.
+//! The sorts of windows, posts, readings and summaries are told apart, and each
+//! has its floor.
 
 use crate::lone_station;
 use second::call::{Call, Query, Window};
 use second::compare::read;
+use second::post_sorts::{
+    call_floors, of_accepted as of_posts, of_window, real_floors, text_floors, window_floors,
+};
 use second::query_sorts::{of_reading, of_summary, reading_floors, summary_floors};
 use second::scheme::run;
 use second::sorts::{floors, of_accepted, of_bad, Sort};
@@ -56,7 +59,7 @@ fn stations_by_the_cut_are_told_apart() {
     assert_eq!(by(385, 320), [vec![], vec![], vec![1]], "on the bottom's line, but outside");
     assert_eq!(by(200, 319), [vec![], vec![3], vec![]]);
     assert_eq!(by(200, 0), [const { vec![] }; 3], "a border is no edge of a cut");
-    assert_eq!(by(128, -1), [const { vec![] }; 3], "off the grid it takes no part");
+    assert_eq!(by(128, -1), [const { vec![] }; 3], "a post is counted apart");
 }
 
 #[test]
@@ -73,6 +76,78 @@ fn bad_windows_are_told_apart() {
     assert_eq!(bad([0, 0, 0, u32::MAX]), [vec![3], vec![], vec![3], vec![0]], "2^32 rows wrap");
     assert_eq!(bad([0, 9, 0, 8]), [vec![4], vec![], vec![], vec![]], "both past, by one each");
     assert_eq!(bad([0, 0, u32::MAX, 2]), [vec![1], vec![], vec![2], vec![]]);
+}
+
+/// The sorts of a lone station of value 700 and D = 60, under two limits, on a
+/// grid of 9 by 8.
+fn post_sorts(x: i32, y: i32, limit: [i32; 2]) -> Vec<Sort> {
+    let mut call = lone_station(9, 8, 640, x, y, 700);
+    (call.scans, call.radius, call.limit) = (2, vec![96; 2], limit.to_vec());
+    of_posts(&call, &run(&call).verdict)
+}
+
+#[test]
+fn distances_of_posts_are_told_apart() {
+    let beyond = |x, y| {
+        let sorts = post_sorts(x, y, [200, 200]);
+        ["station beyond a side", "station beyond a corner"].map(|name| numbers(&sorts, name))
+    };
+    assert_eq!(beyond(0, 5), [const { vec![] }; 2], "on the grid");
+    assert_eq!(beyond(-1, 5), [vec![0], vec![]]);
+    assert_eq!(beyond(512 + 256, 5), [vec![4 + 2], vec![]]);
+    assert_eq!(beyond(0, -255), [vec![8 + 1], vec![]]);
+    assert_eq!(beyond(512, 448 + 257), [vec![12 + 3], vec![]], "too far out");
+    assert_eq!(beyond(-2, 5), [const { vec![] }; 2]);
+    assert_eq!(beyond(-256, -1), [vec![], vec![4 * 2]]);
+    assert_eq!(beyond(513, -257), [vec![], vec![16 + 3]]);
+    assert_eq!(beyond(-257, 448 + 256), [vec![], vec![32 + 4 * 3 + 2]]);
+    assert_eq!(beyond(512 + 255, 448 + 255), [vec![], vec![48 + 4 + 1]]);
+}
+
+#[test]
+fn outcomes_of_posts_are_told_apart() {
+    let outcome = |x, limit| {
+        let sorts = post_sorts(x, 5, limit);
+        ["post accepted (", "post rejected", "post with D", "post accepted in two"]
+            .map(|name| numbers(&sorts, name))
+    };
+    assert_eq!(outcome(-9, [200, 200]), [vec![0, 1], vec![], vec![], vec![0]]);
+    assert_eq!(outcome(-99, [200, 200]), [vec![0], vec![], vec![], vec![0]], "heard nowhere");
+    assert_eq!(outcome(-9, [199, 200]), [vec![0, 1], vec![], vec![], vec![1]]);
+    assert_eq!(outcome(-9, [200, 60]), [vec![0, 1], vec![], vec![0], vec![2]]);
+    assert_eq!(outcome(-9, [58, 200]), [vec![], vec![0], vec![], vec![]]);
+    assert_eq!(outcome(-9, [60, 59]), [vec![], vec![1], vec![1], vec![]]);
+    assert_eq!(outcome(9, [200, 200]), [const { vec![] }; 4], "on the grid");
+    assert_eq!(outcome(-257, [200, 200]), [const { vec![] }; 4], "too far out");
+}
+
+#[test]
+fn posts_by_the_cut_are_told_apart() {
+    // The cut of this window is columns 0 .. 4 and rows 2 .. 7: it shares the
+    // left side and the bottom with the grid.
+    let by = |x, y| {
+        let call = lone_station(9, 8, 640, x, y, 700);
+        let sorts = of_window(&call, &Window::new(1, 2, 4, 5), &run(&call).verdict);
+        let places = ["inside the cut", "on the cut's", "one unit outside"];
+        let [inside, on, outside] =
+            places.map(|place| numbers(&sorts, &format!("post with its place {place}")));
+        let [corner, heard] = ["post beyond", "post heard"].map(|name| numbers(&sorts, name));
+        [inside, on, outside, corner, heard]
+    };
+    let none = || Vec::<u32>::new();
+    assert_eq!(by(-1, 300), [vec![0], none(), none(), none(), vec![0]]);
+    assert_eq!(by(-90, 300), [vec![0], none(), none(), none(), none()], "not heard");
+    assert_eq!(by(-1, 129), [vec![0], none(), none(), none(), none()]);
+    assert_eq!(by(-1, 128), [none(), vec![0], none(), none(), none()]);
+    assert_eq!(by(-1, 127), [none(), none(), vec![0], none(), none()]);
+    assert_eq!(by(-1, 448), [vec![0], none(), none(), none(), none()], "the grid's border");
+    assert_eq!(by(256, 449), [none(), vec![7], none(), none(), none()]);
+    assert_eq!(by(257, 700), [none(), none(), vec![7], none(), none()]);
+    assert_eq!(by(-1, 449), [vec![0, 3], none(), none(), vec![2], none()]);
+    assert_eq!(by(-1, -1), [const { vec![] }; 5], "beyond a corner that is not in the cut");
+    assert_eq!(by(513, 300), [const { vec![] }; 5], "beyond another side");
+    assert_eq!(by(-257, 300), [const { vec![] }; 5], "too far out");
+    assert_eq!(by(257, 300), [const { vec![] }; 5], "on the grid, beside the cut");
 }
 
 /// A reading of a field of 3 by 2, all its corners backed.
@@ -99,13 +174,17 @@ fn places_of_readings_are_told_apart() {
     assert_eq!(lies(0, 64), [vec![3], vec![], vec![2]]);
     let off = |x, y| {
         let sorts = told(&reading_at(x, y));
-        ["place off", "place at"].map(|name| numbers(&sorts, name))
+        ["place off the grid by", "place off the grid where", "place at"]
+            .map(|name| numbers(&sorts, name))
     };
-    assert_eq!(off(-1, 64), [vec![0], vec![]]);
-    assert_eq!(off(129, 0), [vec![1], vec![]]);
-    assert_eq!(off(128, 65), [vec![3], vec![]]);
-    assert_eq!(off(129, 65), [vec![], vec![]], "off on both axes");
-    assert_eq!(off(i32::MIN, i32::MAX), [vec![], vec![0, 3]]);
+    assert_eq!(off(-1, 64), [vec![0], vec![0], vec![]]);
+    assert_eq!(off(129, 0), [vec![1], vec![1], vec![]]);
+    assert_eq!(off(128, 65), [vec![3], vec![3], vec![]]);
+    assert_eq!(off(129, 65), [vec![], vec![4], vec![]], "off on both axes");
+    assert_eq!(off(64, -256), [vec![], vec![2], vec![]]);
+    assert_eq!(off(64, -257), [const { vec![] }; 3]);
+    assert_eq!(off(-256, 321), [const { vec![] }; 3]);
+    assert_eq!(off(i32::MIN, i32::MAX), [vec![], vec![], vec![0, 3]]);
 }
 
 #[test]
@@ -163,8 +242,11 @@ fn summaries_are_told_apart() {
 #[test]
 fn every_sort_has_a_floor() {
     assert_eq!(held(floors()), 7 * 4 + 5 + 2 * 4 + 3, "each once, and none left out");
-    assert_eq!(held(reading_floors()), 6 * 4 + 2 + 2 * 4 + 6 + 4 + 1);
+    assert_eq!(held(reading_floors()), 6 * 4 + 5 + 2 + 2 * 4 + 6 + 4 + 1);
     assert_eq!(held(summary_floors()), 3 * 3 + 5 + 4 + 4 + 2 + 1 + 2);
+    let of_posts = 3 * 2 + 3 + 4 * 4 + 4 * 16;
+    assert_eq!((held(call_floors()), held(text_floors())), (of_posts, of_posts));
+    assert_eq!((held(window_floors()), real_floors().len()), (2 * 4 + 2 * 8 + 5, 4));
 }
 
 /// Sees that every floor is one that can be missed and be held, and gives

@@ -2,7 +2,7 @@
 
 use crate::{ANSWER, REQUEST};
 use second::generate_text;
-use second::text::answer;
+use second::text::{answer, decide};
 use second::units::MOST_TEXT;
 
 fn answered(text: &str) -> String {
@@ -146,7 +146,8 @@ fn no_stations_leave_the_last_line_empty() {
 fn the_examples_have_their_answers() {
     let evening = include_bytes!("../../../examples/evening.request");
     assert_eq!(answer(evening), include_bytes!("../../../examples/evening.answer"));
-    assert!(answer(evening).ends_with(b"\nver=0,0,0,0,0,0,2,1,4,3,5,11\n"));
+    let verdicts = decide(evening).expect("accepted").1.verdict;
+    assert!([0, 1, 2, 3, 4, 11].iter().all(|verdict| verdicts.contains(verdict)), "{verdicts:?}");
     let paper = include_bytes!("../../../examples/paper.txt");
     assert_eq!(answer(paper), include_bytes!("../../../examples/paper.answer"));
 }
