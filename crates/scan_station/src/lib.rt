@@ -30,14 +30,7 @@ fn value_for(row: [i32; 3], guess: &[i32], z: &[i32], nx: usize, ny: usize) -> i
 }
 
 // The observation less that value; 0 for a row that is not accepted, whose observation may be missing.
-fn difference(
-    verdict: u8,
-    row: [i32; 3],
-    guess: &[i32],
-    z: &[i32],
-    nx: usize,
-    ny: usize,
-) -> i64
+fn difference(verdict: u8, row: [i32; 3], guess: &[i32], z: &[i32], nx: usize, ny: usize) -> i64
     requires { ⌜ Shaped nx ny (length (now guess)) × Shaped nx ny (length (now z)) × Small (now guess) × Small (now z) × (verdict ≡ 0 → Heard row) ⌝ }
     ensures { λ r. ⌜ (r ≡ diffOf (now (guess .entry)) (now (z .entry)) nx ny verdict row) × (natAbs r ≤ mostDifference) ⌝ }
 {

@@ -56,16 +56,8 @@ fn scan(
     ensures { λ u. ⌜ Scanned t (now (guess .entry)) (now (numbers .entry)) m (now (z .entry)) (now (support .entry)) (now (verdict .entry)) (now (z .exit)) (now (support .exit)) (now (verdict .exit)) (now (d .exit))
         × (length (now (d .exit)) ≡ mostStations) × Roomy (now (lx .exit)) (now (ly .exit)) (now (ld .exit)) ⌝ }
 {
-    scan_station::judge(
-        guess,
-        z,
-        verdict,
-        d,
-        t,
-        numbers,
-        limit_of(t, m),
-        (m as u8) + 1,
-    );
+    let limit = limit_of(t, m);
+    scan_station::judge(guess, z, verdict, d, t, numbers, limit, (m as u8) + 1);
     scan_point::correct(
         z,
         support,

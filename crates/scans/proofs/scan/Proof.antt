@@ -19,7 +19,7 @@ module _ (c : tie.After-judge) where
   s = c .before .before .before .before .before .before .before
 
   judged : Filled 0 (verdictAt (s .args .guess .now) (s .args .z .now) (s .args .t) (s .args .numbers .now) (s .args .verdict .now) (s .args .m + 1) (E (planIn (s .args .t)) (s .args .m))) 0 (s .args .t .stations) (s .args .verdict .now) (c .judge .last .1 .1 .0)
-  judged = rw (c .before .limit-of .ensures) at (c .judge .ensures .1)
+  judged = rw (c .before .before .before .before .limit-of .ensures) at (c .judge .ensures .1)
 
 -- and what the correction leaves
 module _ (c : tie.After-correct) where
