@@ -10,9 +10,9 @@
 ** grid alone and with the same numbers. Beside them stand a point reading and
 ** a summary, which tell a field in doubles that are exact.
 **
-** What follows: version, marks, units and sizes, windows, results, verdicts,
-** support, refusals, what the caller owes, what the calls keep, the calls, and
-** a request by name, which is how a program had best call them.
+** What follows: version, marks, units and sizes, posts, windows, results,
+** verdicts, support, refusals, what the caller owes, what the calls keep, the
+** calls, and a request by name, which is how a program had best call them.
 */
 #ifndef SOSNYAVIK_H
 #define SOSNYAVIK_H
@@ -32,7 +32,7 @@ extern "C" {
 ** when a call takes other arguments than before, and a program must be compiled
 ** anew. The second rises with a new call, the third with anything else.
 */
-#define SOSNYAVIK_VERSION "0.1.0" /* 2026-11-15 */
+#define SOSNYAVIK_VERSION "0.1.1" /* 2026-11-15 */
 
 /*
 ** MARKS
@@ -60,7 +60,8 @@ extern "C" {
 **
 **   The stations are rows 0, 1, .. of six columns of equal length, 0 .. 512:
 **
-**   x, y          position; two may share one        -1000000 .. 1000000
+**   x, y          position; two may share one, and   -1000000 .. 1000000
+**                 one may lie off the grid: see POSTS
 **   value         observation                        -1000000 .. 1000000,
 **                                                    or SOSNYAVIK_MISSING
 **   observed      minute of the observation          any
@@ -88,6 +89,25 @@ extern "C" {
 #define SOSNYAVIK_DEFAULT_AGE 120
 
 /*
+** POSTS
+**
+** A post is a station off the grid by at most SOSNYAVIK_BORDER position units,
+** four grid steps, along x, along y or, at a corner, along both. It takes part:
+**
+**   - Its weight at a point goes by its true distance, as that of any station.
+**   - Its difference is its observation less the first guess at its nearest
+**     place on the grid: each of x and y brought to its bound. No scan changes
+**     the first guess, so that this is the same in every scan. A scan after the
+**     first rejects a post only if its limit is below those before; and a point
+**     that hears one post alone is moved by all of its difference in each scan.
+**
+** A station on the border, such as x = 0 or x = 64*(nx-1), is on the grid. One
+** that is farther out, along x or y, has verdict 5. A reading beyond the border
+** is off grid, also where a post stands.
+*/
+#define SOSNYAVIK_BORDER 256
+
+/*
 ** WINDOWS
 **
 ** A window is the points of columns left .. right and rows top .. bottom. Its
@@ -98,7 +118,8 @@ extern "C" {
 **
 ** Only the window query has one. Its grid and support are, point for point,
 ** those of the whole analysis of the same request. The request is the whole
-** one too, with the grid's first guess and stations: all of it is tested.
+** one too, with the grid's first guess and stations, posts included: all of it
+** is tested.
 */
 
 /*
@@ -136,10 +157,12 @@ extern "C" {
 **        from <= time < until (with no end, the upper tests hold)
 **    3   observed after the minute of the analysis
 **    4   too old: time - observed is above age
-**    5   off the grid: not 0 <= x <= 64*(nx-1), or not 0 <= y <= 64*(ny-1)
+**    5   off the grid by more than SOSNYAVIK_BORDER: x is below -256 or above
+**        64*(nx-1) + 256, or y is below -256 or above 64*(ny-1) + 256
 **
 ** Rejected in a scan and all later ones, because the observation differed by
-** more than limit from the field that the scan found:
+** more than limit from the field that the scan found, or a post's from the
+** first guess:
 **
 **   11 .. 16   10 + the scan, counted from 1: 11 in the first, 16 in the sixth
 */

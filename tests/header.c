@@ -1,6 +1,6 @@
 // What include/sosnyavik.h tells a C programmer, called: the paper's example, whole and as a window, a mistake for each
 // refusal of each call, and the examples of the reading and the summary. All of it twice, by the plain calls and by
-// name; and what a request by name has where nothing is given.
+// name; the border; and what a request by name has where nothing is given.
 #include <stdio.h>
 #include <stdlib.h>
 #include <string.h>
@@ -224,6 +224,43 @@ static void same_by_name(void) {
     }
 }
 
+static uint8_t verdict_at(Call *call, int32_t x, int32_t y) {
+    Results r;
+    Request q = paper;
+    q.x[1] = x, q.y[1] = y;
+    must(call(&q, &r) == 0, "a station off the grid");
+    return r.verdict[1];
+}
+
+// At each side and each corner: on the border, a post to the last unit, and one unit farther.
+static void verdicts_off_the_grid(Call *call) {
+    const int32_t near = SOSNYAVIK_BORDER, far = SOSNYAVIK_BORDER + 1, last = 64 * 2;
+    for (int side = 0; side < 4; side++) {
+        int32_t x = side % 2 == 0 ? 0 : last, y = side < 2 ? 0 : last, dx = x == 0 ? -1 : 1, dy = y == 0 ? -1 : 1;
+        must(verdict_at(call, x, y) == 0, "a station on the border");
+        must(verdict_at(call, x + dx * near, 64) == 0 && verdict_at(call, x + dx * far, 64) == 5, "a post beside");
+        must(verdict_at(call, 64, y + dy * near) == 0 && verdict_at(call, 64, y + dy * far) == 5,
+             "a post above or below");
+        must(verdict_at(call, x + dx * near, y + dy * near) == 0, "a post at a corner");
+        must(verdict_at(call, x + dx * far, y + dy * near) == 5, "a station past a corner along x");
+        must(verdict_at(call, x + dx * near, y + dy * far) == 5, "a station past a corner along y");
+    }
+}
+
+// A post 64 units west of the first point, heard by two points alone: each scan moves them by its difference of 64.
+static void post_in_two_scans(Call *call) {
+    Results r;
+    Request q = paper;
+    const Results expected = {.grid = {768, 640, 640, 768, 640, 640, 640, 640, 640},
+                              .support = {3, 0, 0, 3, 0, 0, 0, 0, 0},
+                              .verdict = {0, 5, 5}};
+    q.x[0] = -64, q.y[0] = 0, q.value[0] = 704, q.x[1] = 1000000, q.x[2] = -1000000, q.until[2] = SOSNYAVIK_NO_END;
+    q.scans = 2, q.plan_len = 2, q.radius[1] = 96, q.limit[1] = 64;
+    must(call(&q, &r) == 0 && memcmp(&r, &expected, sizeof r) == 0, "a post in two scans");
+    q.limit[1] = 63;
+    must(call(&q, &r) == 0 && r.verdict[0] == 12 && r.grid[0] == 704, "a post under a lower limit");
+}
+
 // Where no age is given, an observation of 120 minutes counts and one of 121 does not: document 01's default.
 static void age_where_none_is_given(void) {
     Results r;
@@ -271,6 +308,8 @@ int main(void) {
         mistakes(windows[i]);
         mistakes_of_an_analysis(analyses[i]);
         mistakes_of_a_window(windows[i]);
+        verdicts_off_the_grid(analyses[i]);
+        post_in_two_scans(analyses[i]);
     }
     readings();
     summaries();
@@ -278,6 +317,7 @@ int main(void) {
     same_by_name();
     age_where_none_is_given();
     left_out();
-    puts("header: the examples, and the mistakes for refusals 1 to 8, answer as include/sosnyavik.h says, by name too");
+    puts("header: the examples, posts, and the mistakes for refusals 1 to 8, answer as include/sosnyavik.h says, by "
+         "name too");
     return 0;
 }
