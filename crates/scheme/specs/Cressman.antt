@@ -1,4 +1,4 @@
--- Document 01 as a scheme: its pieces keep the laws, and its run goes by them.
+-- Documents 01 and 02 as a scheme: its pieces keep the laws, and its run goes by them.
 use Prim.Native.Nat.{ℕ, _+_, _-_, _*_, _≤_, _<_, min}
 use native.Mathlib.Omega.{arith}
 use mathlib.Core.Path.{_≡_, refl, sym, ap}

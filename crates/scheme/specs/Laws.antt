@@ -1,6 +1,6 @@
 -- What the window theorem asks. A scheme is its pieces, and keeps a few laws, none of which knows of windows or of more than one scan; a run
--- of it on a grid goes from scan to scan by the pieces. Document 01 is one scheme (Windows); a request of document 02 that changes a piece
--- brings another, and no new theorem.
+-- of it on a grid goes from scan to scan by the pieces. Documents 01 and 02 are one scheme (Cressman); a request of document 02 that changes a
+-- piece shows its law again, and brings no new theorem.
 use Prim.Native.Nat.{ℕ, suc, _+_, _-_, _*_, _≤_, _<_}
 use mathlib.Core.Path.{_≡_}
 use mathlib.Core.Logic.{_⊎_}

@@ -1,4 +1,4 @@
--- Document 01, "The scope and its exact rules".
+-- Document 01, "The scope and its exact rules", and of document 02 the requests that have landed: 1, posts beyond the border.
 --
 -- MUST BE BELIEVED, a file for each section, in the paper's order and words. Read them beside the paper.
 pub mod Units

@@ -1,5 +1,5 @@
--- DEMAND 3: windows agree with the whole. The window theorem (Locality), of document 01's scheme (Cressman), for every accepted request and
--- every window on its grid.
+-- DEMAND 3: windows agree with the whole. The window theorem (Locality), of the scheme of documents 01 and 02 (Cressman), for every accepted
+-- request and every window on its grid.
 use Prim.Native.Nat.{ℕ, _+_, _-_, _*_, _≤_, _<_}
 use native.Mathlib.Omega.{arith}
 use mathlib.Core.Path.{_≡_, sym, ap, _∙_}
@@ -50,7 +50,8 @@ pub record Agrees (q : Request) (w : Window) : Type 0 where
       → (placeInCut q w i j < length (analysis (cut q w) .grid)) × (placeInCut q w i j < length (analysis (cut q w) .support))
   pub values : (i j : ℕ) → OfWindow w i j → getD (analysis (cut q w) .grid) (placeInCut q w i j) (pos 0) ≡ getD (analysis q .grid) (j * q .nx + i) (pos 0)
   pub supports : (i j : ℕ) → OfWindow w i j → getD (analysis (cut q w) .support) (placeInCut q w i j) 0 ≡ getD (analysis q .support) (j * q .nx + i) 0
-  -- each station whose place is on the window is kept, posts included; row k of the request is row `rowInCut` of the cut, and has there the same verdict
+  -- each station whose place is on the window, posts included, is kept; row k of the request is row `rowInCut` of the cut, and has there the
+  -- same verdict
   pub keeps : (s : Station) → onWindow (q .nx) (q .ny) w s ≡ true → onWindow (q .nx) (q .ny) (cutOf q w) s ≡ true
   pub rows : (k : ℕ) (o : Station) → k < length (q .stations) → onWindow (q .nx) (q .ny) (cutOf q w) (getD (q .stations) k o) ≡ true
       → (rowInCut q w k < length (cut q w .stations))
