@@ -1,12 +1,12 @@
-// The value of a field at a position (document 01, "One scan", Value at a station).
+// Whether a position is on the grid or near it, its place there, and the value of a field at that (document 01, "One scan", Value at a station;
+// document 02, request 1).
 ghost use mathlib.Core.Path.{_≡_};
-ghost use mathlib.Core.Bool.{_&&_};
 ghost use Prim.Native.Nat.{_+_, _-_, _*_, _≤_};
 ghost use lib.ListN.{length};
 ghost use lib.IntN.{pos, natAbs, _+ℤ_, _*ℤ_};
-ghost use Rattle.scheme.specs.Units.{mostSide, fieldOf, step, border};
+ghost use Rattle.scheme.specs.Units.{mostSide, fieldOf, step, mostBeyond};
 ghost use Rattle.scheme.specs.Rounding.{rounded};
-ghost use Rattle.scheme.specs.Verdicts.{nearAxis};
+ghost use Rattle.scheme.specs.Verdicts.{nearAxis, nearGrid};
 ghost use Rattle.scheme.specs.Value.{place, cell, sumAt};
 ghost use Rattle.scheme.specs.Accepted.{Shaped};
 ghost use Rattle.field_value.specs.Corners.{blend, Spotted};
@@ -17,21 +17,21 @@ const STEP: u32 = 64;
 
 // ---- positions on and off the grid
 
-// Off an axis of n points by at most `off` units; by none is on it, its ends included.
-fn near_axis(off: u32, n: usize, x: i32) -> bool
-    requires { ⌜ (off ≤ border) × (1 ≤ n) × (n ≤ mostSide) ⌝ }
-    ensures { λ r. ⌜ r ≡ nearAxis off n x ⌝ }
+// Beyond an axis of n points by at most so many units; by none is on it, its ends included.
+fn near_axis(beyond: u32, n: usize, x: i32) -> bool
+    requires { ⌜ (beyond ≤ mostBeyond) × (1 ≤ n) × (n ≤ mostSide) ⌝ }
+    ensures { λ r. ⌜ r ≡ nearAxis beyond n x ⌝ }
 {
-    let past = off as i32;
+    let past = beyond as i32;
     (-past <= x) & (x <= (64 * (n - 1)) as i32 + past)
 }
 
-// Off a grid of nx columns and ny rows by at most that much, along x and along y.
-pub fn near_grid(off: u32, nx: usize, ny: usize, x: i32, y: i32) -> bool
-    requires { ⌜ (off ≤ border) × (1 ≤ nx) × (nx ≤ mostSide) × (1 ≤ ny) × (ny ≤ mostSide) ⌝ }
-    ensures { λ r. ⌜ r ≡ nearAxis off nx x && nearAxis off ny y ⌝ }
+// Beyond a grid of nx columns and ny rows by at most so many units, along x and along y.
+pub fn near_grid(beyond: u32, nx: usize, ny: usize, x: i32, y: i32) -> bool
+    requires { ⌜ (beyond ≤ mostBeyond) × (1 ≤ nx) × (nx ≤ mostSide) × (1 ≤ ny) × (ny ≤ mostSide) ⌝ }
+    ensures { λ r. ⌜ r ≡ nearGrid beyond nx ny x y ⌝ }
 {
-    near_axis(off, nx, x) & near_axis(off, ny, y)
+    near_axis(beyond, nx, x) & near_axis(beyond, ny, y)
 }
 
 // The place of a position on an axis of n points: itself, if it is on the axis, and else the nearer end.

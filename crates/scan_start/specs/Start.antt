@@ -10,7 +10,7 @@ use lib.ListN.{length, getD}
 use lib.IntN.{ℤ, pos, negsuc, natAbs}
 use Rattle.lists.specs.Tests.{and-true}
 use Rattle.lists.specs.Tab.{tab, length-tab, getD-tab, is-tab, map-tab, tab-same}
-use Rattle.scheme.specs.Units.{isMissing, mostSide, stored, fieldOf, step, Station, border, guess}
+use Rattle.scheme.specs.Units.{isMissing, mostSide, stored, fieldOf, step, Station, mostBeyond, guess}
 use Rattle.scheme.specs.Verdicts.{nearAxis, offGrid, firstThatFits, beforeScans}
 use Rattle.scheme.specs.Most.{mostAlong}
 use Rattle.scheme.specs.Scan.{start, afterWithin}
@@ -35,8 +35,8 @@ all-five false false false true e h = absurd (omega arith)
 all-five false false false false true h = absurd (omega arith)
 all-five false false false false false h = (refl, refl)
 
-accepted-near : (nx ny T A : ℕ) (s : Station) → beforeScans border nx ny T A s ≡ 0
-    → (isMissing (s .value) ≡ false) × (nearAxis border nx (s .x) ≡ true) × (nearAxis border ny (s .y) ≡ true)
+accepted-near : (nx ny T A : ℕ) (s : Station) → beforeScans mostBeyond nx ny T A s ≡ 0
+    → (isMissing (s .value) ≡ false) × (nearAxis mostBeyond nx (s .x) ≡ true) × (nearAxis mostBeyond ny (s .y) ≡ true)
 unfolding beforeScans offGrid
 accepted-near nx ny T A s e =
     let (a, b) = all-five _ _ _ _ _ e in
@@ -44,14 +44,14 @@ accepted-near nx ny T A s e =
     (a, x, y)
 
 -- so it is not far along an axis
-near-small : (n : ℕ) (x : ℤ) → n ≤ mostSide → nearAxis border n x ≡ true → natAbs x ≤ mostAlong
+near-small : (n : ℕ) (x : ℤ) → n ≤ mostSide → nearAxis mostBeyond n x ≡ true → natAbs x ≤ mostAlong
 unfolding nearAxis
-near-small n (pos x) few e = omega (arith, leb-true x (step * (n - 1) + border) e)
-near-small n (negsuc x) few e = omega (arith, leb-true (suc x) border e)
+near-small n (pos x) few e = omega (arith, leb-true x (step * (n - 1) + mostBeyond) e)
+near-small n (negsuc x) few e = omega (arith, leb-true (suc x) mostBeyond e)
 
 -- the verdict of row k before the first scan
 abbrev pub firstAt : Terms → List (List ℤ) → List (List ℕ) → ℕ → ℕ
-firstAt t numbers minutes k = beforeScans border (t .nx) (t .ny) (t .time) (t .age) (stationIn numbers minutes k)
+firstAt t numbers minutes k = beforeScans mostBeyond (t .nx) (t .ny) (t .time) (t .age) (stationIn numbers minutes k)
 
 -- the start
 module _ (t : Terms) (first : List ℤ) (numbers : List (List ℤ)) (minutes : List (List ℕ)) (sound : Sound (requestIn t first numbers minutes)) (st : List ℕ)
@@ -59,7 +59,7 @@ module _ (t : Terms) (first : List ℤ) (numbers : List (List ℤ)) (minutes : L
   verdict-is : (k : ℕ) → k < t .stations → getD st k 0 ≡ firstAt t numbers minutes k
   verdict-is k h = ap (λ (l : List ℕ). getD l k 0) verdicts ∙ getD-tab (t .stations) _ k 0 h
 
-  start-rows : start border (requestIn t first numbers minutes) .rows ≡ tab (t .stations) (rowIn numbers minutes st)
+  start-rows : start mostBeyond (requestIn t first numbers minutes) .rows ≡ tab (t .stations) (rowIn numbers minutes st)
   unfolding start
   start-rows = map-tab _ (t .stations) (stationIn numbers minutes) ∙ tab-same (t .stations) _ _ (λ k h. cc (verdict-is k h))
 

@@ -1,4 +1,5 @@
--- Judging the stations from the field as a scan finds it: the difference of each accepted row, and its verdict after the E test.
+-- Judging the stations from the field as a scan finds it, and posts from the first guess: the difference of each accepted row, and its verdict
+-- after the E test.
 use Prim.Native.Nat.{ℕ, _+_, _*_, _≤_, _<_}
 use mathlib.Core.Path.{_≡_, refl}
 use mathlib.Core.Bool.{Bool, true, false, cond}

@@ -1,4 +1,4 @@
-// How a scan judges the stations (document 01, "One scan", Difference).
+// How a scan judges the stations (document 01, "One scan", Difference; document 02, request 1).
 ghost use mathlib.Core.Path.{_≡_};
 ghost use Prim.Native.Nat.{_≤_};
 ghost use lib.ListN.{length};

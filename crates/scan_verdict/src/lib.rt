@@ -1,14 +1,14 @@
-// The verdict of a row before the first scan (document 01, "Verdicts before the first scan").
+// The verdict of a row before the first scan (document 01, "Verdicts before the first scan"; document 02, request 1).
 ghost use mathlib.Core.Path.{_≡_};
 ghost use mathlib.Core.List.{List};
 ghost use Prim.Native.Nat.{_≤_};
 ghost use lib.IntN.{ℤ};
-ghost use Rattle.scheme.specs.Units.{mostSide, border};
+ghost use Rattle.scheme.specs.Units.{mostSide, mostBeyond};
 ghost use Rattle.scheme.specs.Verdicts.{serves, outOfService, beforeScans};
 ghost use Rattle.request.specs.Tables.{stationOf};
 
-// A station off the grid by at most so many units on each axis takes part.
-const BORDER: u32 = 256;
+// A station off the grid by at most so many units on each axis takes part, a post.
+const MOST_BEYOND: u32 = 256;
 
 // In service at a minute: from ≤ minute < until, and with no end the upper test holds.
 fn serves(minutes: [u32; 3], minute: u32) -> bool
@@ -44,7 +44,7 @@ pub fn first_verdict(
     age: u32,
 ) -> u8
     requires { ⌜ (1 ≤ nx) × (nx ≤ mostSide) × (1 ≤ ny) × (ny ≤ mostSide) ⌝ }
-    ensures { λ r. ⌜ r ≡ beforeScans border nx ny time age (stationOf numbers minutes) ⌝ }
+    ensures { λ r. ⌜ r ≡ beforeScans mostBeyond nx ny time age (stationOf numbers minutes) ⌝ }
 {
     if refusal_checks::is_missing(numbers[request::VALUE]) {
         return 1;
@@ -59,7 +59,13 @@ pub fn first_verdict(
     if age < time - observed {
         return 4;
     }
-    if !field_value::near_grid(BORDER, nx, ny, numbers[request::X], numbers[request::Y]) {
+    if !field_value::near_grid(
+        MOST_BEYOND,
+        nx,
+        ny,
+        numbers[request::X],
+        numbers[request::Y],
+    ) {
         return 5;
     }
     0

@@ -10,7 +10,7 @@ use lib.ListN.{length, take, drop, length-append, length-take}
 use lib.IntN.{ℤ, natAbs}
 use Rattle.lists.specs.Tests.{cond-both}
 use Rattle.lists.specs.Members.{All, none, more, all-map, all-of, all-take, all-drop, all-tab}
-use Rattle.scheme.specs.Units.{Station, border, stored, E, Request, Call, asked}
+use Rattle.scheme.specs.Units.{Station, mostBeyond, stored, E, Request, Call, asked}
 use Rattle.scheme.specs.Refusals.{accepted, analysisRefusal}
 use Rattle.scheme.specs.Verdicts.{isAccepted, firstThatFits, beforeScans}
 use Rattle.scheme.specs.Difference.{Row, afterTest, judged}
@@ -40,13 +40,13 @@ abbrev Small : Row → Type 0
 Small r = r .verdict ≤ 16
 
 module _ (q : Request) where
-  before-small : (s : Station) → beforeScans border (q .nx) (q .ny) (q .T) (q .A) s ≤ 16
+  before-small : (s : Station) → beforeScans mostBeyond (q .nx) (q .ny) (q .T) (q .A) s ≤ 16
   unfolding beforeScans
   before-small s = fits-small 16 (more (omega arith) (more (omega arith) (more (omega arith) (more (omega arith) (more (omega arith) none)))))
 
-  first-small : All Small (start border q .rows)
+  first-small : All Small (start mostBeyond q .rows)
   unfolding start
-  first-small = all-map (λ s. beforeScans border (q .nx) (q .ny) (q .T) (q .A) s ≤ 16) Small _ (λ s h. h) (all-of _ before-small (q .stations))
+  first-small = all-map (λ s. beforeScans mostBeyond (q .nx) (q .ny) (q .T) (q .A) s ≤ 16) Small _ (λ s h. h) (all-of _ before-small (q .stations))
 
   scan-small : (m : ℕ) (found : State) → m < 6 → All Small (found .rows) → All Small (scan q m found .rows)
   unfolding scan rowsJudged judged

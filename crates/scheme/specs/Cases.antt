@@ -12,7 +12,7 @@ use Rattle.lists.specs.Tab.{tab}
 use Rattle.lists.specs.Sums.{total}
 use Rattle.lists.specs.First.{first, firstFrom, orNext}
 use Rattle.scheme.specs.declared.Reading.the-variants.{Backed, FirstGuess, OffGrid, Refused}
-use Rattle.scheme.specs.Units.{isMissing, missingMark, Field, stored, fieldOf, mostStations, Station, noEnd, Columns, stationAt, stationsOf, border, R, E, Request, Call, guess, asking}
+use Rattle.scheme.specs.Units.{isMissing, missingMark, Field, stored, fieldOf, mostStations, Station, noEnd, Columns, stationAt, stationsOf, mostBeyond, R, E, Request, Call, guess, asking}
 use Rattle.scheme.specs.Refusals.{Refusal, accepted, refused, asOne, inOrder, refusedIf, refusedAt, badShape, Span, Window, badWindow, badLengths, badColumns, badScans, rising, badScan, badGuess, badStation, fromFive, analysisRefusal, windowRefusal, summaryRefusal, readingRefusal}
 use Rattle.scheme.specs.Verdicts.{serves, outOfService, nearAxis, offGrid, firstThatFits, beforeScans}
 use Rattle.scheme.specs.Rounding.{rounded}
@@ -200,7 +200,7 @@ refusals =
 -- ---- verdicts before the first scan, on a grid of two by two at minute 1000, with readings of up to 60 minutes
 
 abbrev verdict : Station → ℕ
-verdict s = beforeScans border 2 2 1000 60 s
+verdict s = beforeScans mostBeyond 2 2 1000 60 s
 
 -- a good reading of another minute, of a mast with another service, and at another place
 abbrev observedAt : ℕ → Station
@@ -221,16 +221,16 @@ pub record Verdicts : Type 0 where
   pub read-when-put-up : verdict (serving 990 990 noEnd) ≡ 0
   pub taken-down-by-T : verdict (serving 990 0 1000) ≡ 2
   pub taken-down-after-T : verdict (serving 990 0 1001) ≡ 0
-  pub put-up-after-T : beforeScans border 2 2 989 60 (serving 990 990 noEnd) ≡ 2
-  pub read-when-taken-down : beforeScans border 2 2 990 60 (serving 1000 0 1000) ≡ 2
-  pub no-end : beforeScans border 2 2 4294967295 60 (serving 4294967295 0 noEnd) ≡ 0
+  pub put-up-after-T : beforeScans mostBeyond 2 2 989 60 (serving 990 990 noEnd) ≡ 2
+  pub read-when-taken-down : beforeScans mostBeyond 2 2 990 60 (serving 1000 0 1000) ≡ 2
+  pub no-end : beforeScans mostBeyond 2 2 4294967295 60 (serving 4294967295 0 noEnd) ≡ 0
   pub two-before-three : verdict (serving 1001 0 1001) ≡ 2
   -- 3 and 4
   pub read-at-T : verdict (observedAt 1000) ≡ 0
   pub read-after-T : verdict (observedAt 1001) ≡ 3
   pub of-the-greatest-age : verdict (observedAt 940) ≡ 0
   pub too-old : verdict (observedAt 939) ≡ 4
-  pub any-age : beforeScans border 2 2 4294967295 4294967295 (observedAt 0) ≡ 0
+  pub any-age : beforeScans mostBeyond 2 2 4294967295 4294967295 (observedAt 0) ≡ 0
   -- 5: a post is off the grid by at most 256 units on each axis
   pub far-corner : verdict (standing (pos 64) (pos 64)) ≡ 0
   pub posts-at-corners : (verdict (standing (pos 320) (pos 320)) ≡ 0) × (verdict (standing (negsuc 255) (negsuc 255)) ≡ 0)

@@ -10,7 +10,7 @@ use Rattle.integers.specs.Parts.{up, dn}
 use Rattle.lists.specs.Tests.{and-true, leb-same}
 use Rattle.lists.specs.Sums.{upTo-same}
 use Rattle.lists.specs.Parted.{each-map}
-use Rattle.scheme.specs.Units.{Field, step, Station, border, R, E, Request, guess}
+use Rattle.scheme.specs.Units.{Field, step, Station, mostBeyond, R, E, Request, guess}
 use Rattle.scheme.specs.Refusals.{Window}
 use Rattle.scheme.specs.Verdicts.{isAccepted, serves, outOfService, nearAxis, onGrid, offGrid, beforeScans}
 use Rattle.scheme.specs.Rounding.{rounded}
@@ -61,7 +61,7 @@ module _ (q : Request) where
         Mark = ℕ;
         keeps = λ a b. onWindow (a .n) (b .n) (part a b);
         counted = λ a b. counted (part a b);
-        begins = λ nx ny. begins border nx ny (q .T) (q .A);
+        begins = λ nx ny. begins mostBeyond nx ny (q .T) (q .A);
         difference = difference;
         buddies = alone;
         judge = λ m d h v. afterTest (m + 1) (E (q .plan) m) d v;
@@ -108,7 +108,7 @@ module _ (q : Request) where
 -- ---- the laws
 
 -- a position is on a stretch if its place is
-pub on-span : (a : Axis) (x : ℤ) → onSpan (a .n) (a .span) x ≡ true → On a (place (a .n) x)
+on-span : (a : Axis) (x : ℤ) → onSpan (a .n) (a .span) x ≡ true → On a (place (a .n) x)
 unfolding onSpan
 on-span a x e = let (l, h) = and-true _ _ e in record { low = leb-true _ _ l; high = leb-true _ _ h }
 
@@ -148,9 +148,9 @@ module _ (q : Request) where
     on-y : On b (place (b .n) (s .y))
     on-y = on-span b (s .y) (and-true (onSpan (a .n) (a .span) (s .x)) (onSpan (b .n) (b .span) (s .y)) e .1)
 
-    begins-counted : beforeScans border (a .n) (b .n) (q .T) (q .A) s ≡ beforeScans border (len a) (len b) (q .T) (q .A) (counted (part a b) s)
+    begins-counted : beforeScans mostBeyond (a .n) (b .n) (q .T) (q .A) s ≡ beforeScans mostBeyond (len a) (len b) (q .T) (q .A) (counted (part a b) s)
     unfolding beforeScans serves outOfService offGrid counted
-    begins-counted = rw (near-counted border a (s .x) on-x, near-counted border b (s .y) on-y)
+    begins-counted = rw (near-counted mostBeyond a (s .x) on-x, near-counted mostBeyond b (s .y) on-y)
 
     -- the value there, of any field that is the same at the corners with a share
     value-local : (z z' : Field ℤ) → SameBeside a b (place (a .n) (s .x)) (place (b .n) (s .y)) z z'

@@ -9,7 +9,7 @@ use lib.ListN.{getD, List·getD-map}
 use lib.IntN.{ℤ, _+ℤ_}
 use Rattle.lists.specs.Members.{All, all-map, all-also, all-of}
 use Rattle.lists.specs.Keep.{keep, total-keep, keep-map}
-use Rattle.scheme.specs.Units.{isMissing, Field, stored, Station, border, R, E, Request, guess, withStations}
+use Rattle.scheme.specs.Units.{isMissing, Field, stored, Station, mostBeyond, R, E, Request, guess, withStations}
 use Rattle.scheme.specs.Verdicts.{isAccepted, serves, outOfService, firstThatFits, beforeScans}
 use Rattle.scheme.specs.Difference.{Row, difference, afterTest, judged}
 use Rattle.scheme.specs.Correction.{Sums, nothing, plus, share, correction, backedBy}
@@ -98,7 +98,7 @@ taken-down-is-out-of-service b nx ny T A s there gone = rw (there, gone)
 module _ (q : Request) where
   -- a mast that none of the verdicts 1 to 5 fits
   abbrev pub alive : Station → Bool
-  alive s = isAccepted (beforeScans border (q .nx) (q .ny) (q .T) (q .A) s)
+  alive s = isAccepted (beforeScans mostBeyond (q .nx) (q .ny) (q .T) (q .A) s)
 
   abbrev pub withoutDeadMasts : Request
   withoutDeadMasts = withStations q (keep alive (q .stations))
@@ -118,7 +118,7 @@ module _ (q : Request) where
     dead : All Dead (after q m .rows)
 
   abbrev begun : Station → Row
-  begun = begins border (q .nx) (q .ny) (q .T) (q .A)
+  begun = begins mostBeyond (q .nx) (q .ny) (q .T) (q .A)
 
   alike-start : Alike 0
   unfolding afterWithin start guess

@@ -7,7 +7,8 @@ use Rattle.scheme.specs.Units.{Station, Field}
 use Rattle.scheme.specs.Verdicts.{onGrid, isAccepted}
 use Rattle.scheme.specs.Value.{valueAt}
 
--- D = observation - that value: from the field as the scan finds it; a post's always from the first guess, at its nearest place on the grid
+-- D = observation - that value, from the field as the scan finds it. A post's is always from the first guess at its nearest place on the grid
+-- (document 02, 1)
 unfoldable pub difference : (nx ny : ℕ) → (guess z : Field ℤ) → Station → ℤ
 difference nx ny guess z s = s .value -ℤ valueAt nx ny (cond (onGrid nx ny (s .x) (s .y)) z guess) s
 

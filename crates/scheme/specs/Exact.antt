@@ -31,7 +31,7 @@ use Rattle.scheme.specs.declared.Reading.the-variants.{Backed, FirstGues
 use Rattle.scheme.specs.declared.Units.{Units}
 use Rattle.scheme.specs.Units.{Field, fieldOf}
 use Rattle.scheme.specs.Refusals.{Refusal, accepted, refused, unlessRefused, summaryRefusal, readingRefusal, refusedIf, badShape}
-use Rattle.scheme.specs.Verdicts.{onAxis}
+use Rattle.scheme.specs.Verdicts.{onGrid}
 use Rattle.scheme.specs.Value.{place, cell, corners, sumAt}
 use Rattle.scheme.specs.Readings.{double, positiveZero, isBacked, readingIn, reading, numbersOf, valueOf, lowest, highest, zeros, unitsOf, summary}
 use Rattle.scheme.specs.Accepted.{Shaped, shaped}
@@ -208,7 +208,7 @@ module _ (nx ny : ℕ) (field : List ℤ) (x y : ℤ) (i32 : All (SFits w32) fie
       go false true shape = tt
       go false false shape =
           let s = shape refl in
-          on (onAxis nx x && onAxis ny y) (isBacked nx ny (fieldOf 0 nx support) (place nx x) (place ny y)) (reading-value-exact (s .two-columns) (s .two-rows))
+          on (onGrid nx ny x y) (isBacked nx ny (fieldOf 0 nx support) (place nx x) (place ny y)) (reading-value-exact (s .two-columns) (s .two-rows))
 
 -- ---- the summary
 

@@ -2,7 +2,7 @@
 use Prim.Native.Nat.{ℕ, zero, suc, _+_, _*_}
 use mathlib.Core.Path.{_≡_, _∙_}
 use lib.ListN.{length, length-map}
-use Rattle.scheme.specs.Units.{border, E, Request}
+use Rattle.scheme.specs.Units.{mostBeyond, E, Request}
 use Rattle.scheme.specs.Difference.{Row, judged}
 use Rattle.scheme.specs.Scan.{State, begins, start, differences, rowsJudged, scan, afterWithin, after, analysis}
 use Rattle.scheme.specs.Stored.{length-stored}
@@ -15,7 +15,7 @@ module _ (q : Request) where
 
   pub rows-many : (m : ℕ) → length (after q m .rows) ≡ length (q .stations)
   unfolding afterWithin start
-  rows-many zero = length-map (q .stations) (begins border (q .nx) (q .ny) (q .T) (q .A))
+  rows-many zero = length-map (q .stations) (begins mostBeyond (q .nx) (q .ny) (q .T) (q .A))
   rows-many (suc m) = scan-rows m (after q m) ∙ rows-many m
 
   pub grid-long : length (analysis q .grid) ≡ q .nx * q .ny

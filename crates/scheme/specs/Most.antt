@@ -1,6 +1,6 @@
 -- The bounds that follow from the scale and the greatest counts, each under a name.
 use Prim.Native.Nat.{ℕ, _+_, _-_, _*_, _/_}
-use Rattle.scheme.specs.Units.{mostValue, mostSide, step, mostStations, border, mostScans, mostRadius, mostLimit}
+use Rattle.scheme.specs.Units.{mostValue, mostSide, step, mostStations, mostBeyond, mostScans, mostRadius, mostLimit}
 use Rattle.scheme.specs.Weight.{scale}
 
 -- points of a grid, and how far along an axis a station that takes part is at most: a post beyond the last point
@@ -8,7 +8,7 @@ abbrev pub mostPoints : ℕ
 mostPoints = mostSide * mostSide
 
 abbrev pub mostAlong : ℕ
-mostAlong = step * (mostSide - 1) + border
+mostAlong = step * (mostSide - 1) + mostBeyond
 
 -- a squared radius
 abbrev pub mostSquare : ℕ

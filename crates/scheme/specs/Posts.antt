@@ -1,18 +1,18 @@
 -- Posts beyond the border: their difference is the same in every scan, so that none is rejected later under limits that do not fall; and for a
--- request without posts every border gives the same run, document 01's among them.
+-- request without posts nothing moves, however far off a post may be: document 01, where it may not be off at all, gives the same run.
 use Prim.Native.Nat.{ℕ, zero, suc, _+_, _-_, _*_, _≤_, _<_}
 use native.Mathlib.Omega.{arith}
 use native.Mathlib.Nat.{add-zero}
 use mathlib.Core.Path.{_≡_, refl, sym, ap, _∙_}
 use mathlib.Core.Logic.{_⊎_, inl, inr}
-use mathlib.Core.Bool.{true, false, not, _&&_}
+use mathlib.Core.Bool.{true, false, not}
 use mathlib.Core.List.{List, map}
 use borrow.Author.Tests.{leb-true, le-leb, le-ltb, eqb-true}
 use lib.IntN.{ℤ, pos, negsuc, natAbs, _-ℤ_}
 use Rattle.lists.specs.Tests.{true-or-false, not-both, and-true}
 use Rattle.lists.specs.Members.{All, none, more}
 use Rattle.scheme.specs.Units.{step, Station, E, Request, guess}
-use Rattle.scheme.specs.Verdicts.{nearAxis, onGrid, offGrid, isAccepted, beforeScans}
+use Rattle.scheme.specs.Verdicts.{nearAxis, nearGrid, onGrid, offGrid, isAccepted, beforeScans}
 use Rattle.scheme.specs.Value.{valueAt}
 use Rattle.scheme.specs.Difference.{Row, difference, afterTest, judged}
 use Rattle.scheme.specs.Scan.{State, begins, start, differences, scan, afterWithin, after}
@@ -22,7 +22,7 @@ use Rattle.scheme.specs.DeadMasts.{rowAfter, judgedIn, row-next}
 -- ---- the difference of a post
 
 -- a station that is not on the grid
-abbrev pub Beyond : Request → Station → Type 0
+abbrev Beyond : Request → Station → Type 0
 Beyond q s = onGrid (q .nx) (q .ny) (s .x) (s .y) ≡ false
 
 -- whatever the scan finds, it is the observation less the first guess at the nearest place on the grid
@@ -59,7 +59,7 @@ module _ (q : Request) (m n : ℕ) (off : Beyond q (rowAfter q (suc m) n .statio
       ∙ within-stays (suc m + t + 1) (E (q .plan) (suc m + t)) (differences q (after q (suc m + t))) (rowAfter q (suc m) n) e
       (rw (post-differs-from-first-guess q (after q (suc m + t)) (rowAfter q (suc m) n .station) off) (omega (arith, within-limit, limits t (omega arith))))
 
--- ---- without posts every border is one
+-- ---- without posts nothing moves
 
 near-more : (b b' n : ℕ) (x : ℤ) → b ≤ b' → nearAxis b n x ≡ true → nearAxis b' n x ≡ true
 unfolding nearAxis
@@ -67,29 +67,28 @@ near-more b b' n (pos x) h e =
     le-leb x (step * (n - 1) + b') (omega (arith, leb-true x (step * (n - 1) + b) e))
 near-more b b' n (negsuc x) h e = le-leb (suc x) b' (omega (arith, leb-true (suc x) b e))
 
-module _ (nx ny b b' : ℕ) (s : Station) (h : b ≤ b') where
-  both-more : nearAxis b nx (s .x) && nearAxis b ny (s .y) ≡ true → nearAxis b' nx (s .x) && nearAxis b' ny (s .y) ≡ true
-  both-more e =
-      let (x, y) = and-true (nearAxis b nx (s .x)) (nearAxis b ny (s .y)) e in
-      rw (near-more b b' nx (s .x) h x, near-more b b' ny (s .y) h y)
+module _ (nx ny b b' : ℕ) (h : b ≤ b') where
+  grid-more : (x y : ℤ) → nearGrid b nx ny x y ≡ true → nearGrid b' nx ny x y ≡ true
+  grid-more x y e =
+      let (ex, ey) = and-true (nearAxis b nx x) (nearAxis b ny y) e in
+      rw (near-more b b' nx x h ex, near-more b b' ny y h ey)
 
-  off-less : offGrid b' nx ny s ≡ true → offGrid b nx ny s ≡ true
+  off-less : (s : Station) → offGrid b' nx ny s ≡ true → offGrid b nx ny s ≡ true
   unfolding offGrid
-  off-less e = go (true-or-false (nearAxis b nx (s .x) && nearAxis b ny (s .y)))
+  off-less s e = go (true-or-false (nearGrid b nx ny (s .x) (s .y)))
     where
-      go : (nearAxis b nx (s .x) && nearAxis b ny (s .y) ≡ true) ⊎ (nearAxis b nx (s .x) && nearAxis b ny (s .y) ≡ false)
-          → not (nearAxis b nx (s .x) && nearAxis b ny (s .y)) ≡ true
-      go (inl near) = absurd (not-both (sym e ∙ rw (both-more near)))
+      go : (nearGrid b nx ny (s .x) (s .y) ≡ true) ⊎ (nearGrid b nx ny (s .x) (s .y) ≡ false) → not (nearGrid b nx ny (s .x) (s .y)) ≡ true
+      go (inl near) = absurd (not-both (sym e ∙ rw (grid-more (s .x) (s .y) near)))
       go (inr far) = rw far
 
--- a station that is on the grid, or off it by more than any border in question
-abbrev pub NoPost : (most : ℕ) → Request → Station → Type 0
+-- a station that is on the grid, or off it by more than the most that is in question
+abbrev NoPost : (most : ℕ) → Request → Station → Type 0
 NoPost most q s = (onGrid (q .nx) (q .ny) (s .x) (s .y) ≡ true) ⊎ (offGrid most (q .nx) (q .ny) s ≡ true)
 
 module _ (q : Request) (most b b' : ℕ) (h : b ≤ most) (h' : b' ≤ most) where
   same-off : (s : Station) → NoPost most q s → offGrid b (q .nx) (q .ny) s ≡ offGrid b' (q .nx) (q .ny) s
-  same-off s (inl on) = unfold offGrid in rw (both-more (q .nx) (q .ny) 0 b s (omega arith) on, both-more (q .nx) (q .ny) 0 b' s (omega arith) on)
-  same-off s (inr off) = off-less (q .nx) (q .ny) b most s h off ∙ sym (off-less (q .nx) (q .ny) b' most s h' off)
+  same-off s (inl on) = unfold offGrid in rw (grid-more (q .nx) (q .ny) 0 b (omega arith) (s .x) (s .y) on, grid-more (q .nx) (q .ny) 0 b' (omega arith) (s .x) (s .y) on)
+  same-off s (inr off) = off-less (q .nx) (q .ny) b most h s off ∙ sym (off-less (q .nx) (q .ny) b' most h' s off)
 
   same-first : (s : Station) → NoPost most q s → beforeScans b (q .nx) (q .ny) (q .T) (q .A) s ≡ beforeScans b' (q .nx) (q .ny) (q .T) (q .A) s
   unfolding beforeScans
@@ -99,7 +98,7 @@ module _ (q : Request) (most b b' : ℕ) (h : b ≤ most) (h' : b' ≤ most) whe
   same-rows none = refl
   same-rows (more {a = s} post rest) = cc (same-first s post, same-rows rest)
 
-  pub without-posts-every-border-is-one : All (NoPost most q) (q .stations) → (m : ℕ) → afterWithin b q m ≡ afterWithin b' q m
+  pub without-posts-nothing-moves : All (NoPost most q) (q .stations) → (m : ℕ) → afterWithin b q m ≡ afterWithin b' q m
   unfolding afterWithin start
-  without-posts-every-border-is-one none-is zero = cc (same-rows none-is)
-  without-posts-every-border-is-one none-is (suc m) = ap (scan q m) (without-posts-every-border-is-one none-is m)
+  without-posts-nothing-moves none-is zero = cc (same-rows none-is)
+  without-posts-nothing-moves none-is (suc m) = ap (scan q m) (without-posts-nothing-moves none-is m)

@@ -25,7 +25,7 @@ widened reach n s = record { first = s .first - reach; last = min (s .last + rea
 abbrev pub cutOf : Request → Window → Window
 cutOf q w = record { columns = widened (reach (q .plan)) (q .nx) (w .columns); rows = widened (reach (q .plan)) (q .ny) (w .rows) }
 
--- The cut keeps its stations, those on its edge included. A station belongs to it if its nearest position on the whole grid does
+-- The cut keeps its stations, those on its edge included. A station belongs to it if its nearest position on the whole grid does (document 02, 1)
 unfoldable pub onSpan : ℕ → Span → ℤ → Bool
 onSpan n c x = among (step * c .first) (step * c .last) (place n x)
 

@@ -4,7 +4,7 @@ use mathlib.Core.Bool.{cond}
 use mathlib.Core.List.{List, map}
 use lib.IntN.{ℤ, _+ℤ_}
 use Rattle.lists.specs.Sums.{total}
-use Rattle.scheme.specs.Units.{Station, border, Field, stored, R, E, Request, guess}
+use Rattle.scheme.specs.Units.{Station, mostBeyond, Field, stored, R, E, Request, guess}
 use Rattle.scheme.specs.Verdicts.{beforeScans}
 use Rattle.scheme.specs.Difference.{Row, difference, judged}
 use Rattle.scheme.specs.Correction.{Sums, nothing, plus, share, correction, backedBy}
@@ -16,12 +16,12 @@ pub record State : Type 0 where
   pub support : Field ℕ
   pub rows : List Row
 
--- a row before the first scan, with posts off the grid by at most b units
-abbrev pub begins : (b nx ny T A : ℕ) → Station → Row
-begins b nx ny T A s = record { station = s; verdict = beforeScans b nx ny T A s }
+-- a row before the first scan, with posts off the grid by at most so much
+abbrev pub begins : (beyond nx ny T A : ℕ) → Station → Row
+begins beyond nx ny T A s = record { station = s; verdict = beforeScans beyond nx ny T A s }
 
-unfoldable pub start : (b : ℕ) → Request → State
-start b q = record { field = guess q; support = λ i j. 0; rows = map (begins b (q .nx) (q .ny) (q .T) (q .A)) (q .stations) }
+unfoldable pub start : (beyond : ℕ) → Request → State
+start beyond q = record { field = guess q; support = λ i j. 0; rows = map (begins beyond (q .nx) (q .ny) (q .T) (q .A)) (q .stations) }
 
 -- ---- scan number m + 1, from the state that it finds
 
@@ -51,13 +51,13 @@ module _ (q : Request) (m : ℕ) (found : State) where
 
 -- ---- the state after the first m scans, and at the end
 
-unfoldable pub afterWithin : (b : ℕ) → Request → ℕ → State
-afterWithin b q zero = start b q
-afterWithin b q (suc m) = scan q m (afterWithin b q m)
+unfoldable pub afterWithin : (beyond : ℕ) → Request → ℕ → State
+afterWithin beyond q zero = start beyond q
+afterWithin beyond q (suc m) = scan q m (afterWithin beyond q m)
 
--- with posts as far off as they may be
+-- with posts as far off as they may be (document 02, 1)
 abbrev pub after : Request → ℕ → State
-after = afterWithin border
+after = afterWithin mostBeyond
 
 abbrev pub atEnd : Request → State
 atEnd q = after q (q .plan .scans)

@@ -20,7 +20,7 @@ use Rattle.lists.specs.Parted.{rank}
 use Rattle.lists.specs.Sums.{upTo}
 use Rattle.scheme.specs.declared.Reading.{Reading}
 use Rattle.scheme.specs.declared.Summary.{Summary}
-use Rattle.scheme.specs.Units.{isMissing, stored, fieldOf, step, Station, border, Plan, R, E, Request, guess, Call, asked, withStations, asking}
+use Rattle.scheme.specs.Units.{isMissing, stored, fieldOf, step, Station, mostBeyond, Plan, R, E, Request, guess, Call, asked, withStations, asking}
 use Rattle.scheme.specs.Refusals.{accepted, numberOf, placeOf, asOne, badShape, Window, badWindow, fromFive, analysisRefusal, windowRefusal}
 use Rattle.scheme.specs.Verdicts.{serves, onGrid, offGrid, isAccepted, beforeScans}
 use Rattle.scheme.specs.Rounding.{rounded}
@@ -133,7 +133,7 @@ taken-down-is-out-of-service = dead.taken-down-is-out-of-service
 -- the request without the masts that a verdict from 1 to 5 fits
 abbrev withoutDeadMasts : Request → Request
 withoutDeadMasts q =
-    withStations q (keep (λ s. isAccepted (beforeScans border (q .nx) (q .ny) (q .T) (q .A) s)) (q .stations))
+    withStations q (keep (λ s. isAccepted (beforeScans mostBeyond (q .nx) (q .ny) (q .T) (q .A) s)) (q .stations))
 
 pub removing-dead-masts-changes-no-value : (q : Request) → analysis (withoutDeadMasts q) .grid ≡ analysis q .grid
 removing-dead-masts-changes-no-value = dead.removing-dead-masts-changes-no-value
@@ -155,11 +155,11 @@ pub post-stays-accepted : (q : Request) (m n : ℕ) → onGrid (q .nx) (q .ny) (
     → (t : ℕ) → ((k : ℕ) → k < t → E (q .plan) m ≤ E (q .plan) (suc m + k)) → rowAfter q (suc m + t) n ≡ rowAfter q (suc m) n
 post-stays-accepted = posts.post-stays-accepted
 
--- where each station is on the grid, or off it by more than `most`, every border up to that gives the same run; border 0 is document 01
-pub without-posts-every-border-is-one : (q : Request) (most b b' : ℕ) → b ≤ most → b' ≤ most
+-- where each station is on the grid, or off it by more than `most`, it does not matter how far off, up to that, a post may be; 0 is document 01
+pub without-posts-nothing-moves : (q : Request) (most b b' : ℕ) → b ≤ most → b' ≤ most
     → All (λ s. (onGrid (q .nx) (q .ny) (s .x) (s .y) ≡ true) ⊎ (offGrid most (q .nx) (q .ny) s ≡ true)) (q .stations)
     → (m : ℕ) → afterWithin b q m ≡ afterWithin b' q m
-without-posts-every-border-is-one = posts.without-posts-every-border-is-one
+without-posts-nothing-moves = posts.without-posts-nothing-moves
 
 -- ---- DEMAND 3: windows agree with the whole
 
@@ -177,8 +177,8 @@ module _ (c : Call) (w : Window) (grid support verdict : ℕ) (e : analysisRefus
   abbrev row : ℕ → ℕ
   row k = rank (onWindow (q .nx) (q .ny) (cutOf q w)) (q .stations) k
 
-  -- the cut is itself an accepted request; each point of the window has there the whole grid's value and support; each station of the window is
-  -- kept, and has there its verdict
+  -- the cut is itself an accepted request; each point of the window has there the whole grid's value and support; each station whose place
+  -- is on the window, posts included, is kept, and has there its verdict
   pub windows-agree-with-the-whole :
       ((asked (callFor part) ≡ part) × (analysisRefusal (callFor part) (part .nx * part .ny) (part .nx * part .ny) (length (part .stations)) ≡ accepted))
       × ((i j : ℕ) → w .columns .first ≤ i → i ≤ w .columns .last → w .rows .first ≤ j → j ≤ w .rows .last

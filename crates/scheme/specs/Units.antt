@@ -75,9 +75,9 @@ pub record Station : Type 0 where
 abbrev pub mostPosition : ℕ
 mostPosition = 1000000
 
--- A station off the grid by at most 256 units on each axis takes part: a post
-abbrev pub border : ℕ
-border = 256
+-- A station off the grid by at most 256 units on each axis takes part: a post (document 02, 1)
+abbrev pub mostBeyond : ℕ
+mostBeyond = 256
 
 -- Until 4,294,967,295 means no end
 abbrev pub noEnd : ℕ

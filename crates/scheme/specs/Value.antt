@@ -4,7 +4,7 @@ use lib.IntN.{ℤ, pos, negsuc, _+ℤ_, _*ℤ_}
 use Rattle.scheme.specs.Units.{Station, Field, step}
 use Rattle.scheme.specs.Rounding.{rounded}
 
--- the place of a position on an axis of n points: itself, if it is on the grid, and else the nearer bound. That is a post's nearest place
+-- the place of a position on an axis of n points: itself, if it is on the grid, and else the nearer bound. That is a post's nearest place (document 02, 1)
 unfoldable pub place : ℕ → ℤ → ℕ
 place n (pos x) = min x (step * (n - 1))
 place n (negsuc x) = 0

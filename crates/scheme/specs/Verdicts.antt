@@ -14,21 +14,21 @@ serves s minute = leb (s .from) minute && (eqb (s .until) noEnd || ltb minute (s
 unfoldable pub outOfService : (T : ℕ) → Station → Bool
 outOfService T s = not (serves s (s .observed) && serves s T)
 
--- off an axis of n points by at most so many units: -border ≤ x ≤ 64(n-1) + border
-unfoldable pub nearAxis : (border n : ℕ) → ℤ → Bool
-nearAxis border n (pos x) = leb x (step * (n - 1) + border)
-nearAxis border n (negsuc x) = leb (suc x) border
+-- beyond an axis of n points by at most so many units: -beyond ≤ x ≤ 64(n-1) + beyond
+unfoldable pub nearAxis : (beyond n : ℕ) → ℤ → Bool
+nearAxis beyond n (pos x) = leb x (step * (n - 1) + beyond)
+nearAxis beyond n (negsuc x) = leb (suc x) beyond
 
--- on it: 0 ≤ x ≤ 64(n-1). A station on the border is on the grid
-abbrev pub onAxis : ℕ → ℤ → Bool
-onAxis = nearAxis 0
+abbrev pub nearGrid : (beyond nx ny : ℕ) → (x y : ℤ) → Bool
+nearGrid beyond nx ny x y = nearAxis beyond nx x && nearAxis beyond ny y
 
+-- on the grid: 0 ≤ x ≤ 64(nx-1) and 0 ≤ y ≤ 64(ny-1). The border is on it
 abbrev pub onGrid : (nx ny : ℕ) → (x y : ℤ) → Bool
-onGrid nx ny x y = onAxis nx x && onAxis ny y
+onGrid = nearGrid 0
 
--- 5 off the grid by more than the border on either axis
-unfoldable pub offGrid : (border nx ny : ℕ) → Station → Bool
-offGrid border nx ny s = not (nearAxis border nx (s .x) && nearAxis border ny (s .y))
+-- 5 off the grid, by more than so much on either axis (document 02, 1)
+unfoldable pub offGrid : (beyond nx ny : ℕ) → Station → Bool
+offGrid beyond nx ny s = not (nearGrid beyond nx ny (s .x) (s .y))
 
 -- a row that is still accepted
 abbrev pub isAccepted : ℕ → Bool
@@ -40,12 +40,12 @@ firstThatFits [] = 0
 firstThatFits (f ∷ rest) = cond (f .0) (f .1) (firstThatFits rest)
 
 -- 1 missing; 2; 3 observed after T; 4 T - observed > A; 5
-unfoldable pub beforeScans : (border nx ny T A : ℕ) → Station → ℕ
-beforeScans border nx ny T A s =
+unfoldable pub beforeScans : (beyond nx ny T A : ℕ) → Station → ℕ
+beforeScans beyond nx ny T A s =
     firstThatFits
     ((isMissing (s .value), 1)
     ∷ (outOfService T s, 2)
     ∷ (ltb T (s .observed), 3)
     ∷ (ltb A (T - s .observed), 4)
-    ∷ (offGrid border nx ny s, 5)
+    ∷ (offGrid beyond nx ny s, 5)
     ∷ [])

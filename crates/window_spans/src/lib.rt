@@ -1,4 +1,5 @@
-// The reach of a window, the cut, and a station's row on it (document 01, "Reach of a window").
+// The reach of a window, the cut, and a station's row on it (document 01, "Reach of a window"; document 02,
+// request 1).
 ghost use mathlib.Core.Path.{_≡_};
 ghost use mathlib.Core.Bool.{cond};
 ghost use Prim.Native.Nat.{_+_, _-_, _*_, _/_, _≤_, min};

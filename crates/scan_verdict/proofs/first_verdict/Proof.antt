@@ -7,7 +7,7 @@ use borrow.Author.Tests.{lt-ltb, le-ltb, not-true, not-false}
 use lib.ListN.{getD}
 use lib.IntN.{pos}
 use mir.Facts.{toZ-ofZ}
-use Rattle.scheme.specs.Units.{isMissing, border}
+use Rattle.scheme.specs.Units.{isMissing, mostBeyond}
 use Rattle.scheme.specs.Verdicts.{outOfService, nearAxis, offGrid, firstThatFits, beforeScans}
 use Rattle.request.specs.Tables.{stationOf}
 use Rattle.scan_verdict.proofs.first_verdict.Statement.{statement}
@@ -22,7 +22,7 @@ serving : (c : tie.Else2) → (let a = c .before .before .before .before .before
 serving c = sym (c .before .out-of-service .ensures (c .before .before .before .before .before .args .t1)) ∙ c .if2 .left
 
 -- the fifth test
-near-grid-is : (c : tie.After-near-grid) → (let a = c .before .before .before .before .before .before .before .before .before .before .args in c .near-grid .result ≡ nearAxis border (a .nx) (getD (a .t1) 0 (pos 0)) && nearAxis border (a .ny) (getD (a .t1) 1 (pos 0)))
+near-grid-is : (c : tie.After-near-grid) → (let a = c .before .before .before .before .before .before .before .before .before .before .args in c .near-grid .result ≡ nearAxis mostBeyond (a .nx) (getD (a .t1) 0 (pos 0)) && nearAxis mostBeyond (a .ny) (getD (a .t1) 1 (pos 0)))
 near-grid-is c = rw (toZ-ofZ (sfits-of (c .before .before .near-grid-arg .given)), toZ-ofZ (sfits-of (c .before .near-grid-arg2 .given))) at (c .near-grid .ensures)
 
 array-copy-out-is-missing : tie.Need-array-copy-out-is-missing
