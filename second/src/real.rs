@@ -123,12 +123,13 @@ impl Accepted {
         let Plan { limits, rejects, holds } = plan;
         let switch = if smooth { "on" } else { "off" };
         let said = format!(
-            "limits {limits:?}, smoothing {switch}: {rejected} of {of} rejected, {posts} are posts"
+            "limits {limits:?}, smoothing {switch}: {rejected} of {of} rejected; \
+             {posts} of the {of} are posts"
         );
         if holds(rejected, of) {
             Ok(Accepted { call, analysis, said })
         } else {
-            Err(format!("{said}, where {rejects} were to be: choose other limits in real.rs"))
+            Err(format!("{said}; {rejects} were to be rejected: choose other limits in real.rs"))
         }
     }
 

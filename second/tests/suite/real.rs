@@ -55,8 +55,8 @@ fn limits_that_reject_too_many_are_said() {
         (0..512).map(|row| Station { x: row, y: row, value: 1_000_000 }).collect();
     let said = Cases::new(&wild).err().expect("all are rejected");
     let opening = "limits [500000, 500000, 500000, 500000], smoothing off: 512 of 512 rejected";
-    let close = "0 are posts, where none were to be: choose other limits in real.rs";
-    assert_eq!(said, format!("{opening}, {close}"));
+    let close = "0 of the 512 are posts; none were to be rejected: choose other limits in real.rs";
+    assert_eq!(said, format!("{opening}; {close}"));
 }
 
 #[test]
@@ -91,8 +91,8 @@ fn the_cases_are_counted() {
     let out = String::from_utf8(out).expect("plain");
     for said in [
         "536 stations of document 002\n  limits [500000, 500000, 500000, 500000], smoothing off: 0 of",
-        "smoothing off: 96 of 405 rejected, 88 are posts\n",
-        "smoothing on: 329 of 405 rejected, 88 are posts\n",
+        "smoothing off: 96 of 405 rejected; 88 of the 405 are posts\n",
+        "smoothing on: 329 of 405 rejected; 88 of the 405 are posts\n",
         "\nreal analysis, 7 cases\n",
         "\nreal window, 205 cases\n",
         "\nreal reading, 3072 cases\n",
