@@ -31,9 +31,6 @@ enum { MINUTE = 1000, AGE = 120 };
 /* The widest limit that a plan may have. */
 enum { ANY = 2000000 };
 
-/* How far off the grid a post may stand, on each axis. */
-enum { BORDER = 256 };
-
 struct evening {
     const char *name;
     uint32_t nx, ny;
@@ -118,8 +115,9 @@ static void stand_beyond(uint64_t *state, size_t row) {
     size_t a_side = input.evening->stations / 4;
     int32_t right = last_position(input.evening->nx), bottom = last_position(input.evening->ny);
     int32_t length = row % 2 == 0 ? right : bottom;
-    int32_t along = (length + BORDER) * (int32_t)(row / 4) / (int32_t)a_side - draw(state, 1, BORDER);
-    int32_t off = draw(state, 1, BORDER);
+    int32_t along =
+        (length + SOSNYAVIK_MOST_BEYOND) * (int32_t)(row / 4) / (int32_t)a_side - draw(state, 1, SOSNYAVIK_MOST_BEYOND);
+    int32_t off = draw(state, 1, SOSNYAVIK_MOST_BEYOND);
     int32_t x[] = {along, right + off, right - along, -off}, y[] = {-off, along, bottom + off, bottom - along};
     input.x[row] = x[row % 4];
     input.y[row] = y[row % 4];

@@ -6,10 +6,10 @@
 
 #include <string.h>
 
-/* Document 01, "Units and sizes"; BORDER is document 02's: how far off the grid, on each axis, a post may stand. */
+/* Document 01, "Units and sizes"; and document 02's MOST_BEYOND, how far off the grid a post may stand on each axis. */
 enum {
     STEP = 64,
-    BORDER = 256,
+    MOST_BEYOND = 256,
     LEAST_SIDE = 2,
     GREATEST_SIDE = 64,
     MOST_POINTS = GREATEST_SIDE * GREATEST_SIDE,
@@ -82,7 +82,7 @@ static bool in_service(uint32_t from, uint32_t minute, uint32_t until) {
 static int32_t last_position(uint32_t side) { return STEP * ((int32_t)side - 1); }
 
 static bool near_axis(int32_t position, uint32_t side) {
-    return within(position, -BORDER, last_position(side) + BORDER);
+    return within(position, -MOST_BEYOND, last_position(side) + MOST_BEYOND);
 }
 
 static uint8_t verdict_before(const struct request *request, size_t row) {

@@ -37,11 +37,11 @@ static void set_masts(struct evening *evening, uint32_t *state) {
 /* The neighbours' masts: beyond two corners and two sides of the grid, and one too far beyond. */
 static void set_posts(struct evening *evening) {
     const int32_t east = 64 * (int32_t)(evening->nx - 1), south = 64 * (int32_t)(evening->ny - 1);
-    const int32_t x[POSTS] = {-60, east + 90, -100, east / 2, -257}, y[POSTS] = {-40, south + 70, south / 2, -80, 0};
-    for (size_t post = 0; post < POSTS; post++) {
-        size_t row = FIRST_POST + post;
-        numbers_of(evening, X)[row] = x[post];
-        numbers_of(evening, Y)[row] = y[post];
+    const int32_t x[] = {-60, east + 90, -100, east / 2, -(SOSNYAVIK_MOST_BEYOND + 1)};
+    const int32_t y[] = {-40, south + 70, south / 2, -80, 0};
+    for (size_t row = FIRST_POST; row <= TOO_FAR; row++) {
+        numbers_of(evening, X)[row] = x[row - FIRST_POST];
+        numbers_of(evening, Y)[row] = y[row - FIRST_POST];
         numbers_of(evening, VALUE)[row] = 300;
     }
 }
@@ -64,7 +64,7 @@ struct evening make_evening(uint32_t nx, uint32_t ny, size_t masts) {
         minutes_of(&evening, OBSERVED)[2] = MINUTE - AGE - 1;
         numbers_of(&evening, VALUE)[3] += 1280;
     }
-    if (masts >= FIRST_POST + POSTS)
+    if (masts > TOO_FAR)
         set_posts(&evening);
     return evening;
 }

@@ -21,7 +21,7 @@ struct answer {
 
 /* A spring evening on a grid of so many points, the same in every run. Of the masts one was taken down, one says
  * nothing, one is too old and one reports a gross error; then come posts beyond the border, and one too far out. */
-enum { FIRST_POST = 4, POSTS = 5 };
+enum { FIRST_POST = 4, POSTS = 4, TOO_FAR = FIRST_POST + POSTS };
 struct evening make_evening(uint32_t nx, uint32_t ny, size_t masts);
 struct evening copy_evening(const struct evening *evening);
 void free_evening(struct evening *evening);

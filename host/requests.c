@@ -37,7 +37,8 @@ void try_evening(void) {
     const uint8_t *verdict = answer.results[VERDICT].at, *support = answer.results[SUPPORT].at;
     must(verdict[0] == 2 && verdict[1] == 1 && verdict[2] == 4 && verdict[3] == 11, "an evening's verdicts");
     for (size_t post = 0; post < POSTS; post++)
-        must(verdict[FIRST_POST + post] == (post + 1 < POSTS ? 0 : 5), "the verdicts of posts");
+        must(verdict[FIRST_POST + post] == 0, "the verdict of a post");
+    must(verdict[TOO_FAR] == 5, "the verdict of a mast too far beyond the border");
     size_t accepted = 0, reached = 0;
     for (size_t row = 0; row < MASTS; row++)
         accepted += verdict[row] == 0;

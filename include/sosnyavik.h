@@ -91,8 +91,9 @@ extern "C" {
 /*
 ** POSTS
 **
-** A post is a station off the grid by at most SOSNYAVIK_BORDER position units,
-** four grid steps, along x, along y or, at a corner, along both. It takes part:
+** A post is a station off the grid by at most SOSNYAVIK_MOST_BEYOND position
+** units, four grid steps, along x, along y or, at a corner, along both. It takes
+** part:
 **
 **   - Its weight at a point goes by its true distance, as that of any station.
 **   - Its difference is its observation less the first guess at its nearest
@@ -101,11 +102,12 @@ extern "C" {
 **     first rejects a post only if its limit is below those before; and a point
 **     that hears one post alone is moved by all of its difference in each scan.
 **
-** A station on the border, such as x = 0 or x = 64*(nx-1), is on the grid. One
-** that is farther out, along x or y, has verdict 5. A reading beyond the border
-** is off grid, also where a post stands.
+** A station on the border of the grid, where x is 0 or 64*(nx-1) or y is 0 or
+** 64*(ny-1), is on the grid and no post. A station off the grid by more than
+** SOSNYAVIK_MOST_BEYOND, along x or y, is no post either, and has verdict 5. A
+** reading beyond the border is off grid, also where a post stands.
 */
-#define SOSNYAVIK_BORDER 256
+#define SOSNYAVIK_MOST_BEYOND 256
 
 /*
 ** WINDOWS
@@ -157,7 +159,7 @@ extern "C" {
 **        from <= time < until (with no end, the upper tests hold)
 **    3   observed after the minute of the analysis
 **    4   too old: time - observed is above age
-**    5   off the grid by more than SOSNYAVIK_BORDER: x is below -256 or above
+**    5   off the grid by more than a post may be: x is below -256 or above
 **        64*(nx-1) + 256, or y is below -256 or above 64*(ny-1) + 256
 **
 ** Rejected in a scan and all later ones, because the observation differed by

@@ -234,7 +234,7 @@ static uint8_t verdict_at(Call *call, int32_t x, int32_t y) {
 
 // At each side and each corner: on the border, a post to the last unit, and one unit farther.
 static void verdicts_off_the_grid(Call *call) {
-    const int32_t near = SOSNYAVIK_BORDER, far = SOSNYAVIK_BORDER + 1, last = 64 * 2;
+    const int32_t near = SOSNYAVIK_MOST_BEYOND, far = near + 1, last = 64 * 2;
     for (int side = 0; side < 4; side++) {
         int32_t x = side % 2 == 0 ? 0 : last, y = side < 2 ? 0 : last, dx = x == 0 ? -1 : 1, dy = y == 0 ? -1 : 1;
         must(verdict_at(call, x, y) == 0, "a station on the border");

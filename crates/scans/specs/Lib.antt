@@ -1,4 +1,4 @@
--- What the code of the scans computes, tied to document 01's definitions. Proved.
+-- What the code of the scans computes, tied to the definitions. Proved.
 pub mod Scanned
 pub mod Ready
 pub mod Run

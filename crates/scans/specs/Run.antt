@@ -1,4 +1,4 @@
--- The scans of a plan, one after the other, are document 01's run.
+-- The scans of a plan, one after the other, are the run of the definitions.
 use Prim.Native.Nat.{ℕ, _+_, _-_, _*_, _≤_, _<_, _^_}
 use native.Mathlib.Omega.{arith}
 use native.Mathlib.Nat.{pow-le-pow-right}

@@ -1,4 +1,4 @@
--- One scan in code, on stored grids and rows of tables, is one scan of document 01.
+-- One scan in code, on stored grids and rows of tables, is one scan of the definitions.
 use Prim.Native.Nat.{ℕ, _+_, _*_, _<_, _^_}
 use mathlib.Core.Path.{_≡_, refl, sym, ap, _∙_}
 use mathlib.Core.Logic.{⊎-elim}

@@ -18,7 +18,7 @@ use Rattle.scheme.specs.Text.{answerText}
 abbrev pub sixColumns : (x y value : List ℤ) (observed from until : List ℕ) → Columns
 sixColumns x y value observed from until = record { x = x; y = y; value = value; observed = observed; from = from; until = until }
 
--- ---- the shape of every promise: the outcome of the call is the one that document 01 gives
+-- ---- the shape of every promise: the outcome of the call is the one that documents 01 and 02 give
 
 abbrev pub Promised : {O : Type 0} → (right outcome : O) → Type 0
 Promised right outcome = outcome ≡ right
