@@ -99,11 +99,12 @@ extern "C" {
 **   - Its difference is its observation less the first guess at its nearest
 **     place on the grid: each of x and y brought to its bound. No scan changes
 **     the first guess, so that this is the same in every scan. A scan after the
-**     first rejects a post only if its limit is below those before; and a point
-**     that hears one post alone is moved by all of its difference in each scan.
+**     first rejects a post only if its limit is below all those before; and a
+**     point that hears one post alone is moved by all of its difference in each
+**     scan.
 **
-** A station on the border of the grid, where x is 0 or 64*(nx-1) or y is 0 or
-** 64*(ny-1), is on the grid and no post. A station off the grid by more than
+** A station where 0 <= x <= 64*(nx-1) and 0 <= y <= 64*(ny-1) is on the grid,
+** its border included, and no post. One off the grid by more than
 ** SOSNYAVIK_MOST_BEYOND, along x or y, is no post either, and has verdict 5. A
 ** reading beyond the border is off grid, also where a post stands.
 */

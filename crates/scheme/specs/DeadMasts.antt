@@ -88,10 +88,10 @@ dead-mast-has-no-weight q n t i j e =
     ∙ rejected-has-no-weight q 0 n t i j (ap (λ (r : Row). isAccepted (r .verdict)) (rejected-for-good q 0 n 1 e) ∙ e)
 
 -- a mast that was taken down by T, or was by the minute of its reading, is out of service whatever else holds of its reading
-pub taken-down-is-out-of-service : (b nx ny T A : ℕ) (s : Station) → isMissing (s .value) ≡ false → (serves s (s .observed) && serves s T) ≡ false
-    → beforeScans b nx ny T A s ≡ 2
+pub taken-down-is-out-of-service : (beyond nx ny T A : ℕ) (s : Station) → isMissing (s .value) ≡ false → (serves s (s .observed) && serves s T) ≡ false
+    → beforeScans beyond nx ny T A s ≡ 2
 unfolding beforeScans firstThatFits outOfService
-taken-down-is-out-of-service b nx ny T A s there gone = rw (there, gone)
+taken-down-is-out-of-service beyond nx ny T A s there gone = rw (there, gone)
 
 -- ---- deleting every dead mast changes no value and no support
 

@@ -126,8 +126,8 @@ dead-mast-keeps-its-verdict = dead.dead-mast-keeps-its-verdict
 pub dead-mast-has-no-weight : (q : Request) (n t i j : ℕ) → isAccepted (rowAfter q 0 n .verdict) ≡ false → weightIn q t n i j ≡ 0
 dead-mast-has-no-weight = dead.dead-mast-has-no-weight
 
-pub taken-down-is-out-of-service : (b nx ny T A : ℕ) (s : Station) → isMissing (s .value) ≡ false → (serves s (s .observed) && serves s T) ≡ false
-    → beforeScans b nx ny T A s ≡ 2
+pub taken-down-is-out-of-service : (beyond nx ny T A : ℕ) (s : Station) → isMissing (s .value) ≡ false → (serves s (s .observed) && serves s T) ≡ false
+    → beforeScans beyond nx ny T A s ≡ 2
 taken-down-is-out-of-service = dead.taken-down-is-out-of-service
 
 -- the request without the masts that a verdict from 1 to 5 fits
