@@ -32,7 +32,7 @@ extern "C" {
 ** when a call takes other arguments than before, and a program must be compiled
 ** anew. The second rises with a new call, the third with anything else.
 */
-#define SOSNYAVIK_VERSION "0.1.1" /* 2026-11-15 */
+#define SOSNYAVIK_VERSION "0.2.0" /* 2026-11-15 */
 
 /*
 ** MARKS
@@ -342,6 +342,33 @@ uint32_t sosnyavik_window(
 /* clang-format on */
 
 /*
+** A SCREEN OF WINDOWS
+**
+** Up to sixteen windows in one call, as a screen shows them.
+*/
+/* clang-format off */
+uint32_t sosnyavik_windows(
+    uint32_t nx, uint32_t ny,
+    const int32_t *first_guess, size_t first_guess_len,
+    const uint32_t *left, size_t left_len,
+    const uint32_t *right, size_t right_len,
+    const uint32_t *top, size_t top_len,
+    const uint32_t *bottom, size_t bottom_len,
+    const int32_t *x, size_t x_len,
+    const int32_t *y, size_t y_len,
+    const int32_t *value, size_t value_len,
+    const uint32_t *observed, size_t observed_len,
+    const uint32_t *from, size_t from_len,
+    const uint32_t *until, size_t until_len,
+    uint32_t scans,
+    const int32_t *radius, size_t radius_len,
+    const int32_t *limit, size_t limit_len,
+    bool smooth, uint32_t time, uint32_t age,
+    int32_t *grid, size_t grid_len,
+    uint8_t *support, size_t support_len);
+/* clang-format on */
+
+/*
 ** THE POINT READING
 **
 ** What a field has at a place, and what stands behind it. Two calls, with the
@@ -489,6 +516,11 @@ struct sosnyavik_ends {
     uint32_t left, right, top, bottom;
 };
 
+/* The windows of a screen: entry k of each column is an end of window k. */
+struct sosnyavik_screen {
+    struct sosnyavik_u32_column left, right, top, bottom;
+};
+
 struct sosnyavik_i32_result {
     int32_t *at;
     size_t count;
@@ -551,6 +583,14 @@ static inline uint32_t sosnyavik_request_window(
     return sosnyavik_window(SOSNYAVIK_GUESS(request), ends.left, ends.right, ends.top, ends.bottom,
                             SOSNYAVIK_REST(request),
                             SOSNYAVIK_SLICE(results.grid), SOSNYAVIK_SLICE(results.support));
+}
+
+static inline uint32_t sosnyavik_request_windows(
+    const struct sosnyavik_request *request,
+    struct sosnyavik_screen screen, struct sosnyavik_results results) {
+    return sosnyavik_windows(SOSNYAVIK_GUESS(request), SOSNYAVIK_SLICE(screen.left), SOSNYAVIK_SLICE(screen.right),
+                             SOSNYAVIK_SLICE(screen.top), SOSNYAVIK_SLICE(screen.bottom), SOSNYAVIK_REST(request),
+                             SOSNYAVIK_SLICE(results.grid), SOSNYAVIK_SLICE(results.support));
 }
 
 static inline uint32_t sosnyavik_request_reading_kind(

@@ -8,6 +8,8 @@
 static uint32_t answer_analysis(const struct sosnyavik_request *request, struct sosnyavik_results results);
 static uint32_t answer_window(const struct sosnyavik_request *request, struct sosnyavik_ends ends,
                               struct sosnyavik_results results);
+static uint32_t answer_windows(const struct sosnyavik_request *request, struct sosnyavik_screen screen,
+                               struct sosnyavik_results results);
 
 /* clang-format off */
 #define SLICE(name) .name = {name, name##_len}
@@ -41,6 +43,22 @@ uint32_t sosnyavik_window(
     struct sosnyavik_ends ends = {.left = left, .right = right, .top = top, .bottom = bottom};
     struct sosnyavik_results results = {SLICE(grid), SLICE(support)};
     return answer_window(&request, ends, results);
+}
+
+uint32_t sosnyavik_windows(
+    uint32_t nx, uint32_t ny, const int32_t *first_guess, size_t first_guess_len,
+    const uint32_t *left, size_t left_len, const uint32_t *right, size_t right_len,
+    const uint32_t *top, size_t top_len, const uint32_t *bottom, size_t bottom_len,
+    const int32_t *x, size_t x_len, const int32_t *y, size_t y_len, const int32_t *value, size_t value_len,
+    const uint32_t *observed, size_t observed_len, const uint32_t *from, size_t from_len,
+    const uint32_t *until, size_t until_len,
+    uint32_t scans, const int32_t *radius, size_t radius_len, const int32_t *limit, size_t limit_len,
+    bool smooth, uint32_t time, uint32_t age,
+    int32_t *grid, size_t grid_len, uint8_t *support, size_t support_len) {
+    struct sosnyavik_request request = GATHERED;
+    struct sosnyavik_screen screen = {SLICE(left), SLICE(right), SLICE(top), SLICE(bottom)};
+    struct sosnyavik_results results = {SLICE(grid), SLICE(support)};
+    return answer_windows(&request, screen, results);
 }
 /* clang-format on */
 #undef SLICE
