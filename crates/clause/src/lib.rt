@@ -1,7 +1,8 @@
 // The exports of the archive (include/sosnyavik.h). The two calls on station columns test what goes by lengths and counts, load the
 // columns once, and hand the request on; nothing is written before it is accepted. They answer refusal·65,536 + place.
 ghost use Rattle.scheme.specs.Units.{asking};
-ghost use Rattle.scheme.specs.Promises.{sixColumns, slices, Analyses, windowAt, tile, Queries, ReadsKind, ReadsValue, Summarises};
+ghost use Rattle.scheme.specs.Refusals.{windowAt};
+ghost use Rattle.scheme.specs.Promises.{sixColumns, slices, Analyses, tile, Queries, ReadsKind, ReadsValue, Summarises};
 use request::Window;
 use scheme::Summary;
 

@@ -10,7 +10,7 @@ use lib.Ieee.{binary64, ofBits, ofInt}
 use Rattle.scheme.specs.declared.Reading.{Reading}
 use Rattle.scheme.specs.declared.Reading.the-variants.{Backed, FirstGuess, OffGrid, Refused}
 use Rattle.scheme.specs.Units.{Field, fieldOf}
-use Rattle.scheme.specs.Refusals.{refusedIf, badShape, readingRefusal}
+use Rattle.scheme.specs.Refusals.{refusedWith, badShape, readingRefusal}
 use Rattle.scheme.specs.Verdicts.{onGrid}
 use Rattle.scheme.specs.Value.{place, sumAt}
 use Rattle.scheme.specs.Readings.{double, positiveZero, isBacked, readingIn, reading}
@@ -38,16 +38,16 @@ module _ (nx ny : ℕ) (z : Field ℤ) (support : Field ℕ) (x y : ℤ) where
 
 module _ (nx ny : ℕ) (field : List ℤ) (support : List ℕ) (x y : ℤ) where
   pub bad-shape : badShape nx ny (length field) ≡ true → Refused ≡ reading nx ny field support x y
-  unfolding reading readingRefusal refusedIf
+  unfolding reading readingRefusal refusedWith
   bad-shape e = rw e
 
   module _ (good : badShape nx ny (length field) ≡ false) where
     pub bad-support : eqb (length support) (length field) ≡ false → Refused ≡ reading nx ny field support x y
-    unfolding reading readingRefusal refusedIf
+    unfolding reading readingRefusal refusedWith
     bad-support e = rw (good, e)
 
     pub not-refused : eqb (length support) (length field) ≡ true → readingIn nx ny (fieldOf (pos 0) nx field) (fieldOf 0 nx support) x y ≡ reading nx ny field support x y
-    unfolding reading readingRefusal refusedIf
+    unfolding reading readingRefusal refusedWith
     not-refused e = rw (good, e)
 
 -- ---- its double

@@ -12,7 +12,7 @@ use mir.Syntax.{w32}
 use mir.Val.{SFits}
 use Rattle.scheme.specs.declared.Units.{Units}
 use Rattle.scheme.specs.Units.{partsOfUnit}
-use Rattle.scheme.specs.Refusals.{refusedIf, badShape, summaryRefusal}
+use Rattle.scheme.specs.Refusals.{refusedWith, badShape, summaryRefusal}
 use Rattle.scheme.specs.Readings.{double, lowest, highest, unitsOf, zeros, summary}
 use Rattle.scheme.specs.Exact.{lesser, greater, of-lesser, of-greater}
 
@@ -58,9 +58,9 @@ units-are (v ∷ rest) low high h e =
 
 module _ (nx ny : ℕ) (field : List ℤ) where
   pub summary-refused : badShape nx ny (length field) ≡ true → record { refusal = 1; place = 0; units = zeros } ≡ summary nx ny field
-  unfolding summary summaryRefusal refusedIf
+  unfolding summary summaryRefusal refusedWith
   summary-refused e = rw e
 
   pub summary-given : (units : Units) → badShape nx ny (length field) ≡ false → units ≡ unitsOf field → record { refusal = 0; place = 0; units = units } ≡ summary nx ny field
-  unfolding summary summaryRefusal refusedIf
+  unfolding summary summaryRefusal refusedWith
   summary-given units e u = rw (e, u)

@@ -8,14 +8,16 @@ use lib.IntN.{ℤ, pos}
 use Rattle.lists.specs.Tab.{tab, tab-same, length-tab}
 use Rattle.lists.specs.Filled.{Filled}
 use Rattle.scheme.specs.Units.{stationAt, stationsOf, mostScans, Plan, Request, Call, asked}
-use Rattle.scheme.specs.Refusals.{Window}
+use Rattle.scheme.specs.Refusals.{Window, windowsOf}
 use Rattle.scheme.specs.Scan.{analysis}
 use Rattle.scheme.specs.Reach.{wholeAt}
-use Rattle.scheme.specs.Promises.{sixColumns}
+use Rattle.scheme.specs.Promises.{sixColumns, fourColumns}
 use Rattle.scheme.specs.Accepted.{Shaped, Equal, fromSix, Formed}
 use Rattle.scheme.specs.Entries.{withPlan, UpToCount, entries-past-the-count-change-no-analysis, entries-past-the-count-change-no-window, same-from-six}
 use Rattle.request.specs.declared.Terms.{Terms}
-use Rattle.request.specs.Tables.{stationOf, stationIn, planIn, requestIn}
+use Rattle.request.specs.declared.Window.{Window as Ends}
+use Rattle.request.specs.declared.Screen.{Screen}
+use Rattle.request.specs.Tables.{stationOf, stationIn, planIn, requestIn, windowIn, noEnds, windowsIn}
 
 -- the first n entries of a plan's column
 pub record First (n : ℕ) (column entries : List ℤ) : Type 0 where
@@ -46,6 +48,15 @@ module _ (x y value : List ℤ) (observed from until : List ℕ) (n₀ n : List 
       → tab (length x) (stationIn n m) ≡ stationsOf (sixColumns x y value observed from until)
   unfolding stationsOf stationAt stationOf
   loads e p r = tab-same (length x) _ _ (λ k h. rw (p .new k (omega arith) h, r .new k (omega arith) (omega (arith, e))))
+
+-- the windows that are loaded
+abbrev pub endsAt : (left right top bottom : List ℕ) → ℕ → Ends
+endsAt left right top bottom k = record { left = getD left k 0; right = getD right k 0; top = getD top k 0; bottom = getD bottom k 0 }
+
+pub windows-loaded : (left right top bottom : List ℕ) (w₀ w : List Ends) → Filled noEnds (endsAt left right top bottom) 0 (length left) w₀ w
+    → windowsIn (record { windows = w; count = length left }) ≡ windowsOf (fourColumns left right top bottom)
+unfolding windowsOf
+windows-loaded left right top bottom w₀ w p = tab-same (length left) _ _ (λ k h. ap windowIn (p .new k (omega arith) h))
 
 -- ---- terms, first guess and tables that hold a request: all of it but plan entries past the count
 

@@ -5,10 +5,10 @@ use lib.ListN.{getD}
 use lib.IntN.{ℤ, pos}
 use Rattle.lists.specs.Tab.{tab}
 use Rattle.scheme.specs.Units.{Station, Plan, Request}
-use Rattle.scheme.specs.Refusals.{Window}
-use Rattle.scheme.specs.Promises.{windowAt}
+use Rattle.scheme.specs.Refusals.{Window, windowAt}
 use Rattle.request.specs.declared.Terms.{Terms}
 use Rattle.request.specs.declared.Window.{Window as Ends}
+use Rattle.request.specs.declared.Screen.{Screen}
 
 -- the station of a row of numbers and a row of minutes
 unfoldable pub stationOf : List ℤ → List ℕ → Station
@@ -45,3 +45,13 @@ requestIn t guess numbers minutes =
 -- the window of four ends
 abbrev pub windowIn : Ends → Window
 windowIn w = windowAt (w .left) (w .right) (w .top) (w .bottom)
+
+-- the windows of a screen
+abbrev pub noEnds : Ends
+noEnds = record { left = 0; right = 0; top = 0; bottom = 0 }
+
+abbrev pub windowNo : Screen → ℕ → Window
+windowNo s k = windowIn (getD (s .windows) k noEnds)
+
+abbrev pub windowsIn : Screen → List Window
+windowsIn s = tab (s .count) (windowNo s)

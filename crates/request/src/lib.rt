@@ -6,10 +6,11 @@ ghost use Prim.Native.Nat.{_≤_};
 ghost use lib.ListN.{length};
 ghost use Rattle.lists.specs.Tab.{tab};
 ghost use Rattle.lists.specs.Filled.{Filled};
-ghost use Rattle.scheme.specs.Units.{mostStations, stationsOf, mostScans};
-ghost use Rattle.scheme.specs.Promises.{sixColumns};
-ghost use Rattle.scheme.specs.Accepted.{Equal};
-ghost use Rattle.request.specs.Tables.{stationIn};
+ghost use Rattle.scheme.specs.Units.{mostSide, mostStations, stationsOf, mostScans};
+ghost use Rattle.scheme.specs.Refusals.{windowsOf, pointsOf};
+ghost use Rattle.scheme.specs.Promises.{sixColumns, fourColumns};
+ghost use Rattle.scheme.specs.Accepted.{Equal, OnGrid, EqualScreen};
+ghost use Rattle.request.specs.Tables.{stationIn, windowIn, windowsIn};
 ghost use Rattle.request.specs.Loaded.{First, Termed, numbersAt, minutesAt};
 
 // Places in a row of numbers.
@@ -50,6 +51,12 @@ pub struct Window {
     pub right: usize,
     pub top: usize,
     pub bottom: usize,
+}
+
+// The windows of a screen: the first so many of sixteen.
+pub struct Screen {
+    pub windows: [Window; 16],
+    pub count: usize,
 }
 
 // ---- the terms
@@ -141,4 +148,43 @@ pub fn load(
 {
     load_numbers(numbers, x, y, value);
     load_minutes(minutes, observed, from, until);
+}
+
+// ---- the windows of a screen
+
+// The points of a window.
+pub fn points_of(w: Window) -> usize
+    requires { ⌜ OnGrid mostSide mostSide (windowIn w) ⌝ }
+    ensures { λ r. ⌜ r ≡ pointsOf (windowIn w) ⌝ }
+{
+    (w.right - w.left + 1) * (w.bottom - w.top + 1)
+}
+
+// The columns of a screen, as windows.
+pub fn screen_of(left: &[u32], right: &[u32], top: &[u32], bottom: &[u32]) -> Screen
+    requires { ⌜ EqualScreen (fourColumns (now left) (now right) (now top) (now bottom)) ⌝ }
+    ensures { λ r. ⌜ windowsIn r ≡ windowsOf (fourColumns (now (left .entry)) (now (right .entry)) (now (top .entry)) (now (bottom .entry))) ⌝ }
+{
+    let none = Window {
+        left: 0,
+        right: 0,
+        top: 0,
+        bottom: 0,
+    };
+    let mut windows = [none; 16];
+    let mut k: usize = 0;
+    while k < left.len() {
+        let w = Window {
+            left: left[k] as usize,
+            right: right[k] as usize,
+            top: top[k] as usize,
+            bottom: bottom[k] as usize,
+        };
+        windows[k] = w;
+        k += 1;
+    }
+    Screen {
+        windows,
+        count: left.len(),
+    }
 }

@@ -14,7 +14,7 @@ use Rattle.lists.specs.First.{Found, nowhere, at, first, firstIn, first-good, g
 use Rattle.lists.specs.Members.{All, none, more}
 use Rattle.lists.specs.Tab.{length-tab}
 use Rattle.scheme.specs.Units.{among, within, mostValue, isMissing, leastSide, mostSide, mostStations, Station, mostPosition, Columns, stationAt, stationsOf, mostScans, mostRadius, mostLimit, Plan, R, E, Request, Call, asked}
-use Rattle.scheme.specs.Refusals.{Refusal, accepted, refused, inOrder, refusedIf, refusedAt, badShape, Span, Window, badSpan, badWindow, pointsAlong, badLengths, badColumns, badScans, rising, badScan, badGuess, badStation, fromFive, analysisRefusal}
+use Rattle.scheme.specs.Refusals.{Refusal, accepted, refused, inOrder, refusedIf, refusedWith, refusedAt, badShape, Span, Window, badSpan, badWindow, mostWindows, Screen, badScreen, pointsOf, badLengths, badColumns, badScans, rising, badScan, badGuess, badStation, fromFive, analysisRefusal}
 
 -- ---- lists of tests
 
@@ -25,7 +25,7 @@ all-accepted (accepted ∷ rs) e = more refl (all-accepted rs e)
 all-accepted (refused n p ∷ rs) e = absurd (let z : _≡_ {A = ℕ} 0 1 = cc in omega arith)
 
 pub not-refused : (n : ℕ) (bad : Bool) → refusedIf n bad ≡ accepted → bad ≡ false
-unfolding refusedIf
+unfolding refusedWith
 not-refused n true e = absurd (let z : _≡_ {A = ℕ} 0 1 = cc in omega arith)
 not-refused n false e = refl
 
@@ -231,8 +231,8 @@ pub record Fits (q : Request) (grid support verdict : ℕ) : Type 0 where
 
 -- results as long as the window
 pub record FitsWindow (w : Window) (grid support : ℕ) : Type 0 where
-  pub grid-long : grid ≡ pointsAlong (w .columns) * pointsAlong (w .rows)
-  pub support-long : support ≡ pointsAlong (w .columns) * pointsAlong (w .rows)
+  pub grid-long : grid ≡ pointsOf w
+  pub support-long : support ≡ pointsOf w
 
 -- results of the right length
 pub long : (points grid support : ℕ) → badLengths points grid support ≡ false → (grid ≡ points) × (support ≡ points)
@@ -282,6 +282,21 @@ on-grid nx ny w e =
     let (down, bottom) = on-axis ny (w .rows) b in
     record { across = across; down = down; right = right; bottom = bottom }
 
+-- a screen of equal columns, at most sixteen windows
+pub record EqualScreen (s : Screen) : Type 0 where
+  pub right : length (s .right) ≡ length (s .left)
+  pub top : length (s .top) ≡ length (s .left)
+  pub bottom : length (s .bottom) ≡ length (s .left)
+  pub few : length (s .left) ≤ mostWindows
+
+pub equal-screen : (s : Screen) → badScreen s ≡ false → EqualScreen s
+unfolding badScreen
+equal-screen s e =
+    let (e1, few) = or-false _ _ e in
+    let (e2, bottom) = or-false _ _ e1 in
+    let (right, top) = or-false _ _ e2 in
+    record { right = same _ _ right; top = same _ _ top; bottom = same _ _ bottom; few = ltb-false mostWindows (length (s .left)) few }
+
 -- ---- and back: no test refuses a sound call
 
 side-good : (n : ℕ) → leastSide ≤ n → n ≤ mostSide → among leastSide mostSide n ≡ true
@@ -324,7 +339,7 @@ station-good s t =
     go false f = rw (le-leb (natAbs (s .value)) mostValue (f refl))
 
 pub request-good : (q : Request) → Sound q → inOrder (fromFive q) ≡ accepted
-unfolding fromFive inOrder refusedIf refusedAt badScans
+unfolding fromFive inOrder refusedWith refusedAt badScans
 request-good q s =
     rw (
       le-leb 1 (q .plan .scans) (s .plan .scans-some),

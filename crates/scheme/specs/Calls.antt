@@ -7,7 +7,7 @@ use borrow.Author.Tests.{eq-eqb}
 use lib.ListN.{length, length-map}
 use Rattle.lists.specs.Tab.{tab}
 use Rattle.scheme.specs.Units.{mostStations, Station, Columns, stationAt, stationsOf, Request, Call, asked, withStations}
-use Rattle.scheme.specs.Refusals.{accepted, inOrder, refusedIf, fromFive, analysisRefusal}
+use Rattle.scheme.specs.Refusals.{accepted, inOrder, refusedWith, fromFive, analysisRefusal}
 use Rattle.scheme.specs.Accepted.{Shaped, Equal, Sound, shape-good, columns-good, lengths-good, request-good}
 
 abbrev pub columnsOf : List Station → Columns
@@ -37,7 +37,7 @@ asks q = rw (columns-back (q .stations))
 pub refused-as-asked : (c : Call) (grid support verdict : ℕ) → Shaped (c .nx) (c .ny) (length (c .firstGuess)) → Equal (c .stations)
     → grid ≡ c .nx * c .ny → support ≡ c .nx * c .ny → verdict ≡ length (c .stations .x)
     → analysisRefusal c grid support verdict ≡ inOrder (fromFive (asked c))
-unfolding analysisRefusal inOrder refusedIf
+unfolding analysisRefusal inOrder refusedWith
 refused-as-asked c grid support verdict shape equal g s v =
     rw (shape-good shape, lengths-good (c .nx * c .ny) grid support g s, eq-eqb verdict (length (c .stations .x)) v, columns-good (c .stations) equal)
 

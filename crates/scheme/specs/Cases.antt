@@ -13,7 +13,7 @@ use Rattle.lists.specs.Sums.{total}
 use Rattle.lists.specs.First.{first, firstFrom, orNext}
 use Rattle.scheme.specs.declared.Reading.the-variants.{Backed, FirstGuess, OffGrid, Refused}
 use Rattle.scheme.specs.Units.{isMissing, missingMark, Field, stored, fieldOf, mostStations, Station, noEnd, Columns, stationAt, stationsOf, mostBeyond, R, E, Request, Call, guess, asking}
-use Rattle.scheme.specs.Refusals.{Refusal, accepted, refused, asOne, inOrder, refusedIf, refusedAt, badShape, Span, Window, badWindow, badLengths, badColumns, badScans, rising, badScan, badGuess, badStation, fromFive, analysisRefusal, windowRefusal, summaryRefusal, readingRefusal}
+use Rattle.scheme.specs.Refusals.{Refusal, accepted, refused, asOne, inOrder, refusedWith, refusedAt, badShape, Span, Window, badWindow, windowAt, badLengths, badColumns, badScans, rising, badScan, badGuess, badStation, fromFive, analysisRefusal, windowRefusal, summaryRefusal, readingRefusal}
 use Rattle.scheme.specs.Verdicts.{serves, outOfService, nearAxis, offGrid, firstThatFits, beforeScans}
 use Rattle.scheme.specs.Rounding.{rounded}
 use Rattle.scheme.specs.Value.{place, cell, corners, sumAt, valueAt}
@@ -29,7 +29,6 @@ use Rattle.scheme.specs.Text.Pieces.{ascii, word, digits, positive, natu
 use Rattle.scheme.specs.Text.Lines.{number, gridLine, scanLine, rowLine, observation, end, stationLine}
 use Rattle.scheme.specs.Text.Order.{lines, rows, nothingAfter}
 use Rattle.scheme.specs.Text.Printed.{spelled, decimal, integer, cells, keyed, gridLines}
-use Rattle.scheme.specs.Promises.{windowAt}
 use Rattle.scheme.specs.Accepted.{columns-good}
 use Rattle.scheme.specs.Calls.{columnsOf, equal-columns}
 use Rattle.scheme.specs.Most.{mostField, mostDifference, mostWeights, mostPulls, mostReach}
@@ -146,7 +145,7 @@ too-many ss h =
     )
 
 refusals : Refusals
-unfolding analysisRefusal windowRefusal fromFive inOrder refusedIf refusedAt first firstFrom orNext badShape badWindow badLengths badColumns badScans badScan rising badGuess badStation stationsOf stationAt isMissing tab
+unfolding analysisRefusal windowRefusal fromFive inOrder refusedWith refusedAt first firstFrom orNext badShape badWindow badLengths badColumns badScans badScan rising badGuess badStation stationsOf stationAt isMissing tab
 refusals =
     record {
       not-refused = (refl, refl);
@@ -305,7 +304,7 @@ pub record Readings : Type 0 where
   pub summary-refused : summary 4 1 ramp ≡ record { refusal = 1; place = 0; units = record { lowest = positiveZero; highest = positiveZero; span = positiveZero } }
 
 readings : Readings
-unfolding reading readingRefusal summaryRefusal refusedIf badShape readingIn nearAxis place isBacked cell sumAt corners fieldOf numbersOf summary unitsOf lowest highest
+unfolding reading readingRefusal summaryRefusal refusedWith badShape readingIn nearAxis place isBacked cell sumAt corners fieldOf numbersOf summary unitsOf lowest highest
 readings =
     record {
       backed = refl;
@@ -365,7 +364,7 @@ pub record Texts : Type 0 where
       ≡ ascii "refusal=0\nplace=0\nrow=0,0\nrow=0,0\nsup=1,0\nsup=0,0\nver=0,4,1,1\n"
 
 texts : Texts
-unfolding answerText replyText requestLines lines rows flatten nothingAfter gridLine scanLine rowLine stationLine number observation end word digits positive natural between count unsigned negative signed values fromFive inOrder refusedIf refusedAt first firstFrom orNext badScans badScan rising badGuess badStation isMissing analysisText firstTwo gridLines keyed cells integer decimal spelled analysis stored tab afterWithin scan start rowsJudged sumsAt corrected guess fieldOf R E beforeScans firstThatFits outOfService serves offGrid nearAxis judged afterTest difference valueAt place sumAt cell corners rounded total share gift weight correction backedBy
+unfolding answerText replyText requestLines lines rows flatten nothingAfter gridLine scanLine rowLine stationLine number observation end word digits positive natural between count unsigned negative signed values fromFive inOrder refusedWith refusedAt first firstFrom orNext badScans badScan rising badGuess badStation isMissing analysisText firstTwo gridLines keyed cells integer decimal spelled analysis stored tab afterWithin scan start rowsJudged sumsAt corrected guess fieldOf R E beforeScans firstThatFits outOfService serves offGrid nearAxis judged afterTest difference valueAt place sumAt cell corners rounded total share gift weight correction backedBy
 texts =
     record {
       longest = λ text e. rw (le-ltb 65536 (length text) (omega arith));

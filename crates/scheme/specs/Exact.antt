@@ -30,7 +30,7 @@ use Rattle.scheme.specs.declared.Reading.{Reading}
 use Rattle.scheme.specs.declared.Reading.the-variants.{Backed, FirstGuess, OffGrid, Refused}
 use Rattle.scheme.specs.declared.Units.{Units}
 use Rattle.scheme.specs.Units.{Field, fieldOf}
-use Rattle.scheme.specs.Refusals.{Refusal, accepted, refused, unlessRefused, summaryRefusal, readingRefusal, refusedIf, badShape}
+use Rattle.scheme.specs.Refusals.{Refusal, accepted, refused, unlessRefused, summaryRefusal, readingRefusal, refusedWith, badShape}
 use Rattle.scheme.specs.Verdicts.{onGrid}
 use Rattle.scheme.specs.Value.{place, cell, corners, sumAt}
 use Rattle.scheme.specs.Readings.{double, positiveZero, isBacked, readingIn, reading, numbersOf, valueOf, lowest, highest, zeros, unitsOf, summary}
@@ -194,7 +194,7 @@ module _ (nx ny : ℕ) (field : List ℤ) (x y : ℤ) (i32 : All (SFits w32) fie
     reading-value-exact = exact sum 18 (omega (arith, reading-sum-size)) (omega arith)
 
   pub reading-exact : (support : List ℕ) → ReadsExactly (reading nx ny field support x y) sum
-  unfolding reading readingRefusal refusedIf readingIn
+  unfolding reading readingRefusal refusedWith readingIn
   reading-exact support = go (badShape nx ny (length field)) (not (eqb (length support) (length field))) (shaped nx ny (length field))
     where
       on : (on backed : Bool) → Exactly value sum 262144 → ReadsExactly (cond on (cond backed (Backed value) (FirstGuess value)) OffGrid) sum
@@ -330,13 +330,13 @@ units-exact v {rest} f r =
 pub summary-exact : (nx ny : ℕ) (v : ℤ) {rest : List ℤ} → SFits w32 v → All (SFits w32) rest → badShape nx ny (length (v ∷ rest)) ≡ false
     → (summary nx ny (v ∷ rest) .refusal ≡ 0) × (summary nx ny (v ∷ rest) .place ≡ 0)
     × ExactUnits (summary nx ny (v ∷ rest) .units) (lowest v rest) (highest v rest)
-unfolding summary summaryRefusal refusedIf
+unfolding summary summaryRefusal refusedWith
 summary-exact nx ny v f r good = rw good (refl, refl, units-exact v f r)
 
 -- and of one that is refused three zeros
 pub refused-summary-is-zeros : (nx ny : ℕ) (field : List ℤ) → badShape nx ny (length field) ≡ true
     → summary nx ny field ≡ record { refusal = 1; place = 0; units = zeros }
-unfolding summary summaryRefusal refusedIf
+unfolding summary summaryRefusal refusedWith
 refused-summary-is-zeros nx ny field bad = rw bad
 
 -- ---- so of each call that gives a double, one that is zero is positive zero

@@ -8,7 +8,7 @@ use Rattle.lists.specs.Tab.{tab}
 use Rattle.lists.specs.Sums.{total, upTo}
 use Rattle.lists.specs.First.{first, firstFrom, orNext}
 use Rattle.scheme.specs.Units.{isMissing, Field, stored, fieldOf, Station, stationAt, stationsOf, R, E, Request, guess, asking}
-use Rattle.scheme.specs.Refusals.{accepted, inOrder, refusedIf, refusedAt, badShape, Window, badWindow, badLengths, badColumns, badScans, rising, badScan, badGuess, badStation, fromFive, analysisRefusal, windowRefusal}
+use Rattle.scheme.specs.Refusals.{accepted, inOrder, refusedWith, refusedAt, badShape, Window, badWindow, windowAt, badLengths, badColumns, badScans, rising, badScan, badGuess, badStation, fromFive, analysisRefusal, windowRefusal}
 use Rattle.scheme.specs.Verdicts.{serves, outOfService, nearAxis, offGrid, firstThatFits, beforeScans}
 use Rattle.scheme.specs.Rounding.{rounded}
 use Rattle.scheme.specs.Value.{place, cell, corners, sumAt, valueAt}
@@ -19,7 +19,7 @@ use Rattle.scheme.specs.Smoothing.{patternRow, patternSum, inner, smooth
 use Rattle.scheme.specs.Scan.{start, rowsJudged, sumsAt, corrected, scan, afterWithin, after, atEnd, Analysis, analysis}
 use Rattle.scheme.specs.Reach.{Tile, windowOf, wholeAt}
 use Rattle.scheme.specs.Calls.{callFor}
-use Rattle.scheme.specs.Promises.{slices, tile, windowAt}
+use Rattle.scheme.specs.Promises.{slices, tile}
 use Rattle.scheme.specs.Text.{requestLines, firstTwo, analysisText, replyText, answerText}
 use Rattle.scheme.specs.Text.Pieces.{ascii, word, digits, positive, natural, between, count, unsigned, negative, signed, values}
 use Rattle.scheme.specs.Text.Lines.{number, gridLine, scanLine, rowLine, observation, end, stationLine}
@@ -134,7 +134,7 @@ abbrev BothAccept : Request → Type 0
 BothAccept q = (analysisRefusal (callFor q) 9 9 3 ≡ accepted) × (windowRefusal (callFor q) corner 4 4 ≡ accepted)
 
 pub example-accepted : BothAccept (example 1 false) × BothAccept (example 2 false) × BothAccept (example 2 true)
-unfolding analysisRefusal windowRefusal fromFive inOrder refusedIf refusedAt first firstFrom orNext badShape badWindow badLengths badColumns badScans badScan rising badGuess badStation stationsOf stationAt isMissing tab
+unfolding analysisRefusal windowRefusal fromFive inOrder refusedWith refusedAt first firstFrom orNext badShape badWindow badLengths badColumns badScans badScan rising badGuess badStation stationsOf stationAt isMissing tab
 example-accepted = ((refl, refl), (refl, refl), (refl, refl))
 
 pub example-analysis : (analysis (example 1 false) ≡ once) × (analysis (example 2 false) ≡ twice) × (analysis (example 2 true) ≡ smooth)
@@ -163,7 +163,7 @@ unfolding windowOf stored tab afterWithin scan start rowsJudged sumsAt corrected
 example-only-smoothed-corner = refl
 
 pub example-text : (answerText onceText ≡ onceAnswer) × (answerText twiceText ≡ twiceAnswer) × (answerText smoothText ≡ smoothAnswer)
-unfolding answerText replyText requestLines lines rows flatten nothingAfter gridLine scanLine rowLine stationLine number observation end word digits positive natural between count unsigned negative signed values fromFive inOrder refusedIf refusedAt first firstFrom orNext badScans badScan rising badGuess badStation isMissing analysisText firstTwo gridLines keyed cells integer decimal spelled analysis stored tab afterWithin scan start rowsJudged sumsAt corrected smoothed patternSum patternRow inner upTo guess fieldOf R E beforeScans firstThatFits outOfService serves offGrid nearAxis judged afterTest difference valueAt place sumAt cell corners rounded total share gift weight correction backedBy
+unfolding answerText replyText requestLines lines rows flatten nothingAfter gridLine scanLine rowLine stationLine number observation end word digits positive natural between count unsigned negative signed values fromFive inOrder refusedWith refusedAt first firstFrom orNext badScans badScan rising badGuess badStation isMissing analysisText firstTwo gridLines keyed cells integer decimal spelled analysis stored tab afterWithin scan start rowsJudged sumsAt corrected smoothed patternSum patternRow inner upTo guess fieldOf R E beforeScans firstThatFits outOfService serves offGrid nearAxis judged afterTest difference valueAt place sumAt cell corners rounded total share gift weight correction backedBy
 example-text = (refl, refl, refl)
 
 -- ---- So with smoothing a point without support may change: with one mast in the corner, whose radius reaches no other point, the middle does

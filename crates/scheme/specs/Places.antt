@@ -10,7 +10,7 @@ use lib.ListN.{length, getD}
 use lib.IntN.{pos}
 use Rattle.lists.specs.First.{first, firstIn, Search, all-good, bad-at, search, in-places}
 use Rattle.scheme.specs.Units.{mostStations, Request, Call, asked}
-use Rattle.scheme.specs.Refusals.{Refusal, numberOf, placeOf, asOne, inOrder, refusedIf, refusedAt, badShape, Window, badWindow, badColumns, badScans, badGuess, badStation, fromFive, analysisRefusal, windowRefusal}
+use Rattle.scheme.specs.Refusals.{Refusal, numberOf, placeOf, asOne, inOrder, refusedIf, refusedWith, refusedAt, badShape, Window, badWindow, badColumns, badScans, badGuess, badStation, fromFive, analysisRefusal, windowRefusal}
 use Rattle.scheme.specs.Accepted.{Shaped, shaped, equal, scans-fit, noStation, rows-of}
 
 abbrev Small : Refusal → Type 0
@@ -18,7 +18,7 @@ Small r = placeOf r < 65536
 
 -- a test with place 0, and what follows if it does not refuse
 small-if : (number : ℕ) (bad : Bool) (rest : List Refusal) → (bad ≡ false → Small (inOrder rest)) → Small (inOrder (refusedIf number bad ∷ rest))
-unfolding inOrder refusedIf
+unfolding inOrder refusedWith
 small-if number true rest h = omega arith
 small-if number false rest h = h refl
 

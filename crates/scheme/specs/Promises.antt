@@ -8,9 +8,9 @@ use lib.Ieee.{Float}
 use Rattle.scheme.specs.declared.Reading.{Reading}
 use Rattle.scheme.specs.declared.Summary.{Summary}
 use Rattle.scheme.specs.Units.{Columns, Call, asked}
-use Rattle.scheme.specs.Refusals.{Refusal, asOne, unlessRefused, Window, analysisRefusal, windowRefusal}
+use Rattle.scheme.specs.Refusals.{Refusal, asOne, unlessRefused, Window, Screen, windowsOf, analysisRefusal, windowRefusal, screenRefusal}
 use Rattle.scheme.specs.Scan.{Analysis, analysis}
-use Rattle.scheme.specs.Reach.{Tile, wholeAt}
+use Rattle.scheme.specs.Reach.{Tile, wholeAt, wholeAtEach}
 use Rattle.scheme.specs.Readings.{reading, numbersOf, kindOf, valueOf, summary}
 use Rattle.scheme.specs.Text.{answerText}
 
@@ -47,10 +47,7 @@ Analyses c found answer left =
 
 -- ---- the window query
 
--- the window, and what stands in the two slices that the results go to
-abbrev pub windowAt : (left right top bottom : ℕ) → Window
-windowAt left right top bottom = record { columns = record { first = left; last = right }; rows = record { first = top; last = bottom } }
-
+-- what stands in the two slices that the results go to
 abbrev pub tile : List ℤ → List ℕ → Tile
 tile grid support = record { grid = grid; support = support }
 
@@ -58,6 +55,17 @@ tile grid support = record { grid = grid; support = support }
 abbrev pub Queries : Call → Window → Tile → ℕ → Tile → Type 0
 Queries c w found answer left =
     Settles (windowRefusal c w (length (found .grid)) (length (found .support))) (wholeAt (asked c) w) found answer left
+
+-- ---- a screen of windows (document 02, 2)
+
+-- the four columns, from the arguments of a call
+abbrev pub fourColumns : (left right top bottom : List ℕ) → Screen
+fourColumns left right top bottom = record { left = left; right = right; top = top; bottom = bottom }
+
+-- each window's numbers of the whole grid, one window after the other
+abbrev pub QueriesEach : Call → Screen → Tile → ℕ → Tile → Type 0
+QueriesEach c s found answer left =
+    Settles (screenRefusal c s (length (found .grid)) (length (found .support))) (wholeAtEach (asked c) (windowsOf s)) found answer left
 
 -- ---- the point reading, and the two calls by which it crosses to C; they and the summary are lent no memory to write to
 

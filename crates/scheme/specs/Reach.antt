@@ -1,9 +1,9 @@
 -- "Reach of a window": the reach, the cut, and the window's part of a field.
 use Prim.Native.Nat.{ℕ, _+_, _-_, _*_, _/_, min}
 use mathlib.Core.Bool.{Bool, cond, _&&_}
-use mathlib.Core.List.{List, map}
+use mathlib.Core.List.{List, [], _++_, map}
 use lib.IntN.{ℤ, pos, _-ℤ_}
-use Rattle.lists.specs.Sums.{upTo}
+use Rattle.lists.specs.Sums.{total, upTo}
 use Rattle.lists.specs.Keep.{keep}
 use Rattle.scheme.specs.Units.{among, Field, stored, step, Station, Plan, R, Request, guess}
 use Rattle.scheme.specs.Refusals.{Span, Window, pointsAlong}
@@ -64,3 +64,8 @@ pub record Tile : Type 0 where
 
 unfoldable pub wholeAt : Request → Window → Tile
 wholeAt q w = record { grid = windowOf w (atEnd q .field); support = windowOf w (atEnd q .support) }
+
+-- Those of a screen: its windows' results one after the other, in their order (document 02, 2)
+unfoldable pub wholeAtEach : Request → List Window → Tile
+wholeAtEach q ws =
+    record { grid = total [] _++_ (λ w. wholeAt q w .grid) ws; support = total [] _++_ (λ w. wholeAt q w .support) ws }

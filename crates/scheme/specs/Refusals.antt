@@ -7,6 +7,8 @@ use lib.Dec.{leb, ltb, eqb}
 use lib.ListN.{length, getD}
 use lib.IntN.{ℤ, pos}
 use lib.Signed.{ltZ}
+use Rattle.lists.specs.Tab.{tab}
+use Rattle.lists.specs.Sums.{total}
 use Rattle.lists.specs.First.{Found, nowhere, at, first, firstIn}
 use Rattle.scheme.specs.Units.{among, amongℤ, within, mostValue, isMissing, leastSide, mostSide, mostStations, Station, mostPosition, Columns, mostScans, mostRadius, mostLimit, Plan, Request, Call, asked}
 
@@ -38,9 +40,12 @@ inOrder [] = accepted
 inOrder (accepted ∷ rest) = inOrder rest
 inOrder (refused number place ∷ rest) = refused number place
 
--- a test with place 0
-unfoldable pub refusedIf : ℕ → Bool → Refusal
-refusedIf number bad = cond bad (refused number 0) accepted
+-- a test with one place, which is 0 where nothing else is said
+unfoldable pub refusedWith : (number place : ℕ) → Bool → Refusal
+refusedWith number place bad = cond bad (refused number place) accepted
+
+abbrev pub refusedIf : ℕ → Bool → Refusal
+refusedIf number bad = refusedWith number 0 bad
 
 -- The first offending place is named
 unfoldable pub refusedAt : ℕ → Found → Refusal
@@ -68,12 +73,45 @@ badSpan n s = ltb (s .last) (s .first) || leb n (s .last)
 unfoldable pub badWindow : (nx ny : ℕ) → Window → Bool
 badWindow nx ny w = badSpan nx (w .columns) || badSpan ny (w .rows)
 
+-- Windows come as four equal columns, up to sixteen of them (document 02, 2)
+abbrev pub mostWindows : ℕ
+mostWindows = 16
+
+pub record Screen : Type 0 where
+  pub left : List ℕ
+  pub right : List ℕ
+  pub top : List ℕ
+  pub bottom : List ℕ
+
+abbrev pub windowAt : (left right top bottom : ℕ) → Window
+windowAt left right top bottom = record { columns = record { first = left; last = right }; rows = record { first = top; last = bottom } }
+
+-- window k of them, and all windows
+abbrev pub windowOn : Screen → ℕ → Window
+windowOn s k = windowAt (getD (s .left) k 0) (getD (s .right) k 0) (getD (s .top) k 0) (getD (s .bottom) k 0)
+
+unfoldable pub windowsOf : Screen → List Window
+windowsOf s = tab (length (s .left)) (windowOn s)
+
+-- 2: unequal, or over sixteen
+unfoldable pub badScreen : Screen → Bool
+badScreen s =
+    let n = length (s .left) in
+    not (eqb (length (s .right)) n) || not (eqb (length (s .top)) n) || not (eqb (length (s .bottom)) n) || ltb mostWindows n
+
 -- 3: a result slice of the wrong length: that many points, and of the whole analysis a verdict for each row of the x column
 unfoldable pub badLengths : (points grid support : ℕ) → Bool
 badLengths points grid support = not (eqb grid points) || not (eqb support points)
 
 abbrev pub pointsAlong : Span → ℕ
 pointsAlong s = s .last - s .first + 1
+
+abbrev pub pointsOf : Window → ℕ
+pointsOf w = pointsAlong (w .columns) * pointsAlong (w .rows)
+
+-- all windows together
+abbrev pub pointsOfAll : List Window → ℕ
+pointsOfAll ws = total 0 _+_ pointsOf ws
 
 -- 4: station columns unequal, or more than 512
 unfoldable pub badColumns : Columns → Bool
@@ -127,13 +165,24 @@ analysisRefusal c grid support verdict =
     ∷ refusedIf 4 (badColumns (c .stations))
     ∷ fromFive (asked c))
 
--- Only the window query gives 2
+-- Only a window query gives 2
 unfoldable pub windowRefusal : Call → Window → (grid support : ℕ) → Refusal
 windowRefusal c w grid support =
     inOrder
     (refusedIf 1 (badShape (c .nx) (c .ny) (length (c .firstGuess)))
     ∷ refusedIf 2 (badWindow (c .nx) (c .ny) w)
-    ∷ refusedIf 3 (badLengths (pointsAlong (w .columns) * pointsAlong (w .rows)) grid support)
+    ∷ refusedIf 3 (badLengths (pointsOf w) grid support)
+    ∷ refusedIf 4 (badColumns (c .stations))
+    ∷ fromFive (asked c))
+
+-- Of a screen, 2 with place 16 comes first within 2; then 2 names the first bad window by its index; 3 measures all windows together (document 02, 2)
+unfoldable pub screenRefusal : Call → Screen → (grid support : ℕ) → Refusal
+screenRefusal c s grid support =
+    inOrder
+    (refusedIf 1 (badShape (c .nx) (c .ny) (length (c .firstGuess)))
+    ∷ refusedWith 2 mostWindows (badScreen s)
+    ∷ refusedAt 2 (firstIn (badWindow (c .nx) (c .ny)) (windowsOf s))
+    ∷ refusedIf 3 (badLengths (pointsOfAll (windowsOf s)) grid support)
     ∷ refusedIf 4 (badColumns (c .stations))
     ∷ fromFive (asked c))
 

@@ -10,7 +10,7 @@ use lib.Ieee.Exact.{HasValue}
 use Rattle.lists.specs.Sums.{upTo}
 use Rattle.scheme.specs.declared.Reading.the-variants.{FirstGuess}
 use Rattle.scheme.specs.Units.{Field, fieldOf, Plan, R, Request, guess}
-use Rattle.scheme.specs.Refusals.{refusedIf, badShape, readingRefusal}
+use Rattle.scheme.specs.Refusals.{refusedWith, badShape, readingRefusal}
 use Rattle.scheme.specs.Verdicts.{nearAxis}
 use Rattle.scheme.specs.Rounding.{rounded}
 use Rattle.scheme.specs.Value.{place, cell, corners, sumAt}
@@ -79,7 +79,7 @@ unfolding rounded sumAt corners cell fieldOf
 case-e = refl
 
 case-e-reading : reading 2 2 fourCorners (0 ∷ 0 ∷ 0 ∷ 0 ∷ []) (pos 32) (pos 32) ≡ FirstGuess (double (pos 1024) 262144)
-unfolding reading readingRefusal refusedIf badShape readingIn nearAxis place isBacked cell sumAt corners fieldOf
+unfolding reading readingRefusal refusedWith badShape readingIn nearAxis place isBacked cell sumAt corners fieldOf
 case-e-reading = refl
 
 case-e-exact : HasValue (double (pos 1024) 262144) false 1 256

@@ -10,7 +10,7 @@ use lib.Seq.{sets-eq, length-take-le}
 use Rattle.lists.specs.First.{Found, nowhere, at}
 use Rattle.lists.specs.Members.{All, none, more}
 use Rattle.scheme.specs.Units.{Station, mostScans, Request}
-use Rattle.scheme.specs.Refusals.{Refusal, accepted, refused, numberOf, placeOf, asOne, unlessRefused, inOrder, refusedIf, refusedAt, badScans, fromFive}
+use Rattle.scheme.specs.Refusals.{Refusal, accepted, refused, numberOf, placeOf, asOne, unlessRefused, inOrder, refusedWith, refusedAt, badScans, fromFive}
 use Rattle.scheme.specs.Scan.{Analysis, analysis}
 use Rattle.scheme.specs.Text.{mostBytes, firstTwo, analysisText, replyText}
 use Rattle.scheme.specs.Text.Pieces.{ascii}
@@ -104,7 +104,7 @@ refused-text (refused number place) result other some = refl
 module _ (q : Request) (formed : Formed q) where
   -- row 5 accepts
   pub five-accepts : inOrder (fromFive q) ≡ inOrder (fromSix q)
-  unfolding fromFive inOrder refusedIf badScans
+  unfolding fromFive inOrder refusedWith badScans
   five-accepts =
       rw (
         le-leb 1 (q .plan .scans) (formed .scans-some),

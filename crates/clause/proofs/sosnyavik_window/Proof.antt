@@ -3,8 +3,8 @@ use borrow.Author.Needs.{needs}
 use mathlib.Core.Path.{_≡_, refl}
 use lib.ListN.{length}
 use Rattle.scheme.specs.Units.{Call, asking}
-use Rattle.scheme.specs.Refusals.{inOrder, Window}
-use Rattle.scheme.specs.Promises.{sixColumns, windowAt, tile}
+use Rattle.scheme.specs.Refusals.{inOrder, Window, windowAt}
+use Rattle.scheme.specs.Promises.{sixColumns, tile}
 use Rattle.refusal_shapes.specs.Tested.{lengthsOf}
 use Rattle.refusal.specs.Coded.{Coded, refuses}
 use Rattle.refusal.specs.Lengths.{windowLengths, WindowPassed, window-passed, window-refused}
