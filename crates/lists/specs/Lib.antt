@@ -8,3 +8,4 @@ pub mod First
 pub mod Members
 pub mod Keep
 pub mod Parted
+pub mod Turns

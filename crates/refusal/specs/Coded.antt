@@ -6,7 +6,7 @@ use mathlib.Core.Bool.{Bool, true, false}
 use mathlib.Core.List.{List, [], _∷_, _++_}
 use borrow.Author.Tests.{lt-ltb, le-ltb}
 use Rattle.lists.specs.First.{Found, nowhere, at, ended}
-use Rattle.scheme.specs.Refusals.{Refusal, accepted, refused, asOne, unlessRefused, inOrder, refusedIf, refusedWith, refusedAt}
+use Rattle.scheme.specs.Refusals.{Refusal, accepted, refused, asOne, unlessRefused, inOrder, refusedWith, refusedAt}
 use Rattle.scheme.specs.Promises.{Settles}
 use Rattle.scheme.specs.OneOutcome.{both}
 
@@ -30,12 +30,12 @@ module _ {A : Type 0} (result found : A) {r : ℕ} {f : Refusal} (c : Coded r f)
 
 -- ---- lists of tests: the code's first test refuses, or the rest decide
 
-module _ (number : ℕ) (rest : List Refusal) {test bad : Bool} {r : ℕ} (is : test ≡ bad) where
-  pub refused-here : 1 ≤ number → test ≡ true → r ≡ number * 65536 + 0 → Coded r (inOrder (refusedIf number bad ∷ rest))
+module _ (number place : ℕ) (rest : List Refusal) {test bad : Bool} {r : ℕ} (is : test ≡ bad) where
+  pub refused-here : 1 ≤ number → test ≡ true → r ≡ number * 65536 + place → Coded r (inOrder (refusedWith number place bad ∷ rest))
   unfolding inOrder refusedWith
   refused-here some e h = rw (sym is ∙ e) (record { same = h; only = λ z. absurd (omega arith) })
 
-  pub not-here : test ≡ false → Coded r (inOrder rest) → Coded r (inOrder (refusedIf number bad ∷ rest))
+  pub not-here : test ≡ false → Coded r (inOrder rest) → Coded r (inOrder (refusedWith number place bad ∷ rest))
   unfolding inOrder refusedWith
   not-here e h = rw (sym is ∙ e) h
 

@@ -2,11 +2,11 @@
 // call is handed, before its columns are loaded; rows 6 to 8 search the request that was loaded.
 ghost use mathlib.Core.Path.{_≡_};
 ghost use Prim.Native.Nat.{_+_, _*_, _≤_, _<_};
-ghost use Rattle.scheme.specs.Refusals.{inOrder};
-ghost use Rattle.scheme.specs.Accepted.{fromSix, Formed};
-ghost use Rattle.request.specs.Tables.{requestIn, windowIn};
+ghost use Rattle.scheme.specs.Refusals.{inOrder, mostWindows};
+ghost use Rattle.scheme.specs.Accepted.{Shaped, fromSix, Formed};
+ghost use Rattle.request.specs.Tables.{requestIn, windowIn, windowsIn};
 ghost use Rattle.refusal.specs.Coded.{Coded};
-ghost use Rattle.refusal.specs.Lengths.{fourAndFive, analysisLengths, windowLengths};
+ghost use Rattle.refusal.specs.Lengths.{fourAndFive, analysisLengths, windowLengths, screenColumns, screenLengths};
 
 // An answer as one number.
 fn coded(number: u32, place: usize) -> u32
@@ -57,8 +57,46 @@ pub fn of_window_lengths(
     if refusal_shapes::window_bad(l.nx, l.ny, w) {
         return coded(2, 0);
     }
-    let points = (w.right - w.left + 1) * (w.bottom - w.top + 1);
-    if refusal_shapes::window_lengths_bad(points, grid, support) {
+    if refusal_shapes::window_lengths_bad(request::points_of(w), grid, support) {
+        return coded(3, 0);
+    }
+    four_and_five(l)
+}
+
+// The first rows of a screen's query: 1, and the first of 2, by which its columns are equal. 0 if no test refuses.
+pub fn of_screen_columns(
+    l: refusal_shapes::Lengths,
+    left: usize,
+    right: usize,
+    top: usize,
+    bottom: usize,
+) -> u32
+    ensures { λ r. ⌜ Coded r (inOrder (screenColumns l left right top bottom)) ⌝ }
+{
+    if refusal_shapes::shape_bad(l.nx, l.ny, l.guess) {
+        return coded(1, 0);
+    }
+    if refusal_shapes::screen_bad(left, right, top, bottom) {
+        return coded(2, 16);
+    }
+    0
+}
+
+// The rest of its rows before 6, on its windows: 2 and 3, then 4 and 5. 0 if no test refuses.
+pub fn of_screen_lengths(
+    l: refusal_shapes::Lengths,
+    screen: request::Screen,
+    grid: usize,
+    support: usize,
+) -> u32
+    requires { ⌜ Shaped (l .nx) (l .ny) (l .guess) × (screen .count ≤ mostWindows) ⌝ }
+    ensures { λ r. ⌜ Coded r (inOrder (screenLengths l (windowsIn screen) grid support)) ⌝ }
+{
+    let k = refusal_shapes::first_bad_window(l.nx, l.ny, screen);
+    if k < screen.count {
+        return coded(2, k);
+    }
+    if refusal_shapes::window_lengths_bad(refusal_shapes::points_of_all(screen), grid, support) {
         return coded(3, 0);
     }
     four_and_five(l)

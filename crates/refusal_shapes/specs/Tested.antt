@@ -1,8 +1,10 @@
 -- The lengths of a call, and the tests of rows 4 and 5 as the code makes them, which on these are `badColumns` and `badScans`.
+use Prim.Native.Nat.{ℕ}
 use mathlib.Core.Bool.{Bool, not, _||_}
 use lib.Dec.{ltb, eqb}
 use lib.ListN.{length}
 use Rattle.scheme.specs.Units.{among, mostStations, mostScans, Call}
+use Rattle.scheme.specs.Refusals.{mostWindows}
 use Rattle.refusal_shapes.specs.declared.Lengths.{Lengths}
 
 -- the lengths of a call
@@ -22,6 +24,9 @@ lengthsOf c =
       radius = length (c .plan .radius);
       limit = length (c .plan .limit);
     }
+
+abbrev pub unequalScreen : (left right top bottom : ℕ) → Bool
+unequalScreen left right top bottom = not (eqb right left) || not (eqb top left) || not (eqb bottom left) || ltb mostWindows left
 
 abbrev pub unequalColumns : Lengths → Bool
 unequalColumns l =

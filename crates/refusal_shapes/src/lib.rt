@@ -3,11 +3,13 @@
 ghost use mathlib.Core.Path.{_≡_};
 ghost use mathlib.Core.Bool.{not, _||_, false};
 ghost use lib.Dec.{eqb};
-ghost use Rattle.scheme.specs.Units.{asking};
+ghost use Prim.Native.Nat.{_≤_};
+ghost use Rattle.lists.specs.First.{firstIn, ended};
+ghost use Rattle.scheme.specs.Units.{mostSide, asking};
 ghost use Rattle.scheme.specs.Promises.{sixColumns};
-ghost use Rattle.scheme.specs.Refusals.{badShape, badWindow, badLengths};
-ghost use Rattle.request.specs.Tables.{windowIn};
-ghost use Rattle.refusal_shapes.specs.Tested.{lengthsOf, unequalColumns, badScanCount};
+ghost use Rattle.scheme.specs.Refusals.{badShape, badWindow, mostWindows, pointsOfAll, badLengths};
+ghost use Rattle.request.specs.Tables.{windowIn, windowsIn, OnScreen};
+ghost use Rattle.refusal_shapes.specs.Tested.{lengthsOf, unequalScreen, unequalColumns, badScanCount};
 
 // What a call is handed, by lengths and counts.
 pub struct Lengths {
@@ -75,6 +77,44 @@ pub fn window_bad(nx: usize, ny: usize, w: request::Window) -> bool
     ((w.right < w.left) | (nx <= w.right)) | ((w.bottom < w.top) | (ny <= w.bottom))
 }
 
+// 2 of a screen, first: its four columns unequal, or more than sixteen windows
+pub fn screen_bad(left: usize, right: usize, top: usize, bottom: usize) -> bool
+    ensures { λ r. ⌜ r ≡ unequalScreen left right top bottom ⌝ }
+{
+    (right != left) | (top != left) | (bottom != left) | (16 < left)
+}
+
+// then its first bad window, or their count
+pub fn first_bad_window(nx: usize, ny: usize, screen: request::Screen) -> usize
+    requires { ⌜ screen .count ≤ mostWindows ⌝ }
+    ensures { λ r. ⌜ ended (screen .count) r ≡ firstIn (badWindow nx ny) (windowsIn screen) ⌝ }
+{
+    let mut k: usize = 0;
+    while k < screen.count {
+        let w = screen.windows[k];
+        if window_bad(nx, ny, w) {
+            return k;
+        }
+        k += 1;
+    }
+    k
+}
+
+// The points of all windows of a screen together.
+pub fn points_of_all(screen: request::Screen) -> usize
+    requires { ⌜ OnScreen mostSide mostSide screen ⌝ }
+    ensures { λ r. ⌜ r ≡ pointsOfAll (windowsIn screen) ⌝ }
+{
+    let mut points: usize = 0;
+    let mut k: usize = 0;
+    while k < screen.count {
+        let w = screen.windows[k];
+        points += request::points_of(w);
+        k += 1;
+    }
+    points
+}
+
 // 3: a result slice of the wrong length
 pub fn lengths_bad(points: usize, rows: usize, grid: usize, support: usize, verdict: usize) -> bool
     ensures { λ r. ⌜ r ≡ badLengths points grid support || not (eqb verdict rows) ⌝ }
@@ -82,7 +122,7 @@ pub fn lengths_bad(points: usize, rows: usize, grid: usize, support: usize, verd
     (grid != points) | (support != points) | (verdict != rows)
 }
 
-// The same for the window query, whose two results are as long as the window.
+// The same for a window query, whose two results are as long as the window, or all windows together.
 pub fn window_lengths_bad(points: usize, grid: usize, support: usize) -> bool
     ensures { λ r. ⌜ r ≡ badLengths points grid support ⌝ }
 {

@@ -1,11 +1,12 @@
 -- The request as it is handed on: its terms, its first guess, and its stations as rows of two tables.
-use Prim.Native.Nat.{ℕ}
+use Prim.Native.Nat.{ℕ, _≤_, _<_}
 use mathlib.Core.List.{List, []}
 use lib.ListN.{getD}
 use lib.IntN.{ℤ, pos}
 use Rattle.lists.specs.Tab.{tab}
 use Rattle.scheme.specs.Units.{Station, Plan, Request}
-use Rattle.scheme.specs.Refusals.{Window, windowAt}
+use Rattle.scheme.specs.Refusals.{Window, mostWindows, windowAt}
+use Rattle.scheme.specs.Accepted.{OnGrid}
 use Rattle.request.specs.declared.Terms.{Terms}
 use Rattle.request.specs.declared.Window.{Window as Ends}
 use Rattle.request.specs.declared.Screen.{Screen}
@@ -55,3 +56,8 @@ windowNo s k = windowIn (getD (s .windows) k noEnds)
 
 abbrev pub windowsIn : Screen → List Window
 windowsIn s = tab (s .count) (windowNo s)
+
+-- which are no more than they may be, and on the grid
+pub record OnScreen (nx ny : ℕ) (s : Screen) : Type 0 where
+  pub few : s .count ≤ mostWindows
+  pub on : (k : ℕ) → k < s .count → OnGrid nx ny (windowNo s k)

@@ -1,6 +1,7 @@
 -- What an accepted request is: each test of the refusal table, turned into the fact that it leaves.
 use Prim.Native.Nat.{ℕ, suc, _*_, _≤_, _<_}
 use native.Mathlib.Omega.{arith}
+use native.Mathlib.Nat.{mul-le-mul}
 use mathlib.Core.Path.{_≡_, refl}
 use mathlib.Core.Bool.{Bool, true, false, not, _&&_, _||_}
 use mathlib.Core.List.{List, [], _∷_}
@@ -14,7 +15,7 @@ use Rattle.lists.specs.First.{Found, nowhere, at, first, firstIn, first-good, g
 use Rattle.lists.specs.Members.{All, none, more}
 use Rattle.lists.specs.Tab.{length-tab}
 use Rattle.scheme.specs.Units.{among, within, mostValue, isMissing, leastSide, mostSide, mostStations, Station, mostPosition, Columns, stationAt, stationsOf, mostScans, mostRadius, mostLimit, Plan, R, E, Request, Call, asked}
-use Rattle.scheme.specs.Refusals.{Refusal, accepted, refused, inOrder, refusedIf, refusedWith, refusedAt, badShape, Span, Window, badSpan, badWindow, mostWindows, Screen, badScreen, pointsOf, badLengths, badColumns, badScans, rising, badScan, badGuess, badStation, fromFive, analysisRefusal}
+use Rattle.scheme.specs.Refusals.{Refusal, accepted, refused, inOrder, refusedIf, refusedWith, refusedAt, badShape, Span, Window, badSpan, badWindow, mostWindows, Screen, badScreen, pointsAlong, pointsOf, badLengths, badColumns, badScans, rising, badScan, badGuess, badStation, fromFive, analysisRefusal}
 
 -- ---- lists of tests
 
@@ -24,10 +25,10 @@ all-accepted [] e = none
 all-accepted (accepted ∷ rs) e = more refl (all-accepted rs e)
 all-accepted (refused n p ∷ rs) e = absurd (let z : _≡_ {A = ℕ} 0 1 = cc in omega arith)
 
-pub not-refused : (n : ℕ) (bad : Bool) → refusedIf n bad ≡ accepted → bad ≡ false
+pub not-refused : (n place : ℕ) (bad : Bool) → refusedWith n place bad ≡ accepted → bad ≡ false
 unfolding refusedWith
-not-refused n true e = absurd (let z : _≡_ {A = ℕ} 0 1 = cc in omega arith)
-not-refused n false e = refl
+not-refused n place true e = absurd (let z : _≡_ {A = ℕ} 0 1 = cc in omega arith)
+not-refused n place false e = refl
 
 pub nowhere-refused : (n : ℕ) (f : Found) → refusedAt n f ≡ accepted → f ≡ nowhere
 unfolding refusedAt
@@ -251,11 +252,11 @@ analysis-sound c grid support verdict e = go (all-accepted _ e)
         ∷ fromFive (asked c))
         → Sound (asked c)
     go (more one (more three (more four (more five rest)))) =
-        let (some, few, radii, limits) = scans-fit _ _ _ (not-refused 5 _ five) in
+        let (some, few, radii, limits) = scans-fit _ _ _ (not-refused 5 _ _ five) in
         formed-all (asked c)
         (record {
-          shape = shaped _ _ _ (not-refused 1 _ one);
-          few-stations = omega (arith, rows-of (c .stations), equal (c .stations) (not-refused 4 _ four) .few);
+          shape = shaped _ _ _ (not-refused 1 _ _ one);
+          few-stations = omega (arith, rows-of (c .stations), equal (c .stations) (not-refused 4 _ _ four) .few);
           scans-some = some;
           scans-few = few;
           radii = radii;
@@ -281,6 +282,25 @@ on-grid nx ny w e =
     let (across, right) = on-axis nx (w .columns) a in
     let (down, bottom) = on-axis ny (w .rows) b in
     record { across = across; down = down; right = right; bottom = bottom }
+
+-- a grid is on the largest
+pub wider : {nx ny len : ℕ} → Shaped nx ny len → {w : Window} → OnGrid nx ny w → OnGrid mostSide mostSide w
+wider shape on =
+    record {
+      across = on .across;
+      down = on .down;
+      right = omega (arith, on .right, shape .few-columns);
+      bottom = omega (arith, on .bottom, shape .few-rows);
+    }
+
+pub few-points : {nx ny : ℕ} {w : Window} → OnGrid nx ny w → nx ≤ mostSide → ny ≤ mostSide → pointsOf w ≤ mostSide * mostSide
+few-points {w = w} on a b = mul-le-mul wide high
+  where
+    wide : pointsAlong (w .columns) ≤ mostSide
+    wide = omega (arith, on .right)
+
+    high : pointsAlong (w .rows) ≤ mostSide
+    high = omega (arith, on .bottom)
 
 -- a screen of equal columns, at most sixteen windows
 pub record EqualScreen (s : Screen) : Type 0 where

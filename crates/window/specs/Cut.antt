@@ -1,7 +1,6 @@
 -- The cut as a request of its own, and the window on it.
 use Prim.Native.Nat.{ℕ, _+_, _-_, _*_, _≤_, _<_}
 use native.Mathlib.Omega.{arith}
-use native.Mathlib.Nat.{mul-le-mul}
 use mathlib.Core.Path.{_≡_, refl, sym, ap, ap₂, subst, _∙_}
 use mathlib.Core.List.{List, []}
 use lib.ListN.{length, getD}
@@ -11,7 +10,6 @@ use Rattle.scheme.specs.Units.{mostSide, Field, stored, guess, Request}
 use Rattle.scheme.specs.Refusals.{Span, Window, pointsAlong}
 use Rattle.scheme.specs.Scan.{atEnd}
 use Rattle.scheme.specs.Reach.{reach, widened, cutOf, windowOf, cut, wholeAt}
-use Rattle.scheme.specs.Most.{mostPoints}
 use Rattle.scheme.specs.Accepted.{same-shape, Stationed, noStation, Sound, FitsWindow, OnGrid}
 use Rattle.scheme.specs.Stored.{stored-same}
 use Rattle.scheme.specs.Cut.{cut-sound}
@@ -62,15 +60,6 @@ module _ {q : Request} (sound : Sound q) {w : Window} (on : OnGrid (q .nx) (q .n
         right = omega (arith, across .inside, sound .shape .few-columns);
         bottom = omega (arith, down .inside, sound .shape .few-rows);
       }
-
-  pub few-points : pointsAlong (here .columns) * pointsAlong (here .rows) ≤ mostPoints
-  few-points = mul-le-mul wide high
-    where
-      wide : pointsAlong (here .columns) ≤ mostSide
-      wide = omega (arith, small .right)
-
-      high : pointsAlong (here .rows) ≤ mostSide
-      high = omega (arith, small .bottom)
 
   pub guess-part : (m : ℕ) → m ≡ pointsAlong (here .columns) * pointsAlong (here .rows)
       → PartReady m (length (q .firstGuess)) (q .nx) (here .columns .first) (here .rows .first) (pointsAlong (here .columns)) (pointsAlong (here .rows))

@@ -15,7 +15,7 @@ coded-requires : tie.Need-coded-requires
 coded-requires c κs = search needs
 
 returns : tie.Need-returns
-returns c = refused-here 1 _ (c .before .before .shape-bad .ensures) (omega arith) (c .before .if1 .taken) (c .coded .ensures)
+returns c = refused-here 1 _ _ (c .before .before .shape-bad .ensures) (omega arith) (c .before .if1 .taken) (c .coded .ensures)
 
 mul-lengths-bad : tie.Need-mul-lengths-bad
 mul-lengths-bad c =
@@ -33,8 +33,8 @@ returns-2 : tie.Need-returns-2
 returns-2 c =
     let three = c .before .before in
     let one = three .before .before in
-    not-here 1 _ (one .before .shape-bad .ensures) (one .if1 .left)
-    (refused-here 3 _ (three .lengths-bad .ensures) (omega arith) (c .before .if2 .taken) (c .coded2 .ensures))
+    not-here 1 _ _ (one .before .shape-bad .ensures) (one .if1 .left)
+    (refused-here 3 _ _ (three .lengths-bad .ensures) (omega arith) (c .before .if2 .taken) (c .coded2 .ensures))
 
 four-and-five-requires : tie.Need-four-and-five-requires
 four-and-five-requires c κs = search needs
@@ -43,8 +43,8 @@ returns-3 : tie.Need-returns-3
 returns-3 c =
     let three = c .before .before in
     let one = three .before .before in
-    not-here 1 _ (one .before .shape-bad .ensures) (one .if1 .left)
-    (not-here 3 _ (three .lengths-bad .ensures) (c .before .if2 .left) (c .four-and-five .ensures))
+    not-here 1 _ _ (one .before .shape-bad .ensures) (one .if1 .left)
+    (not-here 3 _ _ (three .lengths-bad .ensures) (c .before .if2 .left) (c .four-and-five .ensures))
 
 pub of-lengths-spec : {M : Type 1} → statement M
 of-lengths-spec =

@@ -18,75 +18,57 @@ Inv-loop left right top bottom windows₀ k₀ windows k = (k ≤ length left) �
 abbrev μ-loop : tie.MeasureT-loop
 μ-loop left right top bottom windows₀ k₀ windows k = length left - k
 
--- src/lib.rt:176:5
 loop-holds : tie.Need-loop-holds Inv-loop μ-loop
 loop-holds c = (omega arith, filled-none noEnds _ 0 0 _ refl)
 
--- src/lib.rt:178:19
 mul-t9 : tie.Need-mul-t9 Inv-loop μ-loop
 mul-t9 c = omega arith
 
--- src/lib.rt:178:19
 shared-slice-read-t12 : tie.Need-shared-slice-read-t12 Inv-loop μ-loop
 shared-slice-read-t12 c = omega arith
 
--- src/lib.rt:178:19
 cast-t13 : tie.Need-cast-t13 Inv-loop μ-loop
 cast-t13 c = fits-widen tt (c .shared-slice-known .given _)
 
--- src/lib.rt:179:20
 mul-t14 : tie.Need-mul-t14 Inv-loop μ-loop
 mul-t14 c = omega arith
 
--- src/lib.rt:179:20
 shared-slice-read-t16 : tie.Need-shared-slice-read-t16 Inv-loop μ-loop
 shared-slice-read-t16 c = omega arith
 
--- src/lib.rt:179:20
 cast-t17 : tie.Need-cast-t17 Inv-loop μ-loop
 cast-t17 c = fits-widen tt (c .shared-slice-known2 .given _)
 
--- src/lib.rt:180:18
 mul-t18 : tie.Need-mul-t18 Inv-loop μ-loop
 mul-t18 c = omega arith
 
--- src/lib.rt:180:18
 shared-slice-read-t20 : tie.Need-shared-slice-read-t20 Inv-loop μ-loop
 shared-slice-read-t20 c = omega arith
 
--- src/lib.rt:180:18
 cast-t21 : tie.Need-cast-t21 Inv-loop μ-loop
 cast-t21 c = fits-widen tt (c .shared-slice-known3 .given _)
 
--- src/lib.rt:181:21
 mul-t22 : tie.Need-mul-t22 Inv-loop μ-loop
 mul-t22 c = omega arith
 
--- src/lib.rt:181:21
 shared-slice-read-t24 : tie.Need-shared-slice-read-t24 Inv-loop μ-loop
 shared-slice-read-t24 c = omega arith
 
--- src/lib.rt:181:21
 cast-t25 : tie.Need-cast-t25 Inv-loop μ-loop
 cast-t25 c = fits-widen tt (c .shared-slice-known4 .given _)
 
--- src/lib.rt:183:9
 mul-windows : tie.Need-mul-windows Inv-loop μ-loop
 mul-windows c = omega arith
 
--- src/lib.rt:183:9
 array-set-from-windows : tie.Need-array-set-from-windows Inv-loop μ-loop
 array-set-from-windows c = omega arith
 
--- src/lib.rt:184:9
 add-k : tie.Need-add-k Inv-loop μ-loop
 add-k c = omega arith
 
--- src/lib.rt:176:5
 loop-less : tie.Need-loop-less Inv-loop μ-loop
 loop-less c = omega arith
 
--- src/lib.rt:176:5
 loop-again : tie.Need-loop-again Inv-loop μ-loop
 loop-again c =
     let o = c .before .before .before .before .before in
@@ -96,7 +78,6 @@ loop-again c =
           refl (omega arith) (omega (arith, o .loop .inv .1 .same-length)) refl (o .loop .inv .1),
     )
 
--- src/lib.rt:164:1
 returns : tie.Need-returns Inv-loop μ-loop
 returns c =
     let l = c .before .loop in

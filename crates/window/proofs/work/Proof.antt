@@ -12,11 +12,11 @@ use Rattle.scheme.specs.Units.{mostSide, Request}
 use Rattle.scheme.specs.Refusals.{Window, pointsAlong}
 use Rattle.scheme.specs.Reach.{cutOf}
 use Rattle.scheme.specs.Most.{mostPoints}
-use Rattle.scheme.specs.Accepted.{OnGrid}
+use Rattle.scheme.specs.Accepted.{OnGrid, few-points}
 use Rattle.scheme.specs.Stored.{length-stored}
 use Rattle.request.specs.Tables.{requestIn, windowIn}
 use Rattle.window_tile.specs.Query.{prefix-back, prefix-in}
-use Rattle.window.specs.Cut.{Along, across, down, small, few-points, guess-part, keep-ready, cut-accepted, cut-answers}
+use Rattle.window.specs.Cut.{Along, across, down, small, guess-part, keep-ready, cut-accepted, cut-answers}
 use Rattle.window.proofs.work.Statement.{statement}
 use Rattle.window.proofs.work.Tie as tie
 use Rattle.window.proofs.work.Reads as reads
@@ -73,7 +73,7 @@ module _ (c : Cut) where
   on = small (start .pre .0) (start .pre .1) here-is
 
   few : points ≤ mostPoints
-  few = few-points (start .pre .0) (start .pre .1) here-is
+  few = few-points on (omega arith) (omega arith)
 
   long₀ : length (take points part₀) ≡ points
   long₀ = length-take-le points part₀ (omega (arith, few, length-replicate {A = ℤ} mostPoints (pos 0)))
