@@ -12,7 +12,7 @@ use Rattle.lists.specs.First.{firstIn, ended, Good, first-good, in-table}
 use Rattle.lists.specs.Members.{All, none, more}
 use Rattle.scheme.specs.Units.{mostSide, mostScans, Call, asked}
 use Rattle.scheme.specs.Refusals.{Refusal, accepted, inOrder, refusedIf, refusedWith, refusedAt, badShape, Window, badWindow, mostWindows, Screen, windowOn, windowsOf, badScreen, pointsOf, pointsOfAll, badLengths, badColumns, badScans, fromFive, analysisRefusal, windowRefusal, screenRefusal}
-use Rattle.scheme.specs.Accepted.{all-accepted, not-refused, nowhere-refused, Shaped, shaped, Equal, equal, scans-fit, fromSix, FitsWindow, long, OnGrid, on-grid, wider, EqualScreen, equal-screen}
+use Rattle.scheme.specs.Accepted.{all-accepted, not-refused, nowhere-refused, Shaped, shaped, Equal, equal, scans-fit, fromSix, FitsWindow, FitsScreen, long, OnGrid, on-grid, wider, EqualScreen, equal-screen}
 use Rattle.request.specs.declared.Screen.{Screen as Windows}
 use Rattle.request.specs.Tables.{windowNo, windowsIn, OnScreen}
 use Rattle.refusal_shapes.specs.declared.Lengths.{Lengths}
@@ -144,8 +144,7 @@ on-screen {nx} {ny} shape s few k past e = record { few = few; on = λ m h. wide
 pub record ScreenPassed (c : Call) (s : Screen) (grid support : ℕ) : Type 0 where
   pub handed : Handed c
   pub on-grid : (k : ℕ) → k < length (s .left) → OnGrid (c .nx) (c .ny) (windowOn s k)
-  pub grid-long : grid ≡ pointsOfAll (windowsOf s)
-  pub support-long : support ≡ pointsOfAll (windowsOf s)
+  pub fits : FitsScreen (windowsOf s) grid support
   pub rest : screenRefusal c s grid support ≡ inOrder (fromSix (asked c))
 
 module _ (c : Call) (s : Screen) (grid support : ℕ) where
@@ -182,8 +181,7 @@ module _ (c : Call) (s : Screen) (grid support : ℕ) where
             record {
               handed = handed c (columns-passed first .0) (not-refused 4 _ _ four) (not-refused 5 _ _ five);
               on-grid = λ k h. on-grid _ _ _ (first-good (length (s .left)) (λ m. badWindow (c .nx) (c .ny) (windowOn s m)) (sym (in-table _ (length (s .left)) (windowOn s)) ∙ nowhere-refused 2 _ two) k h);
-              grid-long = g;
-              support-long = u;
+              fits = record { grid-long = g; support-long = u };
               rest = past ∙ rest-decides (fromSix (asked c)) screen-rows e;
             }
 

@@ -15,7 +15,7 @@ use Rattle.lists.specs.First.{Found, nowhere, at, first, firstIn, first-good, g
 use Rattle.lists.specs.Members.{All, none, more}
 use Rattle.lists.specs.Tab.{length-tab}
 use Rattle.scheme.specs.Units.{among, within, mostValue, isMissing, leastSide, mostSide, mostStations, Station, mostPosition, Columns, stationAt, stationsOf, mostScans, mostRadius, mostLimit, Plan, R, E, Request, Call, asked}
-use Rattle.scheme.specs.Refusals.{Refusal, accepted, refused, inOrder, refusedIf, refusedWith, refusedAt, badShape, Span, Window, badSpan, badWindow, mostWindows, Screen, badScreen, pointsAlong, pointsOf, badLengths, badColumns, badScans, rising, badScan, badGuess, badStation, fromFive, analysisRefusal}
+use Rattle.scheme.specs.Refusals.{Refusal, accepted, refused, inOrder, refusedIf, refusedWith, refusedAt, badShape, Span, Window, badSpan, badWindow, mostWindows, Screen, badScreen, pointsAlong, pointsOf, pointsOfAll, badLengths, badColumns, badScans, rising, badScan, badGuess, badStation, fromFive, analysisRefusal}
 
 -- ---- lists of tests
 
@@ -234,6 +234,11 @@ pub record Fits (q : Request) (grid support verdict : ℕ) : Type 0 where
 pub record FitsWindow (w : Window) (grid support : ℕ) : Type 0 where
   pub grid-long : grid ≡ pointsOf w
   pub support-long : support ≡ pointsOf w
+
+-- as long as all windows together
+pub record FitsScreen (ws : List Window) (grid support : ℕ) : Type 0 where
+  pub grid-long : grid ≡ pointsOfAll ws
+  pub support-long : support ≡ pointsOfAll ws
 
 -- results of the right length
 pub long : (points grid support : ℕ) → badLengths points grid support ≡ false → (grid ≡ points) × (support ≡ points)

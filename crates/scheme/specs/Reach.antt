@@ -65,7 +65,9 @@ pub record Tile : Type 0 where
 unfoldable pub wholeAt : Request → Window → Tile
 wholeAt q w = record { grid = windowOf w (atEnd q .field); support = windowOf w (atEnd q .support) }
 
--- Those of a screen: its windows' results one after the other, in their order (document 02, 2)
-unfoldable pub wholeAtEach : Request → List Window → Tile
-wholeAtEach q ws =
-    record { grid = total [] _++_ (λ w. wholeAt q w .grid) ws; support = total [] _++_ (λ w. wholeAt q w .support) ws }
+-- Those of a screen: what each of its windows has, one after the other, in their order (document 02, 2)
+abbrev pub inTurn : (Window → Tile) → List Window → Tile
+inTurn has ws = record { grid = total [] _++_ (λ w. has w .grid) ws; support = total [] _++_ (λ w. has w .support) ws }
+
+abbrev pub wholeAtEach : Request → List Window → Tile
+wholeAtEach q ws = inTurn (wholeAt q) ws

@@ -1,2 +1,3 @@
--- What the window's part of an analysis is, tied to document 01's definitions. Proved.
+-- What the window's part of an analysis is, and windows one after the other, tied to the definitions. Proved.
 pub mod Query
+pub mod Turn

@@ -1,4 +1,4 @@
--- `window_tile::whole_at` meets its contract: the analysis fills prefixes of the local arrays, and the window's part is copied from them.
+-- `window_tile::whole_at_each` meets its contract: the analysis fills prefixes of the local arrays, and the windows' parts are copied from them.
 -- Assumes nothing.
 use Prim.Native.Nat.{ℕ, _*_, _≤_}
 use native.Mathlib.Omega.{arith}
@@ -15,15 +15,15 @@ use Rattle.scheme.specs.Scan.{analysis}
 use Rattle.scheme.specs.Promises.{slices}
 use Rattle.scheme.specs.Accepted.{same-shape}
 use Rattle.scheme.specs.Most.{mostPoints}
-use Rattle.request.specs.Tables.{stationIn, requestIn, windowIn}
-use Rattle.window_tile.specs.Query.{prefix-back, prefix-in, values-long, bits-long, window-part, whole-part}
-use Rattle.window_tile.proofs.whole_at.Statement.{statement}
-use Rattle.window_tile.proofs.whole_at.Tie as tie
-use Rattle.window_tile.proofs.whole_at.Reads as reads
-use Rattle.window_tile.proofs.whole_at.Lts as lts
+use Rattle.request.specs.Tables.{stationIn, requestIn, windowNo}
+use Rattle.window_tile.specs.Query.{prefix-back, prefix-in, values-long, bits-long, whole-part}
+use Rattle.window_tile.specs.Turn.{turn-same}
+use Rattle.window_tile.proofs.whole_at_each.Statement.{statement}
+use Rattle.window_tile.proofs.whole_at_each.Tie as tie
+use Rattle.window_tile.proofs.whole_at_each.Reads as reads
+use Rattle.window_tile.proofs.whole_at_each.Lts as lts
 use Rattle.scans.proofs.run.Reads as run-reads
-use Rattle.window_cut.proofs.part_of_bytes.Reads as part-of-bytes-reads
-use Rattle.window_cut.proofs.part_of_values.Reads as part-of-values-reads
+use Rattle.window_tile.proofs.tiles_of.Reads as tiles-of-reads
 
 -- the local arrays at first
 abbrev values₀ : List ℤ
@@ -37,10 +37,10 @@ verdict₀ = replicate mostStations 0
 
 -- two places: at first, with the analysis made
 abbrev Start : Type 0
-Start = lts.Start (run-reads.Asked, run-reads.Learnt, part-of-values-reads.Asked, part-of-values-reads.Learnt, part-of-bytes-reads.Asked, part-of-bytes-reads.Learnt) reads.Pre reads.Post
+Start = lts.Start (run-reads.Asked, run-reads.Learnt, tiles-of-reads.Asked, tiles-of-reads.Learnt) reads.Pre reads.Post
 
 abbrev Analysed : Type 0
-Analysed = lts.After-run (run-reads.Asked, run-reads.Learnt, part-of-values-reads.Asked, part-of-values-reads.Learnt, part-of-bytes-reads.Asked, part-of-bytes-reads.Learnt) reads.Pre reads.Post
+Analysed = lts.After-run (run-reads.Asked, run-reads.Learnt, tiles-of-reads.Asked, tiles-of-reads.Learnt) reads.Pre reads.Post
 
 -- the request, and the prefixes that its analysis is lent
 module _ (s : Start) where
@@ -117,41 +117,24 @@ module _ (c : Analysed) where
   long' : length bits ≡ points start
   long' = bits-long (q start) done
 
-sub-wide : tie.Need-sub-wide
-sub-wide c = search needs
-
-add-wide : tie.Need-add-wide
-add-wide c = search needs
-
-sub-high : tie.Need-sub-high
-sub-high c = search needs
-
-add-high : tie.Need-add-high
-add-high c = search needs
-
 array-share-prefix-values : tie.Need-array-share-prefix-values
-array-share-prefix-values c = let k = c .before .before .before .before .before .before in prefix-in (points (start k)) (values k) values₀ (long k)
+array-share-prefix-values c = let k = c .before .before .before in prefix-in (points (start k)) (values k) values₀ (long k)
 
-slice-aggregate-part-of-values : tie.Need-slice-aggregate-part-of-values
-slice-aggregate-part-of-values c = let k = c .before .before .before .before .before .before .before in sym (ap length (prefix-back (points (start k)) (values k) values₀ (long k)) ∙ long k)
-
-part-of-values-requires : tie.Need-part-of-values-requires
-part-of-values-requires c κs =
-    let k = c .before .before .before .before .before .before .before in
-    let p = start k .pre in
-    rw (prefix-back (points (start k)) (values k) values₀ (long k)) (window-part (q (start k)) (windowIn (start k .args .w)) (p .1) (same-shape (p .0 .shape) _ (long k)) _ (p .2 .grid-long))
+slice-aggregate-tiles-of : tie.Need-slice-aggregate-tiles-of
+slice-aggregate-tiles-of c = let k = c .before .before .before .before in sym (ap length (prefix-back (points (start k)) (values k) values₀ (long k)) ∙ long k)
 
 array-share-prefix-bits : tie.Need-array-share-prefix-bits
-array-share-prefix-bits c = let k = c .before .before .before .before .before .before .before .before .before .before in prefix-in (points (start k)) (bits k) bits₀ (long' k)
+array-share-prefix-bits c = let k = c .before .before .before .before in prefix-in (points (start k)) (bits k) bits₀ (long' k)
 
-slice-aggregate-part-of-bytes : tie.Need-slice-aggregate-part-of-bytes
-slice-aggregate-part-of-bytes c = let k = c .before .before .before .before .before .before .before .before .before .before .before in sym (ap length (prefix-back (points (start k)) (bits k) bits₀ (long' k)) ∙ long' k)
+slice-aggregate-tiles-of-2 : tie.Need-slice-aggregate-tiles-of-2
+slice-aggregate-tiles-of-2 c = let k = c .before .before .before .before .before in sym (ap length (prefix-back (points (start k)) (bits k) bits₀ (long' k)) ∙ long' k)
 
-part-of-bytes-requires : tie.Need-part-of-bytes-requires
-part-of-bytes-requires c κs =
-    let k = c .before .before .before .before .before .before .before .before .before .before .before in
+tiles-of-requires : tie.Need-tiles-of-requires
+tiles-of-requires c κs =
+    let k = c .before .before .before .before .before .before .before in
     let p = start k .pre in
-    rw (prefix-back (points (start k)) (bits k) bits₀ (long' k)) (window-part (q (start k)) (windowIn (start k .args .w)) (p .1) (same-shape (p .0 .shape) _ (long' k)) _ (p .2 .support-long))
+    rw (prefix-back (points (start k)) (values k) values₀ (long k), prefix-back (points (start k)) (bits k) bits₀ (long' k))
+    (same-shape (p .0 .shape) _ (long k), long' k ∙ sym (long k), p .1, p .2)
 
 same-length : tie.Need-same-length
 same-length c = search needs
@@ -161,13 +144,13 @@ same-length-2 c = search needs
 
 returns : tie.Need-returns
 returns c =
-    let k = c .before .before .before .before .before .before .before .before .before .before .before .before .before .before in
-    let g = rw (prefix-back (points (start k)) (values k) values₀ (long k)) at (c .before .before .before .before .before .before .part-of-values .ensures) in
-    let b = rw (prefix-back (points (start k)) (bits k) bits₀ (long' k)) at (c .before .before .part-of-bytes .ensures) in
-    whole-part (q (start k)) (windowIn (start k .args .w)) (start k .pre .1) (done k) g b
+    let k = c .before .before .before .before .before .before .before .before .before .before .before in
+    let s = start k in
+    let e = rw (prefix-back (points s) (values k) values₀ (long k), prefix-back (points s) (bits k) bits₀ (long' k)) at (c .before .before .before .tiles-of .ensures) in
+    e ∙ turn-same _ _ (s .args .screen) (λ m h. whole-part (q s) (windowNo (s .args .screen) m) (s .pre .1 .on m h) (done k))
 
-pub whole-at-spec : {M : Type 1} → statement M
-whole-at-spec =
+pub whole-at-each-spec : {M : Type 1} → statement M
+whole-at-each-spec =
     tie.close
     (tie.spec
     mul-points
@@ -178,16 +161,11 @@ whole-at-spec =
     array-borrow-prefix-verdict
     slice-aggregate-run-3
     run-requires
-    sub-wide
-    add-wide
-    sub-high
-    add-high
     array-share-prefix-values
-    slice-aggregate-part-of-values
-    part-of-values-requires
+    slice-aggregate-tiles-of
     array-share-prefix-bits
-    slice-aggregate-part-of-bytes
-    part-of-bytes-requires
+    slice-aggregate-tiles-of-2
+    tiles-of-requires
     same-length
     same-length-2
     returns)

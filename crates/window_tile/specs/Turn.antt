@@ -1,0 +1,104 @@
+-- Windows whose points a loop writes one after the other, each into a part of the two results.
+use Prim.Native.Nat.{ℕ, _+_, _*_, _≤_, _<_}
+use native.Mathlib.Omega.{arith}
+use native.Mathlib.Nat.{le-trans, mul-le-mul-right}
+use mathlib.Core.Path.{_≡_, refl, sym, ap, ap₂, _∙_}
+use mathlib.Core.List.{List, [], _∷_, _++_, append-nil}
+use lib.ListN.{length, take, drop, length-drop}
+use lib.Seq.{length-take-le}
+use lib.IntN.{ℤ}
+use Rattle.lists.specs.Tab.{tab}
+use Rattle.lists.specs.Sums.{total, upTo, upTo-next, upTo-same}
+use Rattle.lists.specs.Turns.{sumTo, joinTo, sum-tab, join-tab, sum-most, sum-room, Written, written-none, written-more, written-all}
+use Rattle.scheme.specs.Refusals.{Window, mostWindows, pointsOf, pointsOfAll}
+use Rattle.scheme.specs.Reach.{Tile, inTurn}
+use Rattle.scheme.specs.Promises.{tile}
+use Rattle.scheme.specs.Most.{mostPoints}
+use Rattle.scheme.specs.Accepted.{Shaped, FitsWindow, FitsScreen, few-points}
+use Rattle.request.specs.declared.Screen.{Screen}
+use Rattle.request.specs.Tables.{windowNo, windowsIn, OnScreen}
+
+-- the points of the first k windows
+abbrev pub pointsBefore : Screen → ℕ → ℕ
+pointsBefore s k = sumTo k (λ m. pointsOf (windowNo s m))
+
+-- of windows on a grid they are few, all together
+pub all-few : {nx ny len : ℕ} → Shaped nx ny len → (s : Screen) → OnScreen nx ny s → pointsOfAll (windowsIn s) ≤ mostWindows * mostPoints
+all-few shape s on =
+    rw (sum-tab pointsOf (s .count) (windowNo s))
+    (le-trans (sum-most mostPoints (s .count) _ (λ k h. few-points (on .on k h) (shape .few-columns) (shape .few-rows))) (mul-le-mul-right mostPoints (on .few)))
+
+-- windows that have the same have the same in turn
+pub turn-same : (f g : Window → Tile) (s : Screen) → ((k : ℕ) → k < s .count → f (windowNo s k) ≡ g (windowNo s k)) → inTurn f (windowsIn s) ≡ inTurn g (windowsIn s)
+turn-same f g s h =
+    let a = join-tab (λ w. f w .grid) (s .count) (windowNo s) ∙ upTo-same [] _++_ (s .count) _ _ (λ k l. ap (λ (x : Tile). x .grid) (h k l)) ∙ sym (join-tab (λ w. g w .grid) (s .count) (windowNo s)) in
+    let b = join-tab (λ w. f w .support) (s .count) (windowNo s) ∙ upTo-same [] _++_ (s .count) _ _ (λ k l. ap (λ (x : Tile). x .support) (h k l)) ∙ sym (join-tab (λ w. g w .support) (s .count) (windowNo s)) in
+    cc
+
+-- what each window has, which is as long as it is
+module _ (has : Window → Tile) (long : (w : Window) → FitsWindow w (length (has w .grid)) (length (has w .support))) (s : Screen) where
+  abbrev gridTo : ℕ → List ℤ
+  gridTo k = joinTo k (λ m. has (windowNo s m) .grid)
+
+  abbrev supportTo : ℕ → List ℕ
+  supportTo k = joinTo k (λ m. has (windowNo s m) .support)
+
+  -- results of g and u elements, in which k windows are written
+  module _ (g u : ℕ) where
+    pub record Turned (k at : ℕ) (grid : List ℤ) (support : List ℕ) : Type 0 where
+      pub at-is : at ≡ pointsBefore s k
+      pub grid-so : Written g (gridTo k) at grid
+      pub support-so : Written u (supportTo k) at support
+
+  pub turned-none : (grid : List ℤ) (support : List ℕ) → Turned (length grid) (length support) 0 0 grid support
+  unfolding upTo
+  turned-none grid support = record { at-is = refl; grid-so = written-none grid; support-so = written-none support }
+
+  module _ {g u : ℕ} (fits : FitsScreen (windowsIn s) g u) where
+    all-points : pointsOfAll (windowsIn s) ≡ pointsBefore s (s .count)
+    all-points = sum-tab pointsOf (s .count) (windowNo s)
+
+    -- the next window has room
+    pub room : (k : ℕ) → k < s .count → pointsBefore s k + pointsOf (windowNo s k) ≤ pointsOfAll (windowsIn s)
+    room k h = rw all-points (sum-room (s .count) k (λ m. pointsOf (windowNo s m)) h)
+
+    module _ {k at m : ℕ} {grid : List ℤ} {support : List ℕ} (t : Turned g u k at grid support) (h : k < s .count) (points : m ≡ pointsOf (windowNo s k)) where
+      -- its points are the m from `at` on
+      pub enough : at + m ≤ pointsOfAll (windowsIn s)
+      enough = omega (arith, t .at-is, points, room k h)
+
+      pub in-grid : at + m ≤ length grid
+      in-grid = omega (arith, enough, t .grid-so .same-length, fits .grid-long)
+
+      pub in-support : at + m ≤ length support
+      in-support = omega (arith, enough, t .support-so .same-length, fits .support-long)
+
+      pub its-part : FitsWindow (windowNo s k) (length (take m (drop at grid))) (length (take m (drop at support)))
+      its-part =
+          record {
+            grid-long = length-take-le m (drop at grid) (rw (length-drop at grid) (omega (arith, in-grid))) ∙ points;
+            support-long = length-take-le m (drop at support) (rw (length-drop at support) (omega (arith, in-support))) ∙ points;
+          }
+
+      -- one window more
+      pub turned-more : {end : ℕ} {ys : List ℤ} {us : List ℕ} → end ≡ at + m → tile ys us ≡ has (windowNo s k)
+          → Turned g u (k + 1) end (take at grid ++ (ys ++ drop m (drop at grid))) (take at support ++ (us ++ drop m (drop at support)))
+      turned-more {end} {ys} {us} e same =
+          record {
+            at-is = e ∙ ap₂ _+_ (t .at-is) points ∙ sym (upTo-next 0 _+_ k (λ i. pointsOf (windowNo s i)));
+            grid-so =
+                rw (e, upTo-next [] _++_ k (λ i. has (windowNo s i) .grid), ← ap (λ (x : Tile). x .grid) same)
+                (written-more (t .grid-so) m ys (ap (λ (x : Tile). length (x .grid)) same ∙ long (windowNo s k) .grid-long ∙ sym points) (omega (arith, in-grid, t .grid-so .same-length)));
+            support-so =
+                rw (e, upTo-next [] _++_ k (λ i. has (windowNo s i) .support), ← ap (λ (x : Tile). x .support) same)
+                (written-more (t .support-so) m us (ap (λ (x : Tile). length (x .support)) same ∙ long (windowNo s k) .support-long ∙ sym points) (omega (arith, in-support, t .support-so .same-length)));
+          }
+
+    -- all windows
+    pub turned-all : {k at : ℕ} {grid : List ℤ} {support : List ℕ} → Turned g u k at grid support → k ≡ s .count
+        → tile grid support ≡ inTurn has (windowsIn s)
+    turned-all {k} {at} {grid} {support} t e =
+        let end : at ≡ pointsOfAll (windowsIn s) = t .at-is ∙ ap (pointsBefore s) e ∙ sym all-points in
+        let a = written-all (t .grid-so) (end ∙ sym (fits .grid-long)) ∙ ap gridTo e ∙ sym (join-tab (λ w. has w .grid) (s .count) (windowNo s)) in
+        let b = written-all (t .support-so) (end ∙ sym (fits .support-long)) ∙ ap supportTo e ∙ sym (join-tab (λ w. has w .support) (s .count) (windowNo s)) in
+        cc
