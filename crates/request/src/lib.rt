@@ -10,7 +10,7 @@ ghost use Rattle.scheme.specs.Units.{mostSide, mostStations, stationsOf, mostSc
 ghost use Rattle.scheme.specs.Refusals.{windowsOf, pointsOf};
 ghost use Rattle.scheme.specs.Promises.{sixColumns, fourColumns};
 ghost use Rattle.scheme.specs.Accepted.{Equal, OnGrid, EqualScreen};
-ghost use Rattle.request.specs.Tables.{stationIn, windowIn, windowsIn};
+ghost use Rattle.request.specs.Tables.{stationIn, windowIn, windowNo, windowsIn};
 ghost use Rattle.request.specs.Loaded.{First, Termed, numbersAt, minutesAt};
 
 // Places in a row of numbers.
@@ -158,6 +158,16 @@ pub fn points_of(w: Window) -> usize
     ensures { λ r. ⌜ r ≡ pointsOf (windowIn w) ⌝ }
 {
     (w.right - w.left + 1) * (w.bottom - w.top + 1)
+}
+
+// A screen of one window.
+pub fn alone(w: Window) -> Screen
+    ensures { λ r. ⌜ (r .count ≡ 1) × (windowNo r 0 ≡ windowIn w) ⌝ }
+{
+    Screen {
+        windows: [w; 16],
+        count: 1,
+    }
 }
 
 // The columns of a screen, as windows.

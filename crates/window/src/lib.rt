@@ -5,6 +5,7 @@ ghost use lib.ListN.{length};
 ghost use Rattle.scheme.specs.Refusals.{inOrder};
 ghost use Rattle.scheme.specs.Reach.{wholeAt};
 ghost use Rattle.scheme.specs.Promises.{tile, Settles};
+ghost use Rattle.scheme.specs.Most.{mostPoints};
 ghost use Rattle.scheme.specs.Accepted.{Sound, fromSix, Formed, FitsWindow, OnGrid};
 ghost use Rattle.request.specs.Tables.{requestIn, windowIn};
 ghost use Rattle.window.specs.Cut.{cutTerms, movedOn};
@@ -41,17 +42,19 @@ fn moved(w: request::Window, c: request::Window) -> request::Window
     }
 }
 
-// The whole grid's numbers at the window's points, from the analysis of the cut.
-fn work(
+// The whole grid's numbers at the window's points, from the analysis of the cut. The cut's first guess is put into `part`, which is lent so that
+// one who asks many windows clears it once.
+pub fn work(
     t: request::Terms,
     w: request::Window,
     guess: &[i32],
     numbers: &[[i32; 3]; 512],
     minutes: &[[u32; 3]; 512],
+    part: &mut [i32],
     grid: &mut [i32],
     support: &mut [u8],
 )
-    requires { ⌜ Sound (requestIn t (now guess) (now numbers) (now minutes)) × OnGrid (t .nx) (t .ny) (windowIn w) × FitsWindow (windowIn w) (length (now grid)) (length (now support)) ⌝ }
+    requires { ⌜ Sound (requestIn t (now guess) (now numbers) (now minutes)) × OnGrid (t .nx) (t .ny) (windowIn w) × (length (now part) ≡ mostPoints) × FitsWindow (windowIn w) (length (now grid)) (length (now support)) ⌝ }
     ensures { λ u. ⌜ tile (now (grid .exit)) (now (support .exit)) ≡ wholeAt (requestIn t (now (guess .entry)) (now (numbers .entry)) (now (minutes .entry))) (windowIn w) ⌝ }
 {
     let reach = window_spans::reach(t);
@@ -59,14 +62,13 @@ fn work(
     let wide = c.right - c.left + 1;
     let high = c.bottom - c.top + 1;
     let points = wide * high;
-    let mut part = [0i32; 4096];
     window_cut::part_of_values(&mut part[..points], guess, t.nx, c.left, c.top, wide, high);
     let mut kept = [[0i32; 3]; 512];
     let mut times = [[0u32; 3]; 512];
     let stations = window_cut::keep_stations(&mut kept, &mut times, t, c, numbers, minutes);
-    window_tile::whole_at(
+    window_tile::whole_at_each(
         cut_terms(t, wide, high, stations),
-        moved(w, c),
+        request::alone(moved(w, c)),
         &part[..points],
         &kept,
         &times,
@@ -94,6 +96,7 @@ pub fn settled(
     if refused != 0 {
         return refused;
     }
-    work(t, w, guess, numbers, minutes, grid, support);
+    let mut part = [0i32; 4096];
+    work(t, w, guess, numbers, minutes, &mut part, grid, support);
     0
 }

@@ -14,7 +14,7 @@ use Rattle.scheme.specs.Refusals.{Window, mostWindows, pointsOf, pointsOfAll}
 use Rattle.scheme.specs.Reach.{Tile, inTurn}
 use Rattle.scheme.specs.Promises.{tile}
 use Rattle.scheme.specs.Most.{mostPoints}
-use Rattle.scheme.specs.Accepted.{Shaped, FitsWindow, FitsScreen, few-points}
+use Rattle.scheme.specs.Accepted.{Shaped, OnGrid, FitsWindow, FitsScreen, few-points}
 use Rattle.request.specs.declared.Screen.{Screen}
 use Rattle.request.specs.Tables.{windowNo, windowsIn, OnScreen}
 
@@ -34,6 +34,23 @@ turn-same f g s h =
     let a = join-tab (λ w. f w .grid) (s .count) (windowNo s) ∙ upTo-same [] _++_ (s .count) _ _ (λ k l. ap (λ (x : Tile). x .grid) (h k l)) ∙ sym (join-tab (λ w. g w .grid) (s .count) (windowNo s)) in
     let b = join-tab (λ w. f w .support) (s .count) (windowNo s) ∙ upTo-same [] _++_ (s .count) _ _ (λ k l. ap (λ (x : Tile). x .support) (h k l)) ∙ sym (join-tab (λ w. g w .support) (s .count) (windowNo s)) in
     cc
+
+-- a screen of one window
+module _ (s : Screen) {w : Window} (one : (s .count ≡ 1) × (windowNo s 0 ≡ w)) where
+  alone : windowsIn s ≡ w ∷ []
+  unfolding tab
+  alone = rw (one .0) (ap (λ (v : Window). v ∷ []) (one .1))
+
+  pub on-alone : {nx ny : ℕ} → OnGrid nx ny w → OnScreen nx ny s
+  on-alone on = record { few = omega (arith, one .0); on = λ k h. (let e : k ≡ 0 = omega (arith, one .0) in rw (e, one .1) on) }
+
+  pub fits-alone : {grid support : ℕ} → FitsWindow w grid support → FitsScreen (windowsIn s) grid support
+  unfolding total
+  fits-alone f = rw alone (record { grid-long = omega (arith, f .grid-long); support-long = omega (arith, f .support-long) })
+
+  pub turn-alone : (has : Window → Tile) → inTurn has (windowsIn s) ≡ has w
+  unfolding total
+  turn-alone has = rw alone (ap₂ tile (append-nil (has w .grid)) (append-nil (has w .support)))
 
 -- what each window has, which is as long as it is
 module _ (has : Window → Tile) (long : (w : Window) → FitsWindow w (length (has w .grid)) (length (has w .support))) (s : Screen) where

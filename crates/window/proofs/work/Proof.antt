@@ -5,8 +5,8 @@ use native.Mathlib.Omega.{arith}
 use borrow.Author.Needs.{needs}
 use mathlib.Core.Path.{_≡_, refl, sym, ap, _∙_}
 use mathlib.Core.List.{List, _++_}
-use lib.ListN.{length, take, drop, replicate, length-replicate}
-use lib.IntN.{ℤ, pos}
+use lib.ListN.{length, take, drop}
+use lib.IntN.{ℤ}
 use lib.Seq.{length-take-le}
 use Rattle.scheme.specs.Units.{mostSide, Request}
 use Rattle.scheme.specs.Refusals.{Window, pointsAlong}
@@ -16,28 +16,20 @@ use Rattle.scheme.specs.Accepted.{OnGrid, few-points}
 use Rattle.scheme.specs.Stored.{length-stored}
 use Rattle.request.specs.Tables.{requestIn, windowIn}
 use Rattle.window_tile.specs.Query.{prefix-back, prefix-in}
+use Rattle.window_tile.specs.Turn.{on-alone, fits-alone, turn-alone}
 use Rattle.window.specs.Cut.{Along, across, down, small, guess-part, keep-ready, cut-accepted, cut-answers}
 use Rattle.window.proofs.work.Statement.{statement}
 use Rattle.window.proofs.work.Tie as tie
-use Rattle.window.proofs.work.Reads as reads
-use Rattle.window.proofs.work.Lts as lts
-use Rattle.window.proofs.cut_terms.Reads as cut-terms-reads
-use Rattle.window.proofs.moved.Reads as moved-reads
-use Rattle.window_cut.proofs.keep_stations.Reads as keep-stations-reads
-use Rattle.window_cut.proofs.part_of_values.Reads as part-of-values-reads
-use Rattle.window_spans.proofs.reach.Reads as reach-reads
-use Rattle.window_spans.proofs.widened.Reads as widened-reads
-use Rattle.window_tile.proofs.whole_at.Reads as whole-at-reads
 
 -- three places: at first, with the cut, with its first guess
 abbrev Start : Type 0
-Start = lts.Start (reach-reads.Asked, reach-reads.Learnt, widened-reads.Asked, widened-reads.Learnt, part-of-values-reads.Asked, part-of-values-reads.Learnt, keep-stations-reads.Asked, keep-stations-reads.Learnt, cut-terms-reads.Asked, cut-terms-reads.Learnt, moved-reads.Asked, moved-reads.Learnt, whole-at-reads.Asked, whole-at-reads.Learnt) reads.Pre reads.Post
+Start = tie.Start
 
 abbrev Cut : Type 0
-Cut = lts.After-widened (reach-reads.Asked, reach-reads.Learnt, widened-reads.Asked, widened-reads.Learnt, part-of-values-reads.Asked, part-of-values-reads.Learnt, keep-stations-reads.Asked, keep-stations-reads.Learnt, cut-terms-reads.Asked, cut-terms-reads.Learnt, moved-reads.Asked, moved-reads.Learnt, whole-at-reads.Asked, whole-at-reads.Learnt) reads.Pre reads.Post
+Cut = tie.After-widened
 
 abbrev Guessed : Type 0
-Guessed = lts.After-part-of-values (reach-reads.Asked, reach-reads.Learnt, widened-reads.Asked, widened-reads.Learnt, part-of-values-reads.Asked, part-of-values-reads.Learnt, keep-stations-reads.Asked, keep-stations-reads.Learnt, cut-terms-reads.Asked, cut-terms-reads.Learnt, moved-reads.Asked, moved-reads.Learnt, whole-at-reads.Asked, whole-at-reads.Learnt) reads.Pre reads.Post
+Guessed = tie.After-part-of-values
 
 module _ (s : Start) where
   abbrev q : Request
@@ -46,13 +38,13 @@ module _ (s : Start) where
   abbrev w : Window
   w = windowIn (s .args .w)
 
--- the local array whose prefix is lent
-abbrev part₀ : List ℤ
-part₀ = replicate mostPoints (pos 0)
-
 module _ (c : Cut) where
   abbrev start : Start
   start = c .before .before .before
+
+  -- the memory whose prefix is lent
+  abbrev part₀ : List ℤ
+  part₀ = start .args .part .now
 
   abbrev here : Window
   here = windowIn (c .widened .result)
@@ -76,7 +68,7 @@ module _ (c : Cut) where
   few = few-points on (omega arith) (omega arith)
 
   long₀ : length (take points part₀) ≡ points
-  long₀ = length-take-le points part₀ (omega (arith, few, length-replicate {A = ℤ} mostPoints (pos 0)))
+  long₀ = length-take-le points part₀ (omega (arith, few, start .pre .2))
 
 module _ (c : Guessed) where
   abbrev at : Cut
@@ -89,8 +81,8 @@ module _ (c : Guessed) where
   part-long = ap length (c .part-of-values .ensures) ∙ length-stored (pointsAlong (here at .columns)) (pointsAlong (here at .rows)) _
 
   -- as it is lent on
-  part-back : take (points at) (part ++ drop (points at) part₀) ≡ part
-  part-back = prefix-back (points at) part part₀ part-long
+  part-back : take (points at) (part ++ drop (points at) (part₀ at)) ≡ part
+  part-back = prefix-back (points at) part (part₀ at) part-long
 
 reach-requires : tie.Need-reach-requires
 reach-requires c κs = search needs
@@ -113,8 +105,8 @@ add-high c = record { fits = omega (arith, on (c .before .before) .bottom) }
 mul-points : tie.Need-mul-points
 mul-points c = record { fits = omega (arith, few (c .before .before)) }
 
-array-borrow-prefix-part : tie.Need-array-borrow-prefix-part
-array-borrow-prefix-part c = few (c .before .before)
+slice-relend-prefix-part-of-values : tie.Need-slice-relend-prefix-part-of-values
+slice-relend-prefix-part-of-values c = let k = c .before .before in omega (arith, few k, start k .pre .2)
 
 slice-aggregate-part-of-values : tie.Need-slice-aggregate-part-of-values
 slice-aggregate-part-of-values c = sym (long₀ (c .before .before .before))
@@ -138,22 +130,27 @@ moved-requires c κs =
     let k = at (c .before .before .before .before .before) in
     (x k .first, x k .ordered, y k .first, y k .ordered)
 
-array-share-prefix-part : tie.Need-array-share-prefix-part
-array-share-prefix-part c =
-    let k = c .before .before .before .before .before .before in
-    prefix-in (points (at k)) (part k) part₀ (part-long k)
+alone-requires : tie.Need-alone-requires
+alone-requires c κs = search needs
 
-slice-aggregate-whole-at : tie.Need-slice-aggregate-whole-at
-slice-aggregate-whole-at c =
+slice-reshare-prefix-whole-at-each : tie.Need-slice-reshare-prefix-whole-at-each
+slice-reshare-prefix-whole-at-each c =
     let k = c .before .before .before .before .before .before .before in
+    prefix-in (points (at k)) (part k) (part₀ (at k)) (part-long k)
+
+slice-aggregate-whole-at-each : tie.Need-slice-aggregate-whole-at-each
+slice-aggregate-whole-at-each c =
+    let k = c .before .before .before .before .before .before .before .before in
     sym (ap length (part-back k) ∙ part-long k)
 
-whole-at-requires : tie.Need-whole-at-requires
-whole-at-requires c κs =
-    let m = c .before .before .before .before .before in
+whole-at-each-requires : tie.Need-whole-at-each-requires
+whole-at-each-requires c κs =
+    let one = c .before .before .before .before .before in
+    let m = one .before in
     let k = m .before .before .before .before .before .before in
     let s = start (at k) in
-    cut-accepted (s .args .t) (s .args .guess .now) (s .args .numbers .now) (s .args .minutes .now) (s .pre .0) (s .pre .1) (here-is (at k)) (part-back k ∙ k .part-of-values .ensures) (m .before .before .keep-stations .ensures) (m .before .cut-terms .ensures) (m .moved .ensures) (s .pre .2)
+    let (sound, on, fits) = cut-accepted (s .args .t) (s .args .guess .now) (s .args .numbers .now) (s .args .minutes .now) (s .pre .0) (s .pre .1) (here-is (at k)) (part-back k ∙ k .part-of-values .ensures) (m .before .before .keep-stations .ensures) (m .before .cut-terms .ensures) (m .moved .ensures) (s .pre .3) in
+    (sound, on-alone (one .alone .result) (one .alone .ensures) on, fits-alone (one .alone .result) (one .alone .ensures) fits)
 
 same-length : tie.Need-same-length
 same-length c = search needs
@@ -161,12 +158,17 @@ same-length c = search needs
 same-length-2 : tie.Need-same-length-2
 same-length-2 c = search needs
 
+same-length-3 : tie.Need-same-length-3
+same-length-3 c = search needs
+
 returns : tie.Need-returns
 returns c =
-    let m = c .before .before .before .before .before .before .before .before .before in
+    let one = c .before .before .before .before .before .before .before .before .before in
+    let m = one .before in
     let k = m .before .before .before .before .before .before in
     let s = start (at k) in
-    c .before .before .before .whole-at .ensures
+    c .before .before .before .whole-at-each .ensures
+    ∙ turn-alone (one .alone .result) (one .alone .ensures) _
     ∙ cut-answers (s .args .t) (s .args .guess .now) (s .args .numbers .now) (s .args .minutes .now) (s .pre .0) (s .pre .1) (here-is (at k)) (part-back k ∙ k .part-of-values .ensures) (m .before .before .keep-stations .ensures) (m .before .cut-terms .ensures) (m .moved .ensures)
 
 pub work-spec : {M : Type 1} → statement M
@@ -180,15 +182,17 @@ work-spec =
     sub-high
     add-high
     mul-points
-    array-borrow-prefix-part
+    slice-relend-prefix-part-of-values
     slice-aggregate-part-of-values
     part-of-values-requires
     keep-stations-requires
     cut-terms-requires
     moved-requires
-    array-share-prefix-part
-    slice-aggregate-whole-at
-    whole-at-requires
+    alone-requires
+    slice-reshare-prefix-whole-at-each
+    slice-aggregate-whole-at-each
+    whole-at-each-requires
     same-length
     same-length-2
+    same-length-3
     returns)
