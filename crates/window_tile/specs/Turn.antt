@@ -10,11 +10,13 @@ use lib.IntN.{ℤ}
 use Rattle.lists.specs.Tab.{tab}
 use Rattle.lists.specs.Sums.{total, upTo, upTo-next, upTo-same}
 use Rattle.lists.specs.Turns.{sumTo, joinTo, sum-tab, join-tab, sum-most, sum-room, Written, written-none, written-more, written-all}
-use Rattle.scheme.specs.Refusals.{Window, mostWindows, pointsOf, pointsOfAll}
-use Rattle.scheme.specs.Reach.{Tile, inTurn}
+use Rattle.scheme.specs.Units.{Request}
+use Rattle.scheme.specs.Refusals.{Window, mostWindows, pointsAlong, pointsOf, pointsOfAll}
+use Rattle.scheme.specs.Reach.{windowOf, Tile, wholeAt, inTurn}
 use Rattle.scheme.specs.Promises.{tile}
 use Rattle.scheme.specs.Most.{mostPoints}
 use Rattle.scheme.specs.Accepted.{Shaped, OnGrid, FitsWindow, FitsScreen, few-points}
+use Rattle.scheme.specs.Stored.{length-stored}
 use Rattle.request.specs.declared.Screen.{Screen}
 use Rattle.request.specs.Tables.{windowNo, windowsIn, OnScreen}
 
@@ -51,6 +53,14 @@ module _ (s : Screen) {w : Window} (one : (s .count ≡ 1) × (windowNo s 0 ≡ 
   pub turn-alone : (has : Window → Tile) → inTurn has (windowsIn s) ≡ has w
   unfolding total
   turn-alone has = rw alone (ap₂ tile (append-nil (has w .grid)) (append-nil (has w .support)))
+
+pub whole-long : (q : Request) (w : Window) → FitsWindow w (length (wholeAt q w .grid)) (length (wholeAt q w .support))
+unfolding wholeAt windowOf
+whole-long q w =
+    record {
+      grid-long = length-stored (pointsAlong (w .columns)) (pointsAlong (w .rows)) _;
+      support-long = length-stored (pointsAlong (w .columns)) (pointsAlong (w .rows)) _;
+    }
 
 -- what each window has, which is as long as it is
 module _ (has : Window → Tile) (long : (w : Window) → FitsWindow w (length (has w .grid)) (length (has w .support))) (s : Screen) where

@@ -12,6 +12,9 @@ of-request-requires c κs = search needs
 returns : tie.Need-returns
 returns c = refuses _ _ (c .before .of-request .ensures) (c .if1 .taken)
 
+slice-aggregate-work : tie.Need-slice-aggregate-work
+slice-aggregate-work c = search needs
+
 work-requires : tie.Need-work-requires
 work-requires c κs =
     let e = c .before .before .before in
@@ -26,10 +29,10 @@ same-length-2 c = search needs
 
 returns-2 : tie.Need-returns-2
 returns-2 c =
-    let e = c .before .before .before .before .before .before .before in
-    works _ _ (e .before .of-request .ensures) (e .if1 .left) (c .before .before .before .work .ensures)
+    let e = c .before .before .before .before .before .before .before .before in
+    works _ _ (e .before .of-request .ensures) (e .if1 .left) (c .before .before .before .before .work .ensures)
 
 pub settled-spec : {M : Type 1} → statement M
 settled-spec =
     tie.close
-    (tie.spec of-request-requires returns work-requires same-length same-length-2 returns-2)
+    (tie.spec of-request-requires returns slice-aggregate-work work-requires same-length same-length-2 returns-2)

@@ -1,0 +1,2 @@
+-- The points of the cuts of a screen. Proved.
+pub mod Cuts
