@@ -1,8 +1,8 @@
-// The exports of the archive (include/sosnyavik.h). The two calls on station columns test what goes by lengths and counts, load the
+// The exports of the archive (include/sosnyavik.h). The three calls on station columns test what goes by lengths and counts, load the
 // columns once, and hand the request on; nothing is written before it is accepted. They answer refusal·65,536 + place.
 ghost use Rattle.scheme.specs.Units.{asking};
 ghost use Rattle.scheme.specs.Refusals.{windowAt};
-ghost use Rattle.scheme.specs.Promises.{sixColumns, slices, Analyses, tile, Queries, ReadsKind, ReadsValue, Summarises};
+ghost use Rattle.scheme.specs.Promises.{sixColumns, slices, Analyses, tile, Queries, fourColumns, QueriesEach, ReadsKind, ReadsValue, Summarises};
 use request::Window;
 use scheme::Summary;
 
@@ -127,6 +127,71 @@ pub extern "C" fn sosnyavik_window(
     );
     let t = request::terms_of(nx, ny, x.len(), count, radius, limit, smooth, time, age);
     window::settled(t, w, guess, &numbers, &minutes, grid, support)
+}
+
+#[no_mangle]
+pub extern "C" fn sosnyavik_windows(
+    nx: u32,
+    ny: u32,
+    guess: &[i32],
+    left: &[u32],
+    right: &[u32],
+    top: &[u32],
+    bottom: &[u32],
+    x: &[i32],
+    y: &[i32],
+    value: &[i32],
+    observed: &[u32],
+    from: &[u32],
+    until: &[u32],
+    count: u32,
+    radius: &[i32],
+    limit: &[i32],
+    smooth: bool,
+    time: u32,
+    age: u32,
+    grid: &mut [i32],
+    support: &mut [u8],
+) -> u32
+    ensures { λ r. ⌜ QueriesEach (asking nx ny (now (guess .entry)) (sixColumns (now (x .entry)) (now (y .entry)) (now (value .entry)) (now (observed .entry)) (now (from .entry)) (now (until .entry))) count (now (radius .entry)) (now (limit .entry)) smooth time age) (fourColumns (now (left .entry)) (now (right .entry)) (now (top .entry)) (now (bottom .entry))) (tile (now (grid .entry)) (now (support .entry))) r (tile (now (grid .exit)) (now (support .exit))) ⌝ }
+{
+    let l = refusal_shapes::lengths_of(
+        nx,
+        ny,
+        guess,
+        x,
+        y,
+        value,
+        observed,
+        from,
+        until,
+        count,
+        radius,
+        limit,
+    );
+    let unequal = refusal::of_screen_columns(l, left.len(), right.len(), top.len(), bottom.len());
+    if unequal != 0 {
+        return unequal;
+    }
+    let screen = request::screen_of(left, right, top, bottom);
+    let refused = refusal::of_screen_lengths(l, screen, grid.len(), support.len());
+    if refused != 0 {
+        return refused;
+    }
+    let mut numbers = [[0i32; 3]; 512];
+    let mut minutes = [[0u32; 3]; 512];
+    request::load(
+        &mut numbers,
+        &mut minutes,
+        x,
+        y,
+        value,
+        observed,
+        from,
+        until,
+    );
+    let t = request::terms_of(nx, ny, x.len(), count, radius, limit, smooth, time, age);
+    window_screen::settled(t, screen, guess, &numbers, &minutes, grid, support)
 }
 
 #[no_mangle]

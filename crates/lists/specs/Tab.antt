@@ -49,6 +49,13 @@ module _ {A : Type 0} where
   pub tab-same : (n : ℕ) (f g : ℕ → A) → ((k : ℕ) → k < n → f k ≡ g k) → tab n f ≡ tab n g
   tab-same n f g h = is-tab (f 0) n g (tab n f) (length-tab n f) (λ k p. getD-tab n f k (f 0) p ∙ h k p)
 
+-- equal tables are as long, and have the same at each place
+pub tab-tells : {A : Type 0} (n m : ℕ) (f g : ℕ → A) → tab n f ≡ tab m g → (n ≡ m) × ((k : ℕ) → k < n → f k ≡ g k)
+tab-tells {A = A} n m f g e = (long, λ k h. sym (getD-tab n f k (f 0) h) ∙ ap (λ (l : List A). getD l k (f 0)) e ∙ getD-tab m g k (f 0) (omega (arith, long)))
+  where
+    long : n ≡ m
+    long = sym (length-tab n f) ∙ ap length e ∙ length-tab m g
+
 -- a table grows at its end, as a loop fills it
 tab-last : {A : Type 0} (n : ℕ) (f : ℕ → A) → tab (suc n) f ≡ tab n f ++ (f n ∷ [])
 unfolding tab

@@ -143,6 +143,7 @@ on-screen {nx} {ny} shape s few k past e = record { few = few; on = λ m h. wide
 
 pub record ScreenPassed (c : Call) (s : Screen) (grid support : ℕ) : Type 0 where
   pub handed : Handed c
+  pub columns : EqualScreen s
   pub on-grid : (k : ℕ) → k < length (s .left) → OnGrid (c .nx) (c .ny) (windowOn s k)
   pub fits : FitsScreen (windowsOf s) grid support
   pub rest : screenRefusal c s grid support ≡ inOrder (fromSix (asked c))
@@ -180,6 +181,7 @@ module _ (c : Call) (s : Screen) (grid support : ℕ) where
             let (g, u) = long _ _ _ (not-refused 3 _ _ three) in
             record {
               handed = handed c (columns-passed first .0) (not-refused 4 _ _ four) (not-refused 5 _ _ five);
+              columns = columns-passed first .1;
               on-grid = λ k h. on-grid _ _ _ (first-good (length (s .left)) (λ m. badWindow (c .nx) (c .ny) (windowOn s m)) (sym (in-table _ (length (s .left)) (windowOn s)) ∙ nowhere-refused 2 _ two) k h);
               fits = record { grid-long = g; support-long = u };
               rest = past ∙ rest-decides (fromSix (asked c)) screen-rows e;

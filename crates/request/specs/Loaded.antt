@@ -10,14 +10,14 @@ use Rattle.lists.specs.Filled.{Filled}
 use Rattle.scheme.specs.Units.{stationAt, stationsOf, mostScans, Plan, Request, Call, asked}
 use Rattle.scheme.specs.Refusals.{Window, windowsOf}
 use Rattle.scheme.specs.Scan.{analysis}
-use Rattle.scheme.specs.Reach.{wholeAt}
+use Rattle.scheme.specs.Reach.{wholeAt, wholeAtEach}
 use Rattle.scheme.specs.Promises.{sixColumns, fourColumns}
 use Rattle.scheme.specs.Accepted.{Shaped, Equal, fromSix, Formed}
 use Rattle.scheme.specs.Entries.{withPlan, UpToCount, entries-past-the-count-change-no-analysis, entries-past-the-count-change-no-window, same-from-six}
 use Rattle.request.specs.declared.Terms.{Terms}
 use Rattle.request.specs.declared.Window.{Window as Ends}
 use Rattle.request.specs.declared.Screen.{Screen}
-use Rattle.request.specs.Tables.{stationOf, stationIn, planIn, requestIn, windowIn, noEnds, windowsIn}
+use Rattle.request.specs.Tables.{stationOf, stationIn, planIn, requestIn, windowIn, noEnds, windowNo, windowsIn, turn-same}
 
 -- the first n entries of a plan's column
 pub record First (n : ℕ) (column entries : List ℤ) : Type 0 where
@@ -82,6 +82,9 @@ module _ {t : Terms} {guess : List ℤ} {numbers : List (List ℤ)} {minutes : L
 
   pub same-window : (w : Window) → wholeAt (requestIn t guess numbers minutes) w ≡ wholeAt q w
   same-window w = ap (λ (p : Request). wholeAt p w) as-held ∙ entries-past-the-count-change-no-window q (planIn t) (h .plan) w
+
+  pub same-screen : (s : Screen) → wholeAtEach (requestIn t guess numbers minutes) (windowsIn s) ≡ wholeAtEach q (windowsIn s)
+  same-screen s = turn-same _ _ s (λ k h. same-window (windowNo s k))
 
 -- ---- a call that is loaded
 

@@ -1,11 +1,15 @@
 -- The request as it is handed on: its terms, its first guess, and its stations as rows of two tables.
 use Prim.Native.Nat.{ℕ, _≤_, _<_}
-use mathlib.Core.List.{List, []}
+use mathlib.Core.Path.{_≡_, sym, ap, _∙_}
+use mathlib.Core.List.{List, [], _++_}
 use lib.ListN.{getD}
 use lib.IntN.{ℤ, pos}
 use Rattle.lists.specs.Tab.{tab}
+use Rattle.lists.specs.Sums.{upTo-same}
+use Rattle.lists.specs.Turns.{join-tab}
 use Rattle.scheme.specs.Units.{Station, Plan, Request}
 use Rattle.scheme.specs.Refusals.{Window, mostWindows, windowAt}
+use Rattle.scheme.specs.Reach.{Tile, inTurn}
 use Rattle.scheme.specs.Accepted.{OnGrid}
 use Rattle.request.specs.declared.Terms.{Terms}
 use Rattle.request.specs.declared.Window.{Window as Ends}
@@ -61,3 +65,10 @@ windowsIn s = tab (s .count) (windowNo s)
 pub record OnScreen (nx ny : ℕ) (s : Screen) : Type 0 where
   pub few : s .count ≤ mostWindows
   pub on : (k : ℕ) → k < s .count → OnGrid nx ny (windowNo s k)
+
+-- windows that have the same have the same in turn
+pub turn-same : (f g : Window → Tile) (s : Screen) → ((k : ℕ) → k < s .count → f (windowNo s k) ≡ g (windowNo s k)) → inTurn f (windowsIn s) ≡ inTurn g (windowsIn s)
+turn-same f g s h =
+    let a = join-tab (λ w. f w .grid) (s .count) (windowNo s) ∙ upTo-same [] _++_ (s .count) _ _ (λ k l. ap (λ (x : Tile). x .grid) (h k l)) ∙ sym (join-tab (λ w. g w .grid) (s .count) (windowNo s)) in
+    let b = join-tab (λ w. f w .support) (s .count) (windowNo s) ∙ upTo-same [] _++_ (s .count) _ _ (λ k l. ap (λ (x : Tile). x .support) (h k l)) ∙ sym (join-tab (λ w. g w .support) (s .count) (windowNo s)) in
+    cc

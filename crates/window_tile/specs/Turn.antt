@@ -8,7 +8,7 @@ use lib.ListN.{length, take, drop, length-drop}
 use lib.Seq.{length-take-le}
 use lib.IntN.{ℤ}
 use Rattle.lists.specs.Tab.{tab}
-use Rattle.lists.specs.Sums.{total, upTo, upTo-next, upTo-same}
+use Rattle.lists.specs.Sums.{total, upTo, upTo-next}
 use Rattle.lists.specs.Turns.{sumTo, joinTo, sum-tab, join-tab, sum-most, sum-room, Written, written-none, written-more, written-all}
 use Rattle.scheme.specs.Units.{Request}
 use Rattle.scheme.specs.Refusals.{Window, mostWindows, pointsAlong, pointsOf, pointsOfAll}
@@ -29,13 +29,6 @@ pub all-few : {nx ny len : ℕ} → Shaped nx ny len → (s : Screen) → OnScre
 all-few shape s on =
     rw (sum-tab pointsOf (s .count) (windowNo s))
     (le-trans (sum-most mostPoints (s .count) _ (λ k h. few-points (on .on k h) (shape .few-columns) (shape .few-rows))) (mul-le-mul-right mostPoints (on .few)))
-
--- windows that have the same have the same in turn
-pub turn-same : (f g : Window → Tile) (s : Screen) → ((k : ℕ) → k < s .count → f (windowNo s k) ≡ g (windowNo s k)) → inTurn f (windowsIn s) ≡ inTurn g (windowsIn s)
-turn-same f g s h =
-    let a = join-tab (λ w. f w .grid) (s .count) (windowNo s) ∙ upTo-same [] _++_ (s .count) _ _ (λ k l. ap (λ (x : Tile). x .grid) (h k l)) ∙ sym (join-tab (λ w. g w .grid) (s .count) (windowNo s)) in
-    let b = join-tab (λ w. f w .support) (s .count) (windowNo s) ∙ upTo-same [] _++_ (s .count) _ _ (λ k l. ap (λ (x : Tile). x .support) (h k l)) ∙ sym (join-tab (λ w. g w .support) (s .count) (windowNo s)) in
-    cc
 
 -- a screen of one window
 module _ (s : Screen) {w : Window} (one : (s .count ≡ 1) × (windowNo s 0 ≡ w)) where

@@ -15,9 +15,8 @@ use Rattle.scheme.specs.Scan.{analysis}
 use Rattle.scheme.specs.Promises.{slices}
 use Rattle.scheme.specs.Accepted.{same-shape}
 use Rattle.scheme.specs.Most.{mostPoints}
-use Rattle.request.specs.Tables.{stationIn, requestIn, windowNo}
+use Rattle.request.specs.Tables.{stationIn, requestIn, windowNo, turn-same}
 use Rattle.window_tile.specs.Query.{prefix-back, prefix-in, values-long, bits-long, whole-part}
-use Rattle.window_tile.specs.Turn.{turn-same}
 use Rattle.window_tile.proofs.whole_at_each.Statement.{statement}
 use Rattle.window_tile.proofs.whole_at_each.Tie as tie
 use Rattle.window_tile.proofs.whole_at_each.Reads as reads
