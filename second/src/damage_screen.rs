@@ -31,17 +31,27 @@ pub fn break_screen(
         }
         3 => break_results(rng, &mut call, &screen.windows(), way),
         _ => {
-            let (at, length) = (rng.draw(), screen.left.len());
-            let whole = call.clone();
-            break_call(rng, &mut call, number);
-            match rng.below(8) {
-                0 => break_columns(rng, &whole, &mut screen, at),
-                1 if length > 0 => set_bad(rng, &whole, &mut screen, at as usize % length, at),
-                _ => (),
+            if rng.one_in(3) {
+                break_windows_too(rng, &call, &mut screen);
             }
+            break_call(rng, &mut call, number);
         }
     }
     (call, screen)
+}
+
+/// Windows at fault in a request that is.
+fn break_windows_too(rng: &mut Rng, call: &Call, screen: &mut Screen) {
+    let (way, windows) = (rng.draw(), screen.left.len());
+    match rng.below(3) {
+        0 => break_columns(rng, call, screen, way),
+        1 => make_too_many(rng, screen),
+        _ if windows > 0 => {
+            let at = rng.below(windows);
+            set_bad(rng, call, screen, at, way);
+        }
+        _ => (),
+    }
 }
 
 /// Now and then the request has a fault of its own too.
@@ -59,11 +69,7 @@ fn break_columns(rng: &mut Rng, call: &Call, screen: &mut Screen, way: u64) {
     let bad = rng.one_in(3);
     let way = (way % 24) as usize;
     if way >= 20 || windows == 0 && ![1, 3].contains(&(way / 4)) {
-        let number = rng.pick(&[MOST_WINDOWS + 1, MOST_WINDOWS + 1, MOST_WINDOWS + 1, 18, 32, 300]);
-        let filling = screen.windows().first().copied().unwrap_or(Window::new(0, 0, 0, 0));
-        let mut all = screen.windows();
-        all.resize(number, filling);
-        *screen = Screen::new(&all);
+        make_too_many(rng, screen);
     } else {
         let column = &mut screen.columns_mut()[way % 4];
         let more = 2 + rng.below(20);
@@ -83,17 +89,25 @@ fn break_columns(rng: &mut Rng, call: &Call, screen: &mut Screen, way: u64) {
     }
 }
 
-/// Bad windows: the first, the last, one between, any one, or two of them. The
-/// results are as long as they were, or as what all areas together wrap to.
+/// Good windows, but more than a screen has.
+fn make_too_many(rng: &mut Rng, screen: &mut Screen) {
+    let mut windows = screen.windows();
+    let first = windows.first().copied().unwrap_or(Window::new(0, 0, 0, 0));
+    let one_more = MOST_WINDOWS + 1;
+    windows.resize(rng.pick(&[one_more, one_more, one_more, one_more + 1, 32, 300]), first);
+    *screen = Screen::new(&windows);
+}
+
+/// Bad windows: the first, the last, any one, or two of them. The results are
+/// as long as they were, or as what all areas together wrap to.
 fn break_windows(rng: &mut Rng, call: &mut Call, screen: &mut Screen, way: u64) {
     let last = screen.left.len() - 1;
     let (any, other) = (rng.below(last + 1), rng.below(last + 1));
-    let places = match way / BAD_ENDS % 5 {
+    let places = match (way + way / BAD_ENDS) % 6 {
         0 => vec![0],
         1 => vec![last],
-        2 => vec![any],
-        3 => vec![any, other],
-        _ => vec![last / 2],
+        2 if any != other => vec![any, other],
+        _ => vec![any],
     };
     for (turn, at) in (way..).zip(places) {
         set_bad(rng, call, screen, at, turn);

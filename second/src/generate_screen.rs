@@ -10,7 +10,7 @@ use crate::generate::{
 };
 use crate::generate_posts::move_beyond_the_cut;
 use crate::generate_window::{
-    any_window, lay_chain, move_to_the_cut, one, roomy_call, small_window, some,
+    any_window, lay_chain, move_to_the_cut, one, roomy_call, shortened, small_window, some,
 };
 use crate::rng::Rng;
 use crate::screen::points;
@@ -21,7 +21,7 @@ use crate::window::{reach, widened};
 pub fn screen(seed: u64, index: u64) -> (Call, Screen) {
     let mut rng = Rng::for_case(seed, 6, index);
     let rng = &mut rng;
-    match flavour(index, &[1, COLUMNS, 2, 3, 4, 5, 6, 7, 8]) {
+    match flavour(index, &[1, COLUMNS, 2, 2, 3, 4, 5, 6, 7, 8]) {
         // Big ones are four times as rare as single windows are: most of them
         // cost the archive a whole analysis.
         Flavour::Big => match index / BIG_EVERY % 8 {
@@ -36,7 +36,11 @@ pub fn screen(seed: u64, index: u64) -> (Call, Screen) {
             (call, screen)
         }
         Flavour::Damaged(number) => {
-            let lay: Lay = if number > 2 && rng.one_in(4) { none } else { any_number };
+            let lay: Lay = match number {
+                2 if rng.one_in(2) => sixteen,
+                2 => any_number,
+                _ => rng.pick(&[none as Lay, any_number, any_number, any_number]),
+            };
             let (call, screen) = with_screen(rng, small_call, lay);
             damage_screen::break_screen(rng, call, screen, number, index / TURNS)
         }
@@ -51,9 +55,9 @@ fn valid(rng: &mut Rng) -> (Call, Screen) {
         (roomy_call, |rng, call| any_of(rng, call, 1)),
         (roomy_call, |rng, call| any_of(rng, call, 2)),
         (roomy_call, several),
-        (roomy_call, |rng, call| any_of(rng, call, MOST_WINDOWS)),
+        (roomy_call, sixteen),
         (near_call, small_ones),
-        (near_call, small_ones),
+        (wide_call, sixteen_small),
         (roomy_call, equal),
         (roomy_call, shifted),
         (near_call, single_points),
@@ -90,16 +94,17 @@ fn with_screen(rng: &mut Rng, make: fn(&mut Rng) -> Call, lay: Lay) -> (Call, Sc
     (call, Screen::new(&windows))
 }
 
-/// A call whose cuts are small against its grid: one scan or two, short radii.
+/// A call whose cuts are small against its grid: few scans, short radii.
 fn near_call(rng: &mut Rng) -> Call {
-    let mut call = roomy_call(rng);
-    let (scans, most) = (call.scans as usize, rng.pick(&[1, 1, 2]));
-    call.radius.drain(scans.min(most)..scans);
-    call.limit.drain(scans.min(most)..scans);
-    call.scans = scans.min(most) as u32;
-    let longest = rng.pick(&[64, 64, 100, 128]);
-    call.radius.iter_mut().for_each(|radius| *radius = (*radius).min(longest));
-    call
+    let call = roomy_call(rng);
+    shortened(rng, call, &[1, 1, 2], &[64, 64, 100, 128])
+}
+
+/// The same on a grid with room for the cuts of sixteen windows.
+fn wide_call(rng: &mut Rng) -> Call {
+    let (nx, ny) = (rng.between(16, 36) as u32, rng.between(16, 36) as u32);
+    let call = untuned_call(rng, nx, ny, 12);
+    shortened(rng, call, &[1, 1, 2], &[64, 64, 100, 128])
 }
 
 /// The largest grid there is, with few stations, so that sixteen times all of
@@ -123,6 +128,10 @@ fn several(rng: &mut Rng, call: &Call) -> Vec<Window> {
     any_of(rng, call, number)
 }
 
+fn sixteen(rng: &mut Rng, call: &Call) -> Vec<Window> {
+    any_of(rng, call, MOST_WINDOWS)
+}
+
 /// One window or more, mostly few.
 fn any_number(rng: &mut Rng, call: &Call) -> Vec<Window> {
     let any = 1 + rng.below(MOST_WINDOWS);
@@ -133,7 +142,7 @@ fn any_number(rng: &mut Rng, call: &Call) -> Vec<Window> {
 /// On a big grid: some windows whose cuts are mostly small, or any sixteen.
 fn few_or_many(rng: &mut Rng, call: &Call) -> Vec<Window> {
     match rng.below(4) {
-        0 => any_of(rng, call, MOST_WINDOWS),
+        0 => sixteen(rng, call),
         _ => small_ones(rng, call),
     }
 }
@@ -141,6 +150,10 @@ fn few_or_many(rng: &mut Rng, call: &Call) -> Vec<Window> {
 fn small_ones(rng: &mut Rng, call: &Call) -> Vec<Window> {
     let number = 2 + rng.below(MOST_WINDOWS - 1);
     (0..number).map(|_| small_window(rng, call.nx, call.ny)).collect()
+}
+
+fn sixteen_small(rng: &mut Rng, call: &Call) -> Vec<Window> {
+    (0..MOST_WINDOWS).map(|_| small_window(rng, call.nx, call.ny)).collect()
 }
 
 /// The same window again and again, and now and then another between.

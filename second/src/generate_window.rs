@@ -68,12 +68,18 @@ pub fn roomy_call(rng: &mut Rng) -> Call {
     let nx = rng.between(6, 26) as u32;
     let ny = rng.between(6, 26) as u32;
     let stations = rng.pick(&[0, 2, 8, 20]);
-    let mut call = untuned_call(rng, nx, ny, stations);
-    let (scans, most) = (call.scans as usize, rng.pick(&[1, 2, 3, 6]));
-    call.radius.drain(scans.min(most)..scans);
-    call.limit.drain(scans.min(most)..scans);
-    call.scans = scans.min(most) as u32;
-    let longest = rng.pick(&[64, 100, 128, 200, 400]);
+    let call = untuned_call(rng, nx, ny, stations);
+    shortened(rng, call, &[1, 2, 3, 6], &[64, 100, 128, 200, 400])
+}
+
+/// The call with at most one of these numbers of scans, and radii at most one
+/// of these.
+pub fn shortened(rng: &mut Rng, mut call: Call, scans: &[usize], radii: &[i32]) -> Call {
+    let (all, most) = (call.scans as usize, rng.pick(scans));
+    call.radius.drain(all.min(most)..all);
+    call.limit.drain(all.min(most)..all);
+    call.scans = all.min(most) as u32;
+    let longest = rng.pick(radii);
     call.radius.iter_mut().for_each(|radius| *radius = (*radius).min(longest));
     call
 }

@@ -186,7 +186,8 @@ fn screens(call: &Call) -> Vec<ScreenCase> {
     let all: Vec<Window> = windows().collect();
     let (whole, last) = (Window::new(0, NX - 1, 0, NY - 1), all.len() - MOST_WINDOWS);
     let backwards: Vec<Window> = all[last..].iter().rev().copied().collect();
-    let far = [&all[..MOST_WINDOWS], &backwards, &[whole; MOST_WINDOWS], &all[8..11], &[], &all[9..10]];
+    let far =
+        [&all[..MOST_WINDOWS], &backwards, &[whole; MOST_WINDOWS], &all[8..11], &[], &all[9..10]];
     let near = [&all[..MOST_WINDOWS], &all[..3], &all[8..11], &all[10..11]];
     let one_scan = Call { scans: 1, radius: vec![SHORT], ..call.clone() };
     let far = far.into_iter().map(|windows| screened(call.clone(), windows));

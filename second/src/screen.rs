@@ -4,9 +4,7 @@
 //! that order."
 
 use crate::call::{Analysis, Call, Refusal, Screen, Window, WindowAnswer};
-use crate::refusals::{
-    check_request, check_result, check_shape, demand, is_on_grid, Checked,
-};
+use crate::refusals::{check_request, check_result, check_shape, demand, is_on_grid, Checked};
 use crate::scheme::run;
 use crate::units::MOST_WINDOWS;
 use crate::window::pick;

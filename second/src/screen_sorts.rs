@@ -61,6 +61,7 @@ pub fn floors() -> Vec<Floor> {
         numbered(REST, &[4, 5, 6, 7, 8], 20),
         numbered(NONE, &[1, 3, 4, 5, 6, 7, 8], 50),
         sorts::accepted_floors(200),
+        floors_of(&[(sorts::SMALL_OF_BIG, 1, 40)]),
         sorts::bad_floors(),
         post_sorts::window_floors(),
     ]
@@ -242,8 +243,8 @@ fn of_columns(call: &Call, screen: &Screen) -> Vec<Sort> {
     let bad = screen.windows().iter().any(|window| !is_on_grid(call, window));
     let (unequal, over) = (is_unequal(screen), is_over_sixteen(screen));
     let too = named(COLUMNS_TOO, [unequal && bad, over && bad]);
-    let many = over.then_some(lengths[0] - MOST_WINDOWS);
-    let many = named(TOO_MANY, [many == Some(1), many.is_some_and(|by| by > 1)]);
+    let many = if over { lengths[0] - MOST_WINDOWS } else { 0 };
+    let many = named(TOO_MANY, [many == 1, many > 1]);
     [too, many, (0..4).flat_map(|column| of_one_column(&lengths, column)).collect()].concat()
 }
 

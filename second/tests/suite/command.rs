@@ -107,6 +107,7 @@ fn bad_arguments_give_one_line_and_two() {
     wrong(&["compare"], &[]);
     wrong(&["compare", "maps"], &[]);
     wrong(&["compare", "window"], &[]);
+    wrong(&["compare", "windows"], &[]);
     wrong(&["compare", "text"], &[]);
     wrong(&["compare", "near"], &[]);
     wrong(&["compare", "real"], &[]);

@@ -13,7 +13,7 @@ use second::sorts::{floors, of_accepted, of_bad, Sort};
 use second::tally::{Floor, Tally};
 
 /// The numbers under the one name that begins so.
-fn numbers(sorts: &[Sort], name: &str) -> Vec<u32> {
+pub fn numbers(sorts: &[Sort], name: &str) -> Vec<u32> {
     sorts.iter().filter(|sort| sort.0.starts_with(name)).map(|sort| sort.1).collect()
 }
 
@@ -251,7 +251,7 @@ fn every_sort_has_a_floor() {
 
 /// Sees that every floor is one that can be missed and be held, and gives
 /// their number.
-fn held(floors: Vec<Floor>) -> usize {
+pub fn held(floors: Vec<Floor>) -> usize {
     let mut tally = Tally { count: 20_000, ..Tally::default() };
     for floor in floors {
         assert!(floor.least > 0 && tally.missed(&[floor]).is_some(), "{floor:?}");
