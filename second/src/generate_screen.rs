@@ -22,10 +22,10 @@ pub fn screen(seed: u64, index: u64) -> (Call, Screen) {
     let mut rng = Rng::for_case(seed, 6, index);
     let rng = &mut rng;
     match flavour(index, &[1, COLUMNS, 2, 2, 3, 4, 5, 6, 7, 8]) {
-        // Big ones are four times as rare as single windows are: most of them
+        // Big ones are eight times as rare as for single windows: most of them
         // cost the archive a whole analysis.
         Flavour::Big => match index / BIG_EVERY % 8 {
-            0 | 4 => with_screen(rng, big_call, few_or_many),
+            0 => with_screen(rng, big_call, few_or_many),
             1 => with_screen(rng, largest_call, all_points),
             _ => valid(rng),
         },
@@ -47,10 +47,11 @@ pub fn screen(seed: u64, index: u64) -> (Call, Screen) {
     }
 }
 
+type Make = fn(&mut Rng) -> Call;
 type Lay = fn(&mut Rng, &Call) -> Vec<Window>;
 
 fn valid(rng: &mut Rng) -> (Call, Screen) {
-    let lays: [(fn(&mut Rng) -> Call, Lay); 16] = [
+    let lays: [(Make, Lay); 16] = [
         (small_call, none),
         (roomy_call, |rng, call| any_of(rng, call, 1)),
         (roomy_call, |rng, call| any_of(rng, call, 2)),
@@ -74,7 +75,7 @@ fn valid(rng: &mut Rng) -> (Call, Screen) {
 
 /// A call with good windows, results as long as all of them, and stations by
 /// the edges of the cuts of some.
-fn with_screen(rng: &mut Rng, make: fn(&mut Rng) -> Call, lay: Lay) -> (Call, Screen) {
+fn with_screen(rng: &mut Rng, make: Make, lay: Lay) -> (Call, Screen) {
     let mut call = make(rng);
     let windows = lay(rng, &call);
     let chained = !windows.is_empty() && rng.one_in(2);
@@ -97,14 +98,14 @@ fn with_screen(rng: &mut Rng, make: fn(&mut Rng) -> Call, lay: Lay) -> (Call, Sc
 /// A call whose cuts are small against its grid: few scans, short radii.
 fn near_call(rng: &mut Rng) -> Call {
     let call = roomy_call(rng);
-    shortened(rng, call, &[1, 1, 2], &[64, 64, 100, 128])
+    shortened(rng, call, &[1, 1, 2, 3], &[64, 64, 100, 128])
 }
 
 /// The same on a grid with room for the cuts of sixteen windows.
 fn wide_call(rng: &mut Rng) -> Call {
     let (nx, ny) = (rng.between(16, 36) as u32, rng.between(16, 36) as u32);
     let call = untuned_call(rng, nx, ny, 12);
-    shortened(rng, call, &[1, 1, 2], &[64, 64, 100, 128])
+    shortened(rng, call, &[1, 1, 2, 3], &[64, 64, 100, 128])
 }
 
 /// The largest grid there is, with few stations, so that sixteen times all of
@@ -241,7 +242,8 @@ fn with_a_cut_of(rng: &mut Rng, call: &Call, asked: usize) -> Option<Window> {
     let steps = reach(call);
     let (across, down) = (spans(call.nx, steps), spans(call.ny, steps));
     let widths: Vec<usize> = down.iter().map(|span| span.cut).collect();
-    let fits = |span: &&Span| asked % span.cut == 0 && widths.contains(&(asked / span.cut));
+    let fits =
+        |span: &&Span| asked.is_multiple_of(span.cut) && widths.contains(&(asked / span.cut));
     let across: Vec<Span> = across.iter().filter(fits).copied().collect();
     if across.is_empty() {
         return None;

@@ -184,11 +184,12 @@ fn screened(mut call: Call, windows: &[Window]) -> ScreenCase {
 /// window; with one scan of a short radius those of some have fewer.
 fn screens(call: &Call) -> Vec<ScreenCase> {
     let all: Vec<Window> = windows().collect();
-    let (whole, last) = (Window::new(0, NX - 1, 0, NY - 1), all.len() - MOST_WINDOWS);
-    let backwards: Vec<Window> = all[last..].iter().rev().copied().collect();
-    let far =
-        [&all[..MOST_WINDOWS], &backwards, &[whole; MOST_WINDOWS], &all[8..11], &[], &all[9..10]];
-    let near = [&all[..MOST_WINDOWS], &all[..3], &all[8..11], &all[10..11]];
+    let (first, last) = (&all[..MOST_WINDOWS], &all[all.len() - MOST_WINDOWS..]);
+    let backwards: Vec<Window> = last.iter().rev().copied().collect();
+    let whole = [Window::new(0, NX - 1, 0, NY - 1); MOST_WINDOWS];
+    let (three, middle, corner) = (&all[8..11], &all[13..14], &all[9..10]);
+    let far = [first, &backwards, &whole, three, middle, &[]];
+    let near = [first, &all[..3], three, corner];
     let one_scan = Call { scans: 1, radius: vec![SHORT], ..call.clone() };
     let far = far.into_iter().map(|windows| screened(call.clone(), windows));
     far.chain(near.into_iter().map(|windows| screened(one_scan.clone(), windows))).collect()

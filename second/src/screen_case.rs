@@ -77,8 +77,9 @@ impl Case for ScreenCase {
     }
 
     fn floors() -> Vec<Floor> {
-        let scheme = scheme_floors(9_000, 60, &[1, 2, 3, 4, 5, 6, 7, 8]);
+        let scheme = scheme_floors(9_000, 30, &[1, 2, 3, 4, 5, 6, 7, 8]);
         let empty = vec![Floor::times("empty slice", 2, 50)];
-        [scheme, length_floors(), empty, screen_sorts::floors(), post_sorts::call_floors()].concat()
+        [scheme, length_floors(), empty, screen_sorts::floors(), post_sorts::screen_floors()]
+            .concat()
     }
 }

@@ -11,6 +11,7 @@ use crate::sorts::{self, floors_of, named, Sort};
 use crate::tally::Floor;
 use crate::units::MOST_WINDOWS;
 use crate::window::{pick, reach, widened};
+use std::ops::RangeInclusive;
 
 const WINDOWS: &str = "accepted screen of so many windows";
 const ALIKE: &str =
@@ -48,51 +49,59 @@ const SHAPE_TOO: &str = "refusal 1 with windows at fault (unequal, over sixteen,
 
 /// The least of each sort in a full run.
 pub fn floors() -> Vec<Floor> {
-    let numbered = |name, numbers: &[u32], least| {
-        let floors = numbers.iter().map(|number| Floor::times(name, *number, least));
-        floors.collect::<Vec<_>>()
-    };
-    let few: Vec<u32> = (0..MOST_WINDOWS as u32 + 1).collect();
     [
         floors_of(&ACCEPTED),
         floors_of(&REFUSED),
-        numbered(WINDOWS, &few, 100),
-        numbered(PLACE, &few, 10),
-        numbered(REST, &[4, 5, 6, 7, 8], 20),
-        numbered(NONE, &[1, 3, 4, 5, 6, 7, 8], 50),
-        sorts::accepted_floors(200),
-        floors_of(&[(sorts::SMALL_OF_BIG, 1, 40)]),
+        numbered(WINDOWS, 0..=0, 200),
+        numbered(WINDOWS, 1..=2, 500),
+        numbered(WINDOWS, 3..=15, 80),
+        numbered(WINDOWS, 16..=16, 1_000),
+        numbered(SIXTEEN_TIMES, 0..=0, 200),
+        numbered(SIXTEEN_TIMES, 1..=1, 30),
+        numbered(PLACE, 0..=0, 250),
+        numbered(PLACE, 1..=2, 60),
+        numbered(PLACE, 3..=14, 15),
+        numbered(PLACE, 15..=15, 60),
+        numbered(PLACE, 16..=16, 600),
+        numbered(REST, 4..=8, 100),
+        numbered(NONE, 1..=1, 60),
+        numbered(NONE, 3..=8, 50),
+        sorts::accepted_floors(100),
+        floors_of(&[(sorts::SMALL_OF_BIG, 1, 25)]),
         sorts::bad_floors(),
-        post_sorts::window_floors(),
+        post_sorts::window_floors(30),
     ]
     .concat()
 }
 
-const ACCEPTED: [(&str, u32, u64); 7] = [
-    (ALIKE, 4, 200),
-    (ALL, 5, 100),
-    (SIXTEEN_TIMES, 2, 30),
-    (CUTS, 5, 100),
-    (CUTS_OF_SIXTEEN, 2, 100),
-    (CUT_ALONE, 2, 100),
-    (OTHERS, 2, 100),
+fn numbered(name: &'static str, numbers: RangeInclusive<u32>, least: u64) -> Vec<Floor> {
+    numbers.map(|number| Floor::times(name, number, least)).collect()
+}
+
+const ACCEPTED: [(&str, u32, u64); 6] = [
+    (ALIKE, 4, 1_000),
+    (ALL, 5, 200),
+    (CUTS, 5, 150),
+    (CUTS_OF_SIXTEEN, 2, 120),
+    (CUT_ALONE, 2, 200),
+    (OTHERS, 2, 500),
 ];
 
 const REFUSED: [(&str, u32, u64); 14] = [
     (SHORT, 4, 20),
     (LONG, 4, 20),
-    (SHORTER, 4, 10),
+    (SHORTER, 4, 20),
     (LONGER, 4, 20),
-    (EMPTY, 4, 20),
-    (TOO_MANY, 2, 20),
-    (COLUMNS_TOO, 2, 30),
-    (BAD_AT, 4, 30),
-    (TWO_BAD, 2, 20),
-    (WRAPPED, 1, 30),
+    (EMPTY, 4, 30),
+    (TOO_MANY, 2, 120),
+    (COLUMNS_TOO, 2, 40),
+    (BAD_AT, 4, 80),
+    (TWO_BAD, 2, 15),
+    (WRAPPED, 1, 250),
     (ONE_OFF, 6, 20),
-    (OF_ONE_WINDOW, 6, 10),
-    (OF_NONE, 3, 20),
-    (SHAPE_TOO, 3, 10),
+    (OF_ONE_WINDOW, 6, 12),
+    (OF_NONE, 3, 25),
+    (SHAPE_TOO, 3, 25),
 ];
 
 /// What screens over the real stations have: no windows, one, three and

@@ -196,8 +196,9 @@ fn faulty_answer(call: &Call, windows: &[Window], fault: ScreenFault) -> WindowA
         RightAndTopExchanged => windows.iter_mut().for_each(|window| *window = exchanged(*window)),
         _ => (),
     }
+    // Whoever tests too little may be here with a request that is none.
     let good = windows.iter().all(|window| is_on_grid(call, window));
-    if !good {
+    if !good || windows.is_empty() {
         return WindowAnswer { grid: Vec::new(), support: Vec::new() };
     }
     let right = one_after_the_other(call, &run(call), &Screen::new(&windows));

@@ -134,7 +134,11 @@ fn refused_cases_of_every_number_are_made_small() {
         let rows = if number == 4 { 513 } else { 1 };
         assert!(case.call.x.len() <= rows, "{number}: {case:?}");
         let longest = case.screen.columns().map(Vec::len).into_iter().max();
-        let most = if number == 2 { 17 } else { 0 };
+        let most = match number {
+            2 => 17,
+            3 => 1,
+            _ => 0,
+        };
         assert!(longest <= Some(most), "{number}: {case:?}");
     }
     for (number, case) in shrink_refused::<TextCase, (Call, Analysis)>(100) {

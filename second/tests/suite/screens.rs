@@ -3,11 +3,13 @@
 
 use crate::faulty_screens::{FaultyScreen, ScreenFault, OF_ANSWERS, OF_REFUSALS};
 use crate::sample;
+use crate::windows::{from_part, TOO_SMALL};
 use second::call::{Call, Screen, Window};
 use second::compare::{run, Case};
+use second::scheme;
 use second::screen::{points, screen};
 use second::screen_case::ScreenCase;
-use second::window::window;
+use second::window::{pick, reach, widened, window};
 
 const SEED: u64 = 7;
 
@@ -176,19 +178,47 @@ fn a_fault_of_the_request_is_that_of_single_queries() {
     assert!(held > 200, "{held} screens were refused so");
 }
 
-/// So many generated screens, of any seed, show each fault.
+/// So many generated screens, of any seed, show each fault. Over 20 seeds the
+/// first that did was case 312, and case 550 for cuts, at the latest.
 const ENOUGH: u64 = 500;
+const ENOUGH_CUTS: u64 = 1_000;
 
 #[test]
 fn faults_of_screens_are_seen_early() {
     for fault in OF_ANSWERS.into_iter().chain(OF_REFUSALS) {
         for seed in 0..5 {
-            let differs = |index: &u64| {
-                ScreenCase::generate(seed, *index).differs(&FaultyScreen(fault)).is_some()
+            let case = |index| ScreenCase::generate(seed, index);
+            let differs = |index| case(index).differs(&FaultyScreen(fault)).is_some();
+            assert!((0..ENOUGH).any(differs), "{fault:?} was not seen at seed {seed}");
+        }
+    }
+}
+
+/// Generated screens that are accepted and have cuts with no more points than
+/// the grid: those that are likely to be answered by cuts.
+fn by_cuts(seed: u64, count: u64) -> impl Iterator<Item = (Call, Vec<Window>)> {
+    let cases = (0..count).map(move |index| ScreenCase::generate(seed, index));
+    let accepted = cases.filter(|case| case.expected().is_ok());
+    let windows = accepted.map(|case| (case.call, case.screen.windows()));
+    windows.filter(|(call, windows)| {
+        let cuts: Vec<Window> = windows.iter().map(|w| widened(call, w, reach(call))).collect();
+        points(&cuts) <= call.first_guess.len()
+    })
+}
+
+/// Screens are looked at for this too, since an implementation may have other
+/// cuts for them than for single windows.
+#[test]
+fn a_reach_that_is_too_short_is_seen_in_screens() {
+    for (name, part) in TOO_SMALL {
+        for seed in 0..5 {
+            let differs = |(call, windows): (Call, Vec<Window>)| {
+                let whole = scheme::run(&call);
+                let right = |ends: &Window| pick(call.shape(), &whole, ends);
+                let given = |ends: &Window| from_part(&call, ends, &part(&call, ends));
+                windows.iter().any(|ends| given(ends) != right(ends))
             };
-            let first = (0..ENOUGH).find(differs);
-            println!("{fault:?} {seed} {first:?}");
-            assert!(first.is_some(), "{fault:?} was not seen at seed {seed}");
+            assert!(by_cuts(seed, ENOUGH_CUTS).any(differs), "{name} was not seen at seed {seed}");
         }
     }
 }

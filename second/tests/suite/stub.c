@@ -1,9 +1,9 @@
 /*
  * stub.c: stands in for the archive in the tests of the bridge. Each of its calls says what it got: in grid the plain
  * numbers, the length, first and last number of each column, and the lengths of the results; as its result how many of
- * the addresses are null. A time that is not 0 asks for a fault. A window query and a screen are analyses with a verdict
- * of their own; the one says its four ends at the end of grid, the other its four columns. A reading and a summary are
- * made of all that they got; some x, or field[0], ask for a fault.
+ * the addresses are null. A time that is not 0 asks for a fault. A window query and a screen are analyses with a
+ * verdict of their own; the one says its four ends at the end of grid, the other its four columns. A reading and a
+ * summary are made of all that they got; some x, or field[0], ask for a fault.
  */
 #include "../../../tests/standin.h"
 
