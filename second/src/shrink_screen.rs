@@ -2,11 +2,14 @@
 //! ones, and the smaller calls behind them.
 
 use crate::call::{Call, Screen, Window};
-use crate::refusals::is_on_grid;
+use crate::field::Shape;
+use crate::refusals::{check_shape, is_on_grid};
 use crate::screen::points;
 use crate::shrink::{
     chunks, closer, drop_range, fewer_scans, fewer_stations, narrowed, parts, simpler, trimmed,
 };
+use crate::units::STEP;
+use std::ops::Range;
 
 /// Screens that are smaller. Results keep being too long or too short by as
 /// much as they were.
@@ -20,6 +23,7 @@ pub fn smaller_screens<'a>(
         .map(with)
         .chain(fewer_stations(call).chain(fewer_scans(call)).map(keep))
         .chain(trims(call, screen))
+        .chain(squeezed(call, screen))
         .chain(narrower(call, screen).map(with))
         .chain(nearer_ends(call, screen).map(with))
         .chain(fitting_results(call, screen).map(keep))
@@ -70,6 +74,67 @@ fn trims<'a>(call: &'a Call, screen: &'a Screen) -> impl Iterator<Item = (Call, 
         }
         (trimmed(call, &part), screen)
     })
+}
+
+/// Grids without some columns or rows on which no good window lies: what is past
+/// them moves up, so that windows far apart need no large grid.
+fn squeezed<'a>(call: &'a Call, screen: &'a Screen) -> impl Iterator<Item = (Call, Screen)> + 'a {
+    let mut good = screen.windows();
+    good.retain(|window| is_on_grid(call, window));
+    // None where the sides do not fit the number of points.
+    let shape = check_shape(call.nx, call.ny, call.first_guess.len());
+    let Shape { nx, ny } = shape.unwrap_or(Shape { nx: 0, ny: 0 });
+    let ranges = |axis: Axis, side: usize| chunks(side).map(move |range| (axis, range));
+    let all = ranges(Axis::Across, nx).chain(ranges(Axis::Down, ny));
+    let free = move |(axis, range): &(Axis, Range<usize>)| {
+        let bare = |window: &Window| {
+            let first = axis.of([window.left, window.top]) as usize;
+            let last = axis.of([window.right, window.bottom]) as usize;
+            last < range.start || range.end <= first
+        };
+        axis.of([nx, ny]) - range.len() >= 2 && good.iter().all(bare)
+    };
+    all.filter(free).map(move |(axis, range)| without(call, screen, axis, &range))
+}
+
+#[derive(Clone, Copy, PartialEq, Eq)]
+enum Axis {
+    Across,
+    Down,
+}
+
+impl Axis {
+    /// What belongs to the axis out of two things, the first of them across.
+    fn of<T: Copy>(self, [across, down]: [T; 2]) -> T {
+        match self {
+            Axis::Across => across,
+            Axis::Down => down,
+        }
+    }
+}
+
+/// A range of columns or rows left out. Stations on it stand before it then.
+fn without(call: &Call, screen: &Screen, axis: Axis, range: &Range<usize>) -> (Call, Screen) {
+    let (mut new, mut ends) = (call.clone(), screen.clone());
+    let (start, end, gone) = (range.start as i64, range.end as i64, range.len() as i64);
+    let moved = |position: i64, step: i64| match position {
+        past if past >= step * end => past - step * gone,
+        other => other.min(step * start),
+    };
+    let kept = |point: &usize| {
+        let place = [point % call.nx as usize, point / call.nx as usize];
+        !range.contains(&axis.of(place))
+    };
+    let points = (0..call.first_guess.len()).filter(kept);
+    new.first_guess = points.map(|point| call.first_guess[point]).collect();
+    let (side, positions, columns) = match axis {
+        Axis::Across => (&mut new.nx, &mut new.x, [&mut ends.left, &mut ends.right]),
+        Axis::Down => (&mut new.ny, &mut new.y, [&mut ends.top, &mut ends.bottom]),
+    };
+    *side -= gone as u32;
+    positions.iter_mut().for_each(|at| *at = moved(i64::from(*at), STEP) as i32);
+    columns.into_iter().flatten().for_each(|at| *at = moved(i64::from(*at), 1) as u32);
+    (new, ends)
 }
 
 /// A good window's outer columns or rows alone, or all but one of them.

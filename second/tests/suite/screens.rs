@@ -236,6 +236,7 @@ fn faults_of_screens_are_made_small() {
         let windows = ends.windows();
         assert!(windows.len() <= 2 && points(&windows) <= 4, "{fault:?}: {ends:?}");
         assert!(call.x.len() <= 2 && call.scans <= 2, "{fault:?}: {call:?}");
+        assert!(call.first_guess.len() <= 16, "{fault:?}: {call:?}");
     }
     for fault in OF_REFUSALS {
         use ScreenFault::{FifteenAtMost, SeventeenAtMost, SumInSixteenBits, WritesWhenRefused};
