@@ -15,9 +15,10 @@
  *   4, value     the same. The answer is the double as it lies in memory, and the flags.
  *   5, summary   whether empty slices get null; nx, ny; the column field. The answer is refusal, place and the three
  *                doubles as they lie in memory, and the flags.
+ *   6, windows   as analyse, with the columns left, right, top and bottom after the nine, and without verdict.
  *
  * Bit r of the flags is set where the archive wrote outside result r, and bit RESULTS + c where it changed column c.
- * The last three have no results, and bit c stands for column c: field, then support.
+ * A reading and a summary have no results, and bit c stands for column c: field, then support.
  */
 #include "ends.h"
 #include "sosnyavik.h"
@@ -25,14 +26,15 @@
 #include <stdlib.h>
 #include <string.h>
 
-enum function { GREET = 0, ANALYSE = 1, WINDOW = 2, KIND = 3, VALUE_AT = 4, SUMMARY = 5 };
-enum column_name { FIRST_GUESS, X, Y, VALUE, OBSERVED, FROM, UNTIL, RADIUS, LIMIT, COLUMNS };
+enum function { GREET = 0, ANALYSE = 1, WINDOW = 2, KIND = 3, VALUE_AT = 4, SUMMARY = 5, WINDOWS = 6 };
+/* Only a screen has the last four. */
+enum column_name { FIRST_GUESS, X, Y, VALUE, OBSERVED, FROM, UNTIL, RADIUS, LIMIT, LEFT, RIGHT, TOP, BOTTOM, COLUMNS };
 enum result_name { GRID, SUPPORT, VERDICT, RESULTS };
 
 static const uint32_t GREETING = 0x536F736E;
 
 /* As many cells as the largest grid has points: whoever writes a whole result into a slice that is too short, even an
- * empty one, stays inside. */
+ * empty one, stays inside. Of a screen that is one window; a write farther out damages the heap. */
 enum { GUARD = 4096 };
 
 /* An input as it came, and in a block of its own and exactly its length: a write beyond that damages the heap, which
@@ -49,11 +51,13 @@ struct result {
     void *address;
 };
 
-/* What the archive is asked, and the memory behind it. A window query has no verdict: the last of its results is not
- * there. */
+/* What the archive is asked, and the memory behind it. A window query and a screen have no verdict: the last of their
+ * results is not there. Only a screen has all the columns. */
 struct request {
     struct sosnyavik_request asked;
     struct sosnyavik_ends ends;
+    struct sosnyavik_screen screen;
+    size_t columns_lent;
     struct column columns[COLUMNS];
     size_t results_lent;
     struct result results[RESULTS];
@@ -128,7 +132,7 @@ static struct sosnyavik_u32_column unsigned_column(const struct column *column) 
 
 static void take_columns(struct request *q, bool null) {
     struct column *in = q->columns;
-    for (size_t c = 0; c < COLUMNS; c++)
+    for (size_t c = 0; c < q->columns_lent; c++)
         in[c] = take_column(sizeof(uint32_t), null);
     q->asked.first_guess = signed_column(&in[FIRST_GUESS]);
     q->asked.x = signed_column(&in[X]);
@@ -139,11 +143,16 @@ static void take_columns(struct request *q, bool null) {
     q->asked.until = unsigned_column(&in[UNTIL]);
     q->asked.radius = signed_column(&in[RADIUS]);
     q->asked.limit = signed_column(&in[LIMIT]);
+    q->screen.left = unsigned_column(&in[LEFT]);
+    q->screen.right = unsigned_column(&in[RIGHT]);
+    q->screen.top = unsigned_column(&in[TOP]);
+    q->screen.bottom = unsigned_column(&in[BOTTOM]);
 }
 
 /* Every member comes, and none is left to its default. */
 static struct request take_request(enum function function) {
-    struct request q = {.results_lent = function == WINDOW ? VERDICT : RESULTS};
+    struct request q = {.columns_lent = function == WINDOWS ? COLUMNS : LEFT,
+                        .results_lent = function == ANALYSE ? RESULTS : VERDICT};
     bool null = take_number() != 0;
     unsigned char pattern = (unsigned char)take_number();
     q.asked.nx = take_number();
@@ -167,6 +176,8 @@ static uint32_t call(enum function function, const struct request *q) {
                                         .verdict = {out[VERDICT].address, out[VERDICT].length}};
     if (function == WINDOW)
         return sosnyavik_request_window(&q->asked, q->ends, results);
+    if (function == WINDOWS)
+        return sosnyavik_request_windows(&q->asked, q->screen, results);
     return sosnyavik_request_analyse(&q->asked, results);
 }
 
@@ -174,13 +185,13 @@ static uint32_t flags_of(const struct request *q) {
     uint32_t flags = 0;
     for (size_t r = 0; r < q->results_lent; r++)
         flags |= (uint32_t)is_written_outside(&q->results[r]) << r;
-    for (size_t c = 0; c < COLUMNS; c++)
+    for (size_t c = 0; c < q->columns_lent; c++)
         flags |= (uint32_t)is_changed(&q->columns[c]) << (RESULTS + c);
     return flags;
 }
 
 static void release(struct request *q) {
-    for (size_t c = 0; c < COLUMNS; c++)
+    for (size_t c = 0; c < q->columns_lent; c++)
         release_column(&q->columns[c]);
     for (size_t r = 0; r < q->results_lent; r++)
         free(q->results[r].block);
@@ -251,6 +262,7 @@ static void answer(uint32_t function) {
         break;
     case ANALYSE:
     case WINDOW:
+    case WINDOWS:
         answer_request(function);
         break;
     case KIND:

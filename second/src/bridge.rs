@@ -2,7 +2,7 @@
 //! runs on any processor, so its calls are made by a program of their own,
 //! the bridge, over pipes. `bridge/bridge.c` has the protocol.
 
-use crate::call::{Call, Query, Window};
+use crate::call::{Call, Query, Screen, Window};
 use crate::compare::{Answer, Results, Subject};
 use crate::patterned::BYTE_PATTERN;
 use crate::running::{put_numbers, read_number, Greeting, Running};
@@ -16,13 +16,16 @@ const WINDOW: u32 = 2;
 const KIND: u32 = 3;
 const VALUE: u32 = 4;
 const SUMMARY: u32 = 5;
+const WINDOWS: u32 = 6;
 const GREETING: Greeting = Greeting { name: "the bridge", number: 0x536F_736E };
 
 /// What the lowest bits of the flags stand for; one for each result, then one
 /// for each column.
 const RESULTS: [&str; 3] = ["grid", "support", "verdict"];
-const COLUMNS: [&str; 9] =
-    ["first_guess", "x", "y", "value", "observed", "from", "until", "radius", "limit"];
+const COLUMNS: &[&str] =
+    &["first_guess", "x", "y", "value", "observed", "from", "until", "radius", "limit"];
+/// A screen has four columns after those.
+const ENDS: [&str; 4] = ["left", "right", "top", "bottom"];
 /// A reading and a summary have no results.
 const QUERY_COLUMNS: [&str; 2] = ["field", "support"];
 
@@ -75,9 +78,9 @@ impl Bridge {
         }
     }
 
-    fn ask_request(&self, request: &[u8], results: Results) -> Answer<u32> {
+    fn ask_request(&self, request: &[u8], results: Results, columns: &[&str]) -> Answer<u32> {
         let (code, flags) = self.ask(request, |output| read_answer(output, results))?;
-        seen_by_bridge(flags, &RESULTS, &COLUMNS).map_or(Ok(code), Err)
+        seen_by_bridge(flags, &RESULTS, columns).map_or(Ok(code), Err)
     }
 
     fn ask_query<T>(&self, request: &[u8], read: Reader<T>) -> Answer<T> {
@@ -90,12 +93,17 @@ impl Bridge {
 impl Subject for Bridge {
     fn analyse(&self, call: &Call, results: Results) -> Answer<u32> {
         let request = analyse_request(call, &results, self.empty);
-        self.ask_request(&request, results)
+        self.ask_request(&request, results, COLUMNS)
     }
 
     fn window(&self, call: &Call, window: &Window, results: Results) -> Answer<u32> {
         let request = window_request(call, window, &results, self.empty);
-        self.ask_request(&request, results)
+        self.ask_request(&request, results, COLUMNS)
+    }
+
+    fn windows(&self, call: &Call, screen: &Screen, results: Results) -> Answer<u32> {
+        let request = windows_request(call, screen, &results, self.empty);
+        self.ask_request(&request, results, &[COLUMNS, &ENDS].concat())
     }
 
     fn reading_kind(&self, query: &Query) -> Answer<u32> {
@@ -128,6 +136,18 @@ fn window_request(call: &Call, window: &Window, results: &Results, empty: Empty)
     put_plain(&mut bytes, call);
     put_numbers(&mut bytes, &[left, right, top, bottom]);
     put_columns(&mut bytes, call);
+    put_numbers(&mut bytes, &[results.grid.len(), results.support.len()].map(length));
+    bytes
+}
+
+fn windows_request(call: &Call, screen: &Screen, results: &Results, empty: Empty) -> Vec<u8> {
+    let mut bytes = Vec::new();
+    put_opening(&mut bytes, WINDOWS, empty);
+    put_plain(&mut bytes, call);
+    put_columns(&mut bytes, call);
+    for column in screen.columns() {
+        put_column(&mut bytes, column, u32::to_le_bytes);
+    }
     put_numbers(&mut bytes, &[results.grid.len(), results.support.len()].map(length));
     bytes
 }
@@ -281,6 +301,24 @@ mod tests {
     }
 
     #[test]
+    fn a_screen_adds_its_columns_and_has_no_verdicts() {
+        let screen = Screen {
+            left: vec![18, 19],
+            right: vec![],
+            top: vec![20],
+            bottom: vec![21, 22, u32::MAX],
+        };
+        let results = Results { grid: &mut [0; 15], support: &mut [0; 16], verdict: &mut [] };
+        let whole = numbers_of(&analyse_request(&call(), &results, Empty::Null));
+        let screen = numbers_of(&windows_request(&call(), &screen, &results, Empty::Null));
+        let columns_end = whole.len() - 3;
+        assert_eq!((screen[0], &screen[1..columns_end]), (6, &whole[1..columns_end]));
+        let ends = [2, 18, 19, 0, 1, 20, 3, 21, 22, u32::MAX];
+        assert_eq!(screen[columns_end..columns_end + 10], ends);
+        assert_eq!(screen[columns_end + 10..], [15, 16]);
+    }
+
+    #[test]
     fn an_answer_is_read_to_its_end() {
         let answer =
             [1, 0, 8, 0, 4, 0, 0, 0, 0xFE, 0xFF, 0xFF, 0xFF, 7, 0, 0, 0x80, 21, 22, 31, 99];
@@ -297,13 +335,19 @@ mod tests {
 
     #[test]
     fn flags_name_what_was_written() {
-        let said = |flags| seen_by_bridge(flags, &RESULTS, &COLUMNS).unwrap_or_default();
-        assert_eq!(seen_by_bridge(0, &RESULTS, &COLUMNS), None);
+        let said = |flags| seen_by_bridge(flags, &RESULTS, COLUMNS).unwrap_or_default();
+        assert_eq!(seen_by_bridge(0, &RESULTS, COLUMNS), None);
         assert_eq!(said(0b1), "grid is written outside its slice");
         assert_eq!(said(0b100), "verdict is written outside its slice");
         assert_eq!(said(0b1000), "the input first_guess is changed by the call");
         assert_eq!(said(1 << 11), "the input limit is changed by the call");
         assert_eq!(said(1 << 12), "the bridge answers with flags that mean nothing, 0x1000");
+        let all = [COLUMNS, &ENDS].concat();
+        let said = |flags| seen_by_bridge(flags, &RESULTS, &all).unwrap_or_default();
+        assert_eq!(said(1 << 11), "the input limit is changed by the call");
+        assert_eq!(said(1 << 12), "the input left is changed by the call");
+        assert_eq!(said(1 << 15), "the input bottom is changed by the call");
+        assert_eq!(said(1 << 16), "the bridge answers with flags that mean nothing, 0x10000");
         let said = |flags| seen_by_bridge(flags, &[], &QUERY_COLUMNS).unwrap_or_default();
         assert_eq!(said(0b10), "the input support is changed by the call");
         assert_eq!(said(0b100), "the bridge answers with flags that mean nothing, 0x4");

@@ -2,7 +2,8 @@
 
 use crate::field::Shape;
 
-/// The raw arguments of a whole analysis or a window query, good or bad.
+/// The raw arguments of a whole analysis, a window query or a screen, good or
+/// bad.
 /// Of the result slices only the lengths matter to the outcome.
 #[derive(Clone, Debug, Default, PartialEq, Eq)]
 pub struct Call {
@@ -70,6 +71,45 @@ impl Window {
     }
 }
 
+/// The windows of a screen as a C call gets them: four columns of ends, equal
+/// or not, and as many as there are.
+#[derive(Clone, Debug, Default, PartialEq, Eq)]
+pub struct Screen {
+    pub left: Vec<u32>,
+    pub right: Vec<u32>,
+    pub top: Vec<u32>,
+    pub bottom: Vec<u32>,
+}
+
+impl Screen {
+    pub fn new(windows: &[Window]) -> Self {
+        Screen {
+            left: windows.iter().map(|window| window.left).collect(),
+            right: windows.iter().map(|window| window.right).collect(),
+            top: windows.iter().map(|window| window.top).collect(),
+            bottom: windows.iter().map(|window| window.bottom).collect(),
+        }
+    }
+
+    pub fn columns(&self) -> [&Vec<u32>; 4] {
+        [&self.left, &self.right, &self.top, &self.bottom]
+    }
+
+    pub fn columns_mut(&mut self) -> [&mut Vec<u32>; 4] {
+        [&mut self.left, &mut self.right, &mut self.top, &mut self.bottom]
+    }
+
+    /// The windows of which all four columns have an end; with equal columns
+    /// these are all.
+    pub fn windows(&self) -> Vec<Window> {
+        let across = self.left.iter().zip(&self.right);
+        let down = self.top.iter().zip(&self.bottom);
+        let ends = across.zip(down);
+        ends.map(|((left, right), (top, bottom))| Window::new(*left, *right, *top, *bottom))
+            .collect()
+    }
+}
+
 /// The raw arguments of a point reading; a summary takes all but the support
 /// and the place.
 #[derive(Clone, Debug, PartialEq, Eq)]
@@ -108,7 +148,8 @@ pub struct Analysis {
     pub verdict: Vec<u8>,
 }
 
-/// The results of an accepted window query, row by row.
+/// The results of an accepted window query, row by row; those of a screen are
+/// the windows' one after the other.
 #[derive(Clone, Debug, PartialEq, Eq)]
 pub struct WindowAnswer {
     pub grid: Vec<i32>,

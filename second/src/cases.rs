@@ -1,4 +1,5 @@
-//! The five kinds of comparison: analysis, window, reading, summary, text.
+//! Five kinds of comparison: analysis, window, reading, summary, text. The sixth,
+//! windows, is in `screen_case`.
 
 use crate::call::{Analysis, Call, Query, Refusal, Window};
 use crate::compare::{read, Answer, Case, Results, Subject};
@@ -25,8 +26,8 @@ use crate::write::{listing, printf_form, rerun_form};
 const VERDICTS: [u32; 12] = [0, 1, 2, 3, 4, 5, 11, 12, 13, 14, 15, 16];
 
 /// The floors of the kinds that run the scheme.
-fn scheme_floors(accepted: u64, refusals: &[u32]) -> Vec<Floor> {
-    let mut floors = vec![Floor::accepted_share(accepted), Floor::times("big", 0, 300)];
+pub fn scheme_floors(accepted: u64, big: u64, refusals: &[u32]) -> Vec<Floor> {
+    let mut floors = vec![Floor::accepted_share(accepted), Floor::times("big", 0, big)];
     floors.extend(refusals.iter().map(|n| Floor::times("refusal", *n, 200)));
     floors.extend([6, 7, 8].map(|n| Floor::times("refusal with a place", n, 200)));
     floors.extend(VERDICTS.map(|n| Floor::times("verdict", n, 200)));
@@ -34,7 +35,7 @@ fn scheme_floors(accepted: u64, refusals: &[u32]) -> Vec<Floor> {
 }
 
 /// The floors of the kinds that only C calls have.
-fn length_floors() -> Vec<Floor> {
+pub fn length_floors() -> Vec<Floor> {
     let mut floors = [0, 1, 3, 4, 5].map(|n| Floor::times("empty slice", n, 50)).to_vec();
     floors.extend([1, 3, 4].map(|n| Floor::times("length off by one", n, 100)));
     floors.extend([1, 3, 4].map(|n| Floor::times("length off by more", n, 100)));
@@ -42,7 +43,7 @@ fn length_floors() -> Vec<Floor> {
     floors
 }
 
-fn count_scheme(outcome: Result<(&Call, &Analysis), &Refusal>, tally: &mut Tally) {
+pub fn count_scheme(outcome: Result<(&Call, &Analysis), &Refusal>, tally: &mut Tally) {
     match outcome {
         Ok((call, analysis)) => {
             tally.add_analysis(call, analysis);
@@ -53,16 +54,16 @@ fn count_scheme(outcome: Result<(&Call, &Analysis), &Refusal>, tally: &mut Tally
 }
 
 /// What is wrong with an accepted answer, whatever it is compared with.
-fn wrong_by_itself(call: &Call, expected: &Result<Analysis, Refusal>) -> Option<String> {
+pub fn wrong_by_itself(call: &Call, expected: &Result<Analysis, Refusal>) -> Option<String> {
     late_rejection(call, &expected.as_ref().ok()?.verdict)
 }
 
 /// The refusal number of an outcome, 0 where it is accepted.
-fn number_of(outcome: &Result<Analysis, Refusal>) -> u32 {
+pub fn number_of(outcome: &Result<Analysis, Refusal>) -> u32 {
     outcome.as_ref().err().map_or(0, |refusal| refusal.number)
 }
 
-fn unlike_code<T>(code: Answer<u32>, outcome: &Result<T, Refusal>) -> Option<String> {
+pub fn unlike_code<T>(code: Answer<u32>, outcome: &Result<T, Refusal>) -> Option<String> {
     let code = match code {
         Ok(code) => code,
         Err(wrong) => return Some(wrong),
@@ -127,7 +128,7 @@ impl Case for AnalysisCase {
     }
 
     fn floors() -> Vec<Floor> {
-        let scheme = scheme_floors(10_000, &[1, 3, 4, 5, 6, 7, 8]);
+        let scheme = scheme_floors(10_000, 300, &[1, 3, 4, 5, 6, 7, 8]);
         [scheme, length_floors(), post_sorts::call_floors()].concat()
     }
 }
@@ -198,9 +199,9 @@ impl Case for WindowCase {
     }
 
     fn floors() -> Vec<Floor> {
-        let scheme = scheme_floors(10_000, &[1, 2, 3, 4, 5, 6, 7, 8]);
+        let scheme = scheme_floors(10_000, 300, &[1, 2, 3, 4, 5, 6, 7, 8]);
         let empty = vec![Floor::times("empty slice", 2, 50)];
-        let posts = [post_sorts::call_floors(), post_sorts::window_floors()].concat();
+        let posts = [post_sorts::call_floors(), post_sorts::window_floors(50)].concat();
         [scheme, length_floors(), empty, sorts::floors(), posts].concat()
     }
 }
@@ -364,7 +365,7 @@ impl Case for TextCase {
     }
 
     fn floors() -> Vec<Floor> {
-        let scheme = scheme_floors(10_000, &[6, 7, 8, 9, 10]);
+        let scheme = scheme_floors(10_000, 300, &[6, 7, 8, 9, 10]);
         [scheme, text_sorts::floors(), harm::floors(), post_sorts::text_floors()].concat()
     }
 }

@@ -1,9 +1,10 @@
 //! The harness: a subject's calls beside the second program's, over a seed
 //! and a count, with a tally and the smallest failing case.
 
-use crate::call::{Call, Query, Refusal, Window};
+use crate::call::{Call, Query, Refusal, Screen, Window, WindowAnswer};
 use crate::reading::{reading, Reading};
 use crate::scheme::analyse;
+use crate::screen::screen;
 use crate::shrink::smallest;
 use crate::summary::{summarise, Summary};
 use crate::tally::{Floor, Tally};
@@ -12,12 +13,19 @@ use crate::window::window;
 use std::sync::atomic::{AtomicU64, Ordering};
 use std::thread::scope;
 
-/// The result slices that are lent to a subject. A window query has no
-/// verdicts and is lent none.
+/// The result slices that are lent to a subject. A window query and a screen
+/// have no verdicts and are lent none.
 pub struct Results<'a> {
     pub grid: &'a mut [i32],
     pub support: &'a mut [u8],
     pub verdict: &'a mut [u8],
+}
+
+impl Results<'_> {
+    fn take(self, answer: &WindowAnswer) {
+        self.grid.copy_from_slice(&answer.grid);
+        self.support.copy_from_slice(&answer.support);
+    }
 }
 
 /// What a call gives, or in words what is wrong with it whatever it gives.
@@ -35,6 +43,10 @@ pub trait Subject {
     }
 
     fn window(&self, _call: &Call, _window: &Window, _results: Results) -> Answer<u32> {
+        not_offered()
+    }
+
+    fn windows(&self, _call: &Call, _screen: &Screen, _results: Results) -> Answer<u32> {
         not_offered()
     }
 
@@ -68,10 +80,11 @@ impl Subject for Own {
     }
 
     fn window(&self, call: &Call, ends: &Window, results: Results) -> Answer<u32> {
-        Ok(written(window(call, ends), |answer| {
-            results.grid.copy_from_slice(&answer.grid);
-            results.support.copy_from_slice(&answer.support);
-        }))
+        Ok(written(window(call, ends), |answer| results.take(&answer)))
+    }
+
+    fn windows(&self, call: &Call, windows: &Screen, results: Results) -> Answer<u32> {
+        Ok(written(screen(call, windows), |answer| results.take(&answer)))
     }
 
     fn reading_kind(&self, query: &Query) -> Answer<u32> {

@@ -1,5 +1,6 @@
 //! The generator's harm: numbers pushed to their bounds, and calls, windows
-//! and queries broken on purpose. `damage_text` breaks texts.
+//! and queries broken on purpose. `damage_screen` breaks screens, `damage_text`
+//! texts.
 
 use crate::call::{Call, Query, Window};
 use crate::rng::Rng;
@@ -59,7 +60,7 @@ fn break_results(rng: &mut Rng, call: &mut Call) {
 }
 
 /// Another length: off by one about half the time, else by a lot or none.
-fn wrong_length(rng: &mut Rng, right: usize) -> usize {
+pub fn wrong_length(rng: &mut Rng, right: usize) -> usize {
     let (less, half) = (right.saturating_sub(1), right / 2);
     let lengths = [right + 1, right + 1, less, less, 0, half, 2 * right + 2, right + 1000];
     let wrong: Vec<usize> = lengths.into_iter().filter(|length| *length != right).collect();
@@ -85,7 +86,7 @@ fn break_columns(rng: &mut Rng, call: &mut Call) {
     }
 }
 
-fn change_length<T: Copy>(rng: &mut Rng, column: &mut Vec<T>, entry: T) {
+pub fn change_length<T: Copy>(rng: &mut Rng, column: &mut Vec<T>, entry: T) {
     let length = wrong_length(rng, column.len());
     column.resize(length, entry);
 }
@@ -252,9 +253,26 @@ pub fn break_window_results(rng: &mut Rng, call: &mut Call) {
 /// results are as long as they were, or as what its area wraps to. The ways
 /// to go wrong come in turn.
 pub fn bad_window(rng: &mut Rng, mut call: Call, good: Window, way: u64) -> (Call, Window) {
+    let bad = bad_ends(rng, &call, good, way);
+    let wrapped = bad.wrapped_area() as usize;
+    if rng.one_in(2) && wrapped <= call.first_guess.len() {
+        (call.grid_len, call.support_len) = (wrapped, wrapped);
+    }
+    if rng.one_in(4) {
+        let other = rng.pick(&[1, 3, 4, 5, 6, 7, 8]);
+        break_one(rng, &mut call, other);
+    }
+    (call, bad)
+}
+
+/// How many ways to go wrong a window has.
+pub const BAD_ENDS: u64 = 16;
+
+/// A good window with a wrong end or two.
+pub fn bad_ends(rng: &mut Rng, call: &Call, good: Window, way: u64) -> Window {
     let mut bad = good;
     let more = if way.is_multiple_of(2) { 1 } else { rng.pick(&[1, 2, 70]) };
-    match way % 16 {
+    match way % BAD_ENDS {
         0 | 1 => bad.left = good.right + more,
         2 | 3 => bad.top = good.bottom + more,
         4 | 5 => bad.right = call.nx - 1 + more,
@@ -268,15 +286,7 @@ pub fn bad_window(rng: &mut Rng, mut call: Call, good: Window, way: u64) -> (Cal
         14 => (bad.left, bad.right) = (0, u32::MAX),
         _ => bad = Window::new(0, u32::MAX, 0, u32::MAX),
     }
-    let wrapped = bad.wrapped_area() as usize;
-    if rng.one_in(2) && wrapped <= call.first_guess.len() {
-        (call.grid_len, call.support_len) = (wrapped, wrapped);
-    }
-    if rng.one_in(4) {
-        let other = rng.pick(&[1, 3, 4, 5, 6, 7, 8]);
-        break_one(rng, &mut call, other);
-    }
-    (call, bad)
+    bad
 }
 
 /// A reading whose shape or lengths are wrong, in turn.

@@ -1,7 +1,7 @@
 //! The seeded generator: calls, each valid, heavy with bounds, or damaged by a
-//! schedule over the index. `generate_window` places windows on such calls,
-//! `generate_text` writes them out as texts, `generate_posts` sets stations
-//! beyond the border; `generate_query` makes readings and summaries.
+//! schedule over the index. `generate_window` and `generate_screen` place windows
+//! on such calls, `generate_text` writes them out as texts, `generate_posts` sets
+//! stations beyond the border; `generate_query` makes readings and summaries.
 
 use crate::call::Call;
 use crate::damage;
@@ -13,7 +13,7 @@ use crate::units::{DEFAULT_AGE, MISSING, NO_END, VALUE};
 
 /// Every so many indices a request is big: both sides 48 or more and at least
 /// 300 stations. A little more than the floor asks for, since they are slow.
-const BIG_EVERY: u64 = 55;
+pub const BIG_EVERY: u64 = 55;
 /// The flavours come round in turns of this length.
 pub const TURNS: u64 = 24;
 const BOUNDARY_TURNS: u64 = 5;

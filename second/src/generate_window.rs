@@ -61,19 +61,25 @@ fn with_window(rng: &mut Rng, make: fn(&mut Rng) -> Call, place: Place) -> (Call
 
 /// A call on a grid with room around the cuts of its windows, mostly: short
 /// radii and few scans. A station or two more than chains need.
-fn roomy_call(rng: &mut Rng) -> Call {
+pub fn roomy_call(rng: &mut Rng) -> Call {
     if rng.one_in(4) {
         return small_call(rng);
     }
     let nx = rng.between(6, 26) as u32;
     let ny = rng.between(6, 26) as u32;
     let stations = rng.pick(&[0, 2, 8, 20]);
-    let mut call = untuned_call(rng, nx, ny, stations);
-    let (scans, most) = (call.scans as usize, rng.pick(&[1, 2, 3, 6]));
-    call.radius.drain(scans.min(most)..scans);
-    call.limit.drain(scans.min(most)..scans);
-    call.scans = scans.min(most) as u32;
-    let longest = rng.pick(&[64, 100, 128, 200, 400]);
+    let call = untuned_call(rng, nx, ny, stations);
+    shortened(rng, call, &[1, 2, 3, 6], &[64, 100, 128, 200, 400])
+}
+
+/// The call with at most one of these numbers of scans, and radii at most one
+/// of these.
+pub fn shortened(rng: &mut Rng, mut call: Call, scans: &[usize], radii: &[i32]) -> Call {
+    let (all, most) = (call.scans as usize, rng.pick(scans));
+    call.radius.drain(all.min(most)..all);
+    call.limit.drain(all.min(most)..all);
+    call.scans = all.min(most) as u32;
+    let longest = rng.pick(radii);
     call.radius.iter_mut().for_each(|radius| *radius = (*radius).min(longest));
     call
 }
@@ -81,7 +87,7 @@ fn roomy_call(rng: &mut Rng) -> Call {
 type Place = fn(&mut Rng, u32, u32) -> Window;
 
 /// Any good window, the special places often.
-fn any_window(rng: &mut Rng, nx: u32, ny: u32) -> Window {
+pub fn any_window(rng: &mut Rng, nx: u32, ny: u32) -> Window {
     let (across, down) = match rng.below(12) {
         0 => ((0, nx - 1), (0, ny - 1)),
         1 | 2 => (to_the_border(rng, nx), to_the_border(rng, ny)),
@@ -96,7 +102,7 @@ fn any_window(rng: &mut Rng, nx: u32, ny: u32) -> Window {
 }
 
 /// A window of at most five points each way, wherever it lies.
-fn small_window(rng: &mut Rng, nx: u32, ny: u32) -> Window {
+pub fn small_window(rng: &mut Rng, nx: u32, ny: u32) -> Window {
     let (across, down) = match rng.below(4) {
         0 => (to_the_border(rng, nx), to_the_border(rng, ny)),
         1 => (one(rng, nx), one(rng, ny)),
@@ -120,12 +126,12 @@ fn between_borders(rng: &mut Rng, side: u32) -> (u32, u32) {
     (first, first + rng.up_to((side - 2 - first).min(4)))
 }
 
-fn one(rng: &mut Rng, side: u32) -> (u32, u32) {
+pub fn one(rng: &mut Rng, side: u32) -> (u32, u32) {
     let only = rng.up_to(side - 1);
     (only, only)
 }
 
-fn some(rng: &mut Rng, side: u32) -> (u32, u32) {
+pub fn some(rng: &mut Rng, side: u32) -> (u32, u32) {
     let first = rng.up_to(side - 1);
     let most = rng.pick(&[6, side]);
     (first, first + rng.up_to((side - 1 - first).min(most)))
@@ -133,7 +139,7 @@ fn some(rng: &mut Rng, side: u32) -> (u32, u32) {
 
 /// Moves some stations to the edges of the cut, and one unit to either side
 /// of them. Half of those report about what the first guess has there.
-fn move_to_the_cut(rng: &mut Rng, call: &mut Call, window: &Window) {
+pub fn move_to_the_cut(rng: &mut Rng, call: &mut Call, window: &Window) {
     let cut = widened(call, window, reach(call));
     for row in 0..call.x.len() {
         let (across, down) = (rng.one_in(6), rng.one_in(6));
@@ -162,7 +168,7 @@ fn in_range(value: i32) -> i32 {
 /// The last scan hears the first of them, and each scan before it the next
 /// one out, about as far as its radius goes: what the outermost reports gets
 /// to the window in the last scan only, and a shorter cut has lost it.
-fn lay_chain(rng: &mut Rng, call: &mut Call, window: &Window) {
+pub fn lay_chain(rng: &mut Rng, call: &mut Call, window: &Window) {
     let Some((mut x, mut y, dx, dy)) = way_out(rng, call, window) else {
         return;
     };

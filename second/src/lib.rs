@@ -1,6 +1,6 @@
-//! The independent second program: document 01 with request 1 of document 02,
-//! worked out plainly, to be compared number for number with the proved
-//! implementation.
+//! The independent second program: document 01 with requests 1 and 2 of
+//! document 02, worked out plainly, to be compared number for number with the
+//! proved implementation.
 
 #![forbid(unsafe_code)]
 
@@ -9,11 +9,13 @@ pub mod call;
 pub mod cases;
 pub mod compare;
 pub mod damage;
+pub mod damage_screen;
 pub mod damage_text;
 pub mod field;
 pub mod generate;
 pub mod generate_posts;
 pub mod generate_query;
+pub mod generate_screen;
 pub mod generate_text;
 pub mod generate_window;
 pub mod harm;
@@ -30,8 +32,12 @@ pub mod rng;
 pub mod running;
 pub mod scan;
 pub mod scheme;
+pub mod screen;
+pub mod screen_case;
+pub mod screen_sorts;
 pub mod serve;
 pub mod shrink;
+pub mod shrink_screen;
 pub mod sorts;
 pub mod summary;
 pub mod survey;

@@ -8,6 +8,7 @@ use second::compare::{Case, Own, Subject};
 use second::near::STRIDE;
 use second::program::Program;
 use second::real::DATA;
+use second::screen_case::ScreenCase;
 use second::serve::Servers;
 use second::survey::{
     compare_kind, compare_near, compare_real, compare_real_texts, compare_texts, survey,
@@ -101,6 +102,7 @@ fn generate(kind: &str, seed: &str, count: &str) -> Result<(), Wrong> {
     match kind {
         "analysis" => print_cases::<AnalysisCase>(seed, count),
         "window" => print_cases::<WindowCase>(seed, count),
+        "windows" => print_cases::<ScreenCase>(seed, count),
         "reading" => print_cases::<ReadingCase>(seed, count),
         "summary" => print_cases::<SummaryCase>(seed, count),
         "text" => print_cases::<TextCase>(seed, count),
@@ -109,7 +111,7 @@ fn generate(kind: &str, seed: &str, count: &str) -> Result<(), Wrong> {
 }
 
 fn no_such_kind(kind: &str) -> Wrong {
-    let kinds = "analysis, window, reading, summary or text";
+    let kinds = "analysis, window, windows, reading, summary or text";
     Wrong::Asked(format!("no such kind: {kind:?}; give {kinds}"))
 }
 
@@ -141,6 +143,7 @@ fn compare(kind: &str, seed: Option<&str>, count: Option<&str>) -> Result<(), Wr
     let compare_kind = match kind {
         "analysis" => compare_kind::<AnalysisCase>,
         "window" => compare_kind::<WindowCase>,
+        "windows" => compare_kind::<ScreenCase>,
         "reading" => compare_kind::<ReadingCase>,
         "summary" => compare_kind::<SummaryCase>,
         "text" => {

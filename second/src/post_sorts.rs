@@ -33,23 +33,30 @@ const HEARD: &str = "post heard in the window, beyond (left, right, top, bottom,
 
 /// The least of each sort in a full run of calls.
 pub fn call_floors() -> Vec<Floor> {
-    [floors_of(&[(KEPT, 2, 1_000)]), floors_of(&REST)].concat()
+    floors_with(1_000, 20)
 }
 
 /// The same in a full run of texts.
 pub fn text_floors() -> Vec<Floor> {
-    [floors_of(&[(KEPT, 2, 200)]), floors_of(&REST)].concat()
+    floors_with(200, 20)
 }
 
-const REST: [(&str, u32, u64); 5] =
-    [(GONE, 2, 200), (SIDE, 16, 100), (CORNER, 64, 20), (EXACT, 2, 200), (PLAN, 3, 200)];
+/// The same in a full run of screens, fewer of which are big.
+pub fn screen_floors() -> Vec<Floor> {
+    floors_with(1_000, 8)
+}
 
-/// What only windows have.
-pub fn window_floors() -> Vec<Floor> {
+fn floors_with(kept: u64, by_corner: u64) -> Vec<Floor> {
+    let others = [(GONE, 2, 200), (SIDE, 16, 100), (EXACT, 2, 200), (PLAN, 3, 200)];
+    [floors_of(&[(KEPT, 2, kept), (CORNER, 64, by_corner)]), floors_of(&others)].concat()
+}
+
+/// What only windows have, and how often at least at an edge of the cut.
+pub fn window_floors(at_an_edge: u64) -> Vec<Floor> {
     floors_of(&[
         (INSIDE, 4, 200),
-        (ON_EDGE, 8, 50),
-        (OUTSIDE, 8, 50),
+        (ON_EDGE, 8, at_an_edge),
+        (OUTSIDE, 8, at_an_edge),
         (IN_CORNER, 4, 200),
         (HEARD, 5, 200),
     ])

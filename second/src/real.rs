@@ -2,11 +2,13 @@
 //! on that document's grid, under limits that reject none, some and most of
 //! them.
 
-use crate::call::{Analysis, Call, Query, Window};
+use crate::call::{Analysis, Call, Query, Screen, Window};
 use crate::cases::{AnalysisCase, ReadingCase, SummaryCase, TextCase, WindowCase};
 use crate::post_sorts::is_post;
 use crate::scheme::run;
-use crate::units::{DEFAULT_AGE, MOST_STATIONS, NO_END};
+use crate::screen::points;
+use crate::screen_case::ScreenCase;
+use crate::units::{DEFAULT_AGE, MOST_STATIONS, MOST_WINDOWS, NO_END};
 use crate::write::{written_out, Style};
 
 /// What `data/README.md` describes.
@@ -19,6 +21,8 @@ const NY: u32 = 27;
 /// 850 units, near the middle value of the stations on the grid.
 const FIRST_GUESS: i32 = 850 * 64;
 const RADII: [i32; 4] = [384, 320, 256, 160];
+/// Of the one scan of some screens.
+const SHORT: i32 = 100;
 /// Every station is observed in the minute of the analysis.
 const MINUTE: u32 = 1000;
 /// Columns and rows of the windows that are asked for.
@@ -169,6 +173,28 @@ fn windows() -> impl Iterator<Item = Window> {
     })
 }
 
+/// The call with a screen, and results as long as all its windows.
+fn screened(mut call: Call, windows: &[Window]) -> ScreenCase {
+    (call.grid_len, call.support_len) = (points(windows), points(windows));
+    ScreenCase { call, screen: Screen::new(windows) }
+}
+
+/// Screens of sixteen windows, of three, of one and of none. With the plan's
+/// radii their cuts have more points together than the grid, but for a lone
+/// window; with one scan of a short radius those of some have fewer.
+fn screens(call: &Call) -> Vec<ScreenCase> {
+    let all: Vec<Window> = windows().collect();
+    let (first, last) = (&all[..MOST_WINDOWS], &all[all.len() - MOST_WINDOWS..]);
+    let backwards: Vec<Window> = last.iter().rev().copied().collect();
+    let whole = [Window::new(0, NX - 1, 0, NY - 1); MOST_WINDOWS];
+    let (three, middle, corner) = (&all[8..11], &all[13..14], &all[9..10]);
+    let far = [first, &backwards, &whole, three, middle, &[]];
+    let near = [first, &all[..3], three, corner];
+    let one_scan = Call { scans: 1, radius: vec![SHORT], ..call.clone() };
+    let far = far.into_iter().map(|windows| screened(call.clone(), windows));
+    far.chain(near.into_iter().map(|windows| screened(one_scan.clone(), windows))).collect()
+}
+
 /// The first, the middle and the last of the places 0..=last, each once.
 fn places(last: u32) -> Vec<u32> {
     let mut places = vec![0, last / 2, last];
@@ -176,13 +202,14 @@ fn places(last: u32) -> Vec<u32> {
     places
 }
 
-/// All that is asked over the stations. The last analysis, window and text
-/// have all 536 rows, which is too many.
+/// All that is asked over the stations. The last analysis, window and text, and
+/// the last two screens, have all 536 rows, which is too many.
 pub struct Cases {
     /// A line on each plan.
     pub said: Vec<String>,
     pub analyses: Vec<AnalysisCase>,
     pub windows: Vec<WindowCase>,
+    pub screens: Vec<ScreenCase>,
     pub readings: Vec<ReadingCase>,
     pub summaries: Vec<SummaryCase>,
     pub texts: Vec<TextCase>,
@@ -200,10 +227,14 @@ impl Cases {
             .iter()
             .flat_map(|one| windows().map(|window| windowed(one.call.clone(), window)));
         let refused = windowed(too_many.clone(), Window::new(0, 0, 0, 0));
+        let each_screen = accepted.iter().flat_map(|one| screens(&one.call));
+        let none = screened(too_many.clone(), &[]);
+        let sixteen = screened(too_many.clone(), &[Window::new(0, 0, 0, 0); MOST_WINDOWS]);
         Ok(Cases {
             said: accepted.iter().map(|one| one.said.clone()).collect(),
             analyses: analyses.map(AnalysisCase).collect(),
             windows: each_window.chain([refused]).collect(),
+            screens: each_screen.chain([none, sixteen]).collect(),
             readings: accepted.iter().flat_map(Accepted::readings).collect(),
             summaries: accepted.iter().map(|one| SummaryCase(one.query(0, 0))).collect(),
             texts: texts.map(plain).collect(),

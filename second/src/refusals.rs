@@ -4,7 +4,7 @@ use crate::call::{Call, Refusal, Window};
 use crate::field::Shape;
 use crate::units::{LIMIT, MISSING, MOST_STATIONS, POSITION, RADIUS, SCANS, SIDE, VALUE};
 
-type Checked = Result<(), Refusal>;
+pub type Checked = Result<(), Refusal>;
 
 /// Refusals of the whole analysis: 1, 3, 4, 5, 6, 7, 8.
 pub fn check_analysis(call: &Call) -> Checked {
@@ -19,7 +19,7 @@ pub fn check_analysis(call: &Call) -> Checked {
 /// verdicts, so their length is not looked at.
 pub fn check_window(call: &Call, window: &Window) -> Checked {
     check_shape(call.nx, call.ny, call.first_guess.len())?;
-    check_ends(call, window)?;
+    demand(is_on_grid(call, window), 2, 0)?;
     check_result(call.grid_len, window.area())?;
     check_result(call.support_len, window.area())?;
     check_request(call)
@@ -35,19 +35,20 @@ pub fn check_shape(nx: u32, ny: u32, points: usize) -> Result<Shape, Refusal> {
     }
 }
 
-/// Refusal 2. Any u32 may come, so no end is raised before it is compared.
-fn check_ends(call: &Call, window: &Window) -> Checked {
+/// What refusal 2 asks of a window. Any u32 may come, so no end is raised
+/// before it is compared.
+pub fn is_on_grid(call: &Call, window: &Window) -> bool {
     let in_order = window.left <= window.right && window.top <= window.bottom;
-    let on_grid = window.right < call.nx && window.bottom < call.ny;
-    demand(in_order && on_grid, 2, 0)
+    in_order && window.right < call.nx && window.bottom < call.ny
 }
 
-fn check_result(length: usize, asked: usize) -> Checked {
+/// Refusal 3, of one result.
+pub fn check_result(length: usize, asked: usize) -> Checked {
     demand(length == asked, 3, 0)
 }
 
-/// Refusals 4 to 8, which analysis and window query share.
-fn check_request(call: &Call) -> Checked {
+/// Refusals 4 to 8, which analysis, window query and screen share.
+pub fn check_request(call: &Call) -> Checked {
     check_columns(call)?;
     check_scan_count(call)?;
     check_plan(call)?;
@@ -100,7 +101,7 @@ fn check_stations(call: &Call) -> Checked {
 }
 
 /// Places are at most 4,095: a point of the largest grid.
-fn demand(good: bool, number: u32, place: usize) -> Checked {
+pub fn demand(good: bool, number: u32, place: usize) -> Checked {
     if good {
         Ok(())
     } else {

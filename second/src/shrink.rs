@@ -2,6 +2,7 @@
 
 use crate::call::{Call, Query, Window};
 use crate::compare::Case;
+use crate::refusals::is_on_grid;
 use crate::text::parse;
 use crate::units::NO_END;
 use crate::write::{request_text, Style};
@@ -31,7 +32,7 @@ pub fn smallest<C: Case>(case: C, still_fails: &dyn Fn(&C) -> bool) -> C {
 }
 
 /// Ranges to drop from n things: all, halves, quarters, down to single ones.
-fn chunks(n: usize) -> impl Iterator<Item = Range<usize>> {
+pub fn chunks(n: usize) -> impl Iterator<Item = Range<usize>> {
     let sizes = successors(Some(n), |size| Some(size / 2)).take_while(|size| *size > 0);
     sizes.flat_map(move |size| {
         let starts = (0..n).step_by(size);
@@ -40,7 +41,7 @@ fn chunks(n: usize) -> impl Iterator<Item = Range<usize>> {
 }
 
 /// Drops a range as far as the column has it.
-fn drop_range<T>(column: &mut Vec<T>, range: &Range<usize>) {
+pub fn drop_range<T>(column: &mut Vec<T>, range: &Range<usize>) {
     let end = range.end.min(column.len());
     column.drain(range.start.min(end)..end);
 }
@@ -121,8 +122,8 @@ pub fn smaller_windows<'a>(
         .chain(simpler(call).map(keep))
 }
 
-/// The window's outer columns or rows alone, or all but one of them.
-fn narrower(call: &Call, window: Window) -> impl Iterator<Item = (Call, Window)> + '_ {
+/// A good window's outer columns or rows alone, or all but one of them.
+pub fn narrowed(window: Window) -> impl Iterator<Item = Window> {
     let Window { left, right, top, bottom } = window;
     let windows = [
         Window::new(right, right, top, bottom),
@@ -133,9 +134,13 @@ fn narrower(call: &Call, window: Window) -> impl Iterator<Item = (Call, Window)>
         Window::new(left, right, top, bottom.saturating_sub(1)),
     ];
     let in_order = |window: &Window| window.left <= window.right && window.top <= window.bottom;
-    let sound = in_order(&window) && right < call.nx && bottom < call.ny;
-    let good = move |new: &Window| sound && in_order(new) && *new != window;
-    windows.into_iter().filter(good).map(move |new| {
+    windows.into_iter().filter(move |new| in_order(new) && *new != window)
+}
+
+/// The call with the window narrowed, if that is good.
+fn narrower(call: &Call, window: Window) -> impl Iterator<Item = (Call, Window)> + '_ {
+    let sound = is_on_grid(call, &window);
+    narrowed(window).filter(move |_| sound).map(move |new| {
         let mut call = call.clone();
         call.grid_len = (call.grid_len + new.area()).saturating_sub(window.area());
         call.support_len = (call.support_len + new.area()).saturating_sub(window.area());
@@ -143,7 +148,7 @@ fn narrower(call: &Call, window: Window) -> impl Iterator<Item = (Call, Window)>
     })
 }
 
-fn fewer_stations(call: &Call) -> impl Iterator<Item = Call> + '_ {
+pub fn fewer_stations(call: &Call) -> impl Iterator<Item = Call> + '_ {
     let minutes = call.observed.len().max(call.from.len()).max(call.until.len());
     let rows = call.x.len().max(call.y.len()).max(call.value.len()).max(minutes);
     chunks(rows).map(|range| {
@@ -160,7 +165,7 @@ fn fewer_stations(call: &Call) -> impl Iterator<Item = Call> + '_ {
     })
 }
 
-fn fewer_scans(call: &Call) -> impl Iterator<Item = Call> + '_ {
+pub fn fewer_scans(call: &Call) -> impl Iterator<Item = Call> + '_ {
     let entries = call.radius.len().max(call.limit.len());
     chunks(entries).map(move |range| {
         let mut call = call.clone();
@@ -175,7 +180,7 @@ fn fewer_scans(call: &Call) -> impl Iterator<Item = Call> + '_ {
 
 /// The halves of a grid and the grid less one outer column or row; none where
 /// the sides do not fit the number of points.
-fn parts(nx: u32, ny: u32, points: usize) -> Vec<Window> {
+pub fn parts(nx: u32, ny: u32, points: usize) -> Vec<Window> {
     if points == 0 || u64::from(nx) * u64::from(ny) != points as u64 {
         return Vec::new();
     }
@@ -192,7 +197,7 @@ fn kept_ranges(side: u32) -> impl Iterator<Item = (u32, u32)> {
 }
 
 /// The call on a part of its grid; stations keep their places on the ground.
-fn trimmed(call: &Call, part: &Window) -> Call {
+pub fn trimmed(call: &Call, part: &Window) -> Call {
     let (dx, dy) = (64 * part.left as i32, 64 * part.top as i32);
     let first_guess = picked(&call.first_guess, call.nx, part);
     Call {
@@ -212,7 +217,7 @@ fn picked<T: Copy>(points: &[T], nx: u32, part: &Window) -> Vec<T> {
 }
 
 /// The same shape with simpler numbers: first all at once, then one by one.
-fn simpler(call: &Call) -> impl Iterator<Item = Call> + '_ {
+pub fn simpler(call: &Call) -> impl Iterator<Item = Call> + '_ {
     let all_at_once =
         [Call { smooth: false, ..call.clone() }, at_level_zero(call), in_service_for_good(call)];
     all_at_once
@@ -271,7 +276,7 @@ where
 }
 
 /// The target, half way to it and an eighth of the way, if not there yet.
-fn closer(number: i64, target: i64) -> impl Iterator<Item = i64> {
+pub fn closer(number: i64, target: i64) -> impl Iterator<Item = i64> {
     let away = number - target;
     let eighths = [0, 4, 7].into_iter().filter(move |_| away != 0);
     eighths.map(move |left| target + away * left / 8)

@@ -22,13 +22,21 @@ pub const WRAPPED: &str = "bad window with results as long as its area wraps to"
 
 /// The least of each sort in a full run.
 pub fn floors() -> Vec<Floor> {
+    [accepted_floors(200), floors_of(&[(SMALL_OF_BIG, 1, 200), (WRAPPED, 1, 100)]), bad_floors()]
+        .concat()
+}
+
+/// The least of each sort of accepted window, on any grid.
+pub fn accepted_floors(least: u64) -> Vec<Floor> {
     let sides = [CORNER, EDGE, CUT, ON_CUT, INSIDE_CUT, OUTSIDE_CUT];
-    let by_side = sides.into_iter().flat_map(|name| (0..4).map(move |n| (name, n, 200)));
-    let shapes = (0..5).map(|n| (SHAPE, n, 200));
-    let bad = (0..4).flat_map(|n| [(BAD, n, 40), (BAD_BY_ONE, n, 30), (EXTREME, n, 30)]);
-    let others = [(SMALL_OF_BIG, 0, 200), (BAD, 4, 30), (WRAPPED, 0, 100)];
-    let all = by_side.chain(shapes).chain(bad).chain(others);
-    all.map(|(name, number, least)| Floor::times(name, number, least)).collect()
+    let by_side = sides.map(|name| (name, 4, least));
+    [floors_of(&by_side), floors_of(&[(SHAPE, 5, least)])].concat()
+}
+
+/// The least of each way for a window to be bad.
+pub fn bad_floors() -> Vec<Floor> {
+    let alone = floors_of(&[(BAD, 4, 40), (BAD_BY_ONE, 4, 30), (EXTREME, 4, 30)]);
+    [alone, vec![Floor::times(BAD, 4, 30)]].concat()
 }
 
 /// Floors by name, how many numbers it has, and the least of each.
@@ -120,6 +128,13 @@ fn is_small_of_big(call: &Call, window: &Window, cut: &Window) -> bool {
 
 /// The sorts of a query with refusal 2.
 pub fn of_bad(call: &Call, window: &Window) -> Vec<Sort> {
+    let wrapped = window.wrapped_area() as usize;
+    let fits = wrapped == call.grid_len && wrapped == call.support_len;
+    [of_ends(call, window), named(WRAPPED, [fits])].concat()
+}
+
+/// What is wrong with the ends of a bad window.
+pub fn of_ends(call: &Call, window: &Window) -> Vec<Sort> {
     let Window { left, right, top, bottom } = *window;
     let faults = [left > right, top > bottom, right >= call.nx, bottom >= call.ny];
     let several = faults.iter().filter(|fault| **fault).count() > 1;
@@ -131,13 +146,10 @@ pub fn of_bad(call: &Call, window: &Window) -> Vec<Sort> {
     ];
     let alone = |fault: bool| fault && !several;
     let [a, b, c, d] = faults.map(alone);
-    let wrapped = window.wrapped_area() as usize;
-    let fits = wrapped == call.grid_len && wrapped == call.support_len;
     [
         named(BAD, [a, b, c, d, several]),
         named(BAD_BY_ONE, by_one.map(alone)),
         named(EXTREME, [left, right, top, bottom].map(|end| end == u32::MAX)),
-        named(WRAPPED, [fits]),
     ]
     .concat()
 }

@@ -6,6 +6,8 @@ use crate::compare::{run, run_over, run_two_at_a_time, Case, Run, Shared, Subjec
 use crate::near::{Edits, PAPER};
 use crate::post_sorts::real_floors;
 use crate::real::{stations, Cases};
+use crate::screen_case::ScreenCase;
+use crate::screen_sorts;
 use crate::tally::Floor;
 use std::io::{self, Write};
 
@@ -91,13 +93,16 @@ pub fn compare_near(program: Shared, stride: u64, out: &mut dyn Write) -> Result
 /// Runs calls over the real stations of a data file.
 pub fn compare_real(subject: &dyn Subject, data: &str, out: &mut dyn Write) -> Result<(), String> {
     let cases = real_cases(data, out)?;
-    let all_but_one = |cases: usize| {
-        [vec![fixed("accepted", 0, cases - 1), fixed("refusal", 4, 1)], real_floors()].concat()
+    let all_but = |refused: usize, cases: usize| {
+        let outcomes = vec![fixed("accepted", 0, cases - refused), fixed("refusal", 4, refused)];
+        [outcomes, real_floors()].concat()
     };
-    let floors = all_but_one(cases.analyses.len());
+    let floors = all_but(1, cases.analyses.len());
     real_kind("real analysis", subject, cases.analyses, &floors, out)?;
-    let floors = all_but_one(cases.windows.len());
+    let floors = all_but(1, cases.windows.len());
     real_kind("real window", subject, cases.windows, &floors, out)?;
+    let floors = [all_but(2, cases.screens.len()), screen_sorts::real_floors()].concat();
+    real_kind("real windows", subject, cases.screens, &floors, out)?;
     let floors = [0, 2].map(|kind| fixed("kind", kind, 1));
     real_kind("real reading", subject, cases.readings, &floors, out)?;
     let floors = [fixed("refusal", 0, cases.summaries.len())];
@@ -150,6 +155,7 @@ pub fn survey(
 ) -> Result<(), String> {
     compare_kind::<AnalysisCase>(subject, seed, count, out)?;
     survey_kind::<WindowCase>(subject, seed, count, out)?;
+    survey_kind::<ScreenCase>(subject, seed, count, out)?;
     survey_kind::<ReadingCase>(subject, seed, count, out)?;
     survey_kind::<SummaryCase>(subject, seed, count, out)?;
     survey_kind::<TextCase>(subject, seed, count, out)

@@ -2,6 +2,7 @@
 
 use crate::call::{Analysis, Call, Refusal};
 use crate::query_sorts::NO_POINTS;
+use crate::screen_sorts;
 use crate::sorts::{Sort, SMALL_OF_BIG, WRAPPED};
 use crate::units::{LIMIT, SIDE};
 use std::collections::BTreeMap;
@@ -10,7 +11,8 @@ use std::fmt::{Display, Formatter};
 /// Floors are given for a run of this many; smaller runs scale them down.
 const FULL_RUN: u64 = 20_000;
 /// The names under which there is one number only, which says nothing.
-const UNNUMBERED: [&str; 5] = ["accepted", "big", SMALL_OF_BIG, WRAPPED, NO_POINTS];
+const UNNUMBERED: [&str; 6] =
+    ["accepted", "big", SMALL_OF_BIG, WRAPPED, NO_POINTS, screen_sorts::WRAPPED];
 
 /// How often something was seen, by its name and number.
 #[derive(Clone, Debug, Default, PartialEq, Eq)]

@@ -26,6 +26,8 @@ pub const SCANS: RangeInclusive<u32> = 1..=6;
 pub const RADIUS: RangeInclusive<i32> = 1..=1024;
 pub const LIMIT: RangeInclusive<i32> = 0..=2_000_000;
 pub const MOST_STATIONS: usize = 512;
+/// The most windows of a screen.
+pub const MOST_WINDOWS: usize = 16;
 
 /// The greatest age where a request text leaves its line out.
 pub const DEFAULT_AGE: u32 = 120;

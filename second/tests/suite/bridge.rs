@@ -1,7 +1,7 @@
 //! The bridge itself, built for this processor around a stub of the archive.
 
 use second::bridge::{Bridge, Empty};
-use second::call::{Call, Query, Window};
+use second::call::{Call, Query, Screen, Window};
 use second::compare::{Answer, Results, Subject};
 use std::process::Command;
 use std::sync::OnceLock;
@@ -53,6 +53,22 @@ fn window_answer(bridge: &Bridge, time: u32) -> (Answer<u32>, Vec<i32>, Vec<u8>)
     (bridge.window(&call(time), &Window::new(105, 106, 107, u32::MAX), results), grid, support)
 }
 
+/// Columns of ends of which no two are alike.
+fn screen() -> Screen {
+    Screen {
+        left: vec![105],
+        right: vec![106, 111],
+        top: vec![107, 0, 112],
+        bottom: vec![108, 0, 0, u32::MAX],
+    }
+}
+
+fn windows_answer(bridge: &Bridge, time: u32) -> (Answer<u32>, Vec<i32>, Vec<u8>) {
+    let (mut grid, mut support) = (vec![5; 50], vec![5; 3]);
+    let results = Results { grid: &mut grid, support: &mut support, verdict: &mut [] };
+    (bridge.windows(&call(time), &screen(), results), grid, support)
+}
+
 /// What the stub says of a call's plain numbers and columns.
 fn assert_told(grid: &[i32]) {
     assert_eq!(grid[..6], [101, 102, 103, 1, 0, 104]);
@@ -78,6 +94,16 @@ fn a_window_query_crosses_the_bridge() {
     assert_told(&grid);
     assert_eq!(grid[33..35], [40, 3], "the lengths of the results");
     assert_eq!(grid[36..], [105, 106, 107, -1], "the ends");
+}
+
+#[test]
+fn a_screen_crosses_the_bridge() {
+    let (code, grid, support) = windows_answer(&start(Empty::Null), 0);
+    assert_eq!((code, support), (Ok(0), vec![1; 3]));
+    assert_told(&grid);
+    assert_eq!(grid[33..35], [50, 3], "the lengths of the results");
+    let ends = [1, 105, 105, 2, 106, 111, 3, 107, 112, 4, 108, -1];
+    assert_eq!(grid[38..], ends, "the length, the first and the last of each column of ends");
 }
 
 /// A query in which no two lengths are alike; an x below 0 asks for a fault.
@@ -129,6 +155,11 @@ fn empty_slices_are_null_where_asked() {
         start(empty).window(&Call::default(), &Window::new(0, 0, 0, 0), results)
     };
     assert_eq!((nulls(Empty::Dangling), nulls(Empty::Null)), (Ok(0), Ok(11)));
+    let nulls = |empty| {
+        let results = Results { grid: &mut [], support: &mut [], verdict: &mut [] };
+        start(empty).windows(&Call::default(), &Screen::default(), results)
+    };
+    assert_eq!((nulls(Empty::Dangling), nulls(Empty::Null)), (Ok(0), Ok(15)), "zero windows");
 }
 
 #[test]
@@ -138,6 +169,7 @@ fn writes_outside_the_results_are_seen() {
         let seen = format!("{name} is written outside its slice");
         if name != "verdict" {
             assert_eq!(window_answer(&bridge, time).0, Err(seen.clone()), "fault {time}");
+            assert_eq!(windows_answer(&bridge, time).0, Err(seen.clone()), "fault {time}");
         }
         assert_eq!(answer(&bridge, time).0, Err(seen), "fault {time}");
     }
@@ -146,8 +178,14 @@ fn writes_outside_the_results_are_seen() {
     for (time, name) in (7..).zip(columns) {
         let seen = format!("the input {name} is changed by the call");
         assert_eq!(window_answer(&bridge, time).0, Err(seen.clone()), "fault {time}");
+        assert_eq!(windows_answer(&bridge, time).0, Err(seen.clone()), "fault {time}");
         assert_eq!(answer(&bridge, time).0, Err(seen), "fault {time}");
     }
+    for (time, name) in (17..).zip(["left", "right", "top", "bottom"]) {
+        let seen = format!("the input {name} is changed by the call");
+        assert_eq!(windows_answer(&bridge, time).0, Err(seen), "fault {time}");
+    }
+    assert_eq!(windows_answer(&bridge, 0).0, Ok(0));
     assert_eq!((answer(&bridge, 0).0, window_answer(&bridge, 0).0), (Ok(0), Ok(0)));
 }
 

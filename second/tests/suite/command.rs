@@ -1,6 +1,8 @@
 //! The command line: answers, exit codes and one-line messages.
 
 use crate::{ANSWER, REQUEST};
+use second::compare::Case;
+use second::screen_case::ScreenCase;
 use std::io::Write;
 use std::process::{Command, Output, Stdio};
 
@@ -38,6 +40,15 @@ fn generate_prints_lengths_and_texts() {
     let first = second::generate_text::text(3, 0).0;
     let start = [format!("{}\n", first.len()).as_bytes(), &first].concat();
     assert!(output.status.success() && output.stdout.starts_with(&start));
+}
+
+#[test]
+fn generate_prints_screens() {
+    let output = second(&["generate", "windows", "3", "2"], &[], "");
+    let first = ScreenCase::generate(3, 0).plain();
+    let start = [format!("{}\n", first.len()).as_bytes(), &first].concat();
+    assert!(output.status.success() && output.stdout.starts_with(&start));
+    assert!(first.starts_with(b"left="));
 }
 
 #[test]
@@ -107,6 +118,7 @@ fn bad_arguments_give_one_line_and_two() {
     wrong(&["compare"], &[]);
     wrong(&["compare", "maps"], &[]);
     wrong(&["compare", "window"], &[]);
+    wrong(&["compare", "windows"], &[]);
     wrong(&["compare", "text"], &[]);
     wrong(&["compare", "near"], &[]);
     wrong(&["compare", "real"], &[]);

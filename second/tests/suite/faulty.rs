@@ -1,11 +1,12 @@
 //! Subjects with one planted fault each, to show that the harness sees it.
 
 use crate::windows::from_part;
-use second::call::{Analysis, Call, Query, Window, WindowAnswer};
+use second::call::{Analysis, Call, Query, Screen, Window, WindowAnswer};
 use second::compare::{Answer, Own, Results, Subject};
 use second::field::Shape;
 use second::scan::{correct, difference, judge, smoothed, sums, Accepted};
 use second::scheme::analyse;
+use second::screen::points;
 use second::summary::Summary;
 use second::text;
 use second::units::{rounded, BORDER, MISSING};
@@ -69,6 +70,18 @@ impl Subject for Faulty {
         let code = Own.window(call, ends, Results { grid, support, verdict: &mut [] });
         if code == Ok(0) {
             let answer = faulty_window(call, ends, self.0);
+            grid.copy_from_slice(&answer.grid);
+            support.copy_from_slice(&answer.support);
+        }
+        code
+    }
+
+    /// By cuts, unless these have more points together than the grid.
+    fn windows(&self, call: &Call, screen: &Screen, results: Results) -> Answer<u32> {
+        let (grid, support) = (results.grid, results.support);
+        let code = Own.windows(call, screen, Results { grid, support, verdict: &mut [] });
+        if code == Ok(0) {
+            let answer = faulty_screen(call, &screen.windows(), self.0);
             grid.copy_from_slice(&answer.grid);
             support.copy_from_slice(&answer.support);
         }
@@ -181,6 +194,22 @@ fn faulty_window(call: &Call, ends: &Window, fault: Fault) -> WindowAnswer {
         }
         _ => pick(shape, &faulty_run(call, fault), ends),
     }
+}
+
+fn faulty_screen(call: &Call, windows: &[Window], fault: Fault) -> WindowAnswer {
+    let cuts: Vec<Window> = windows.iter().map(|w| widened(call, w, reach(call))).collect();
+    let by_cuts = points(&cuts) <= call.first_guess.len();
+    let whole = faulty_run(call, fault);
+    let mut all = WindowAnswer { grid: Vec::new(), support: Vec::new() };
+    for window in windows {
+        let single = match by_cuts {
+            true => faulty_window(call, window, fault),
+            false => pick(call.shape(), &whole, window),
+        };
+        all.grid.extend(single.grid);
+        all.support.extend(single.support);
+    }
+    all
 }
 
 /// The call with some rows where no station takes part.

@@ -6,6 +6,7 @@ use second::bridge::{Bridge, Empty};
 use second::call::{Analysis, Call, Refusal};
 use second::cases::{AnalysisCase, ReadingCase, SummaryCase, TextCase, WindowCase};
 use second::compare::{run, Case, Failure, Own, Subject};
+use second::screen_case::ScreenCase;
 use second::shrink::smallest;
 use second::survey::survey;
 use second::tally::{Floor, Tally};
@@ -32,6 +33,7 @@ fn same_cases<C: Case>() {
 fn the_same_seed_gives_the_same_cases() {
     same_cases::<AnalysisCase>();
     same_cases::<WindowCase>();
+    same_cases::<ScreenCase>();
     same_cases::<ReadingCase>();
     same_cases::<SummaryCase>();
     same_cases::<TextCase>();
@@ -78,6 +80,7 @@ fn a_call_that_is_not_offered_is_a_difference() {
     impl Subject for Nothing {}
     assert!(run::<TextCase>(&Nothing, SEED, 1).failure.is_some());
     assert!(run::<AnalysisCase>(&Nothing, SEED, 1).failure.is_some());
+    assert!(run::<ScreenCase>(&Nothing, SEED, 1).failure.is_some());
     assert!(run::<ReadingCase>(&Nothing, SEED, 1).failure.is_some());
 }
 
@@ -126,6 +129,17 @@ fn refused_cases_of_every_number_are_made_small() {
     for (number, case) in shrink_refused::<WindowCase, Analysis>(300) {
         let rows = if number == 4 { 513 } else { 1 };
         assert!(case.call.x.len() <= rows, "{number}: {case:?}");
+    }
+    for (number, case) in shrink_refused::<ScreenCase, Analysis>(300) {
+        let rows = if number == 4 { 513 } else { 1 };
+        assert!(case.call.x.len() <= rows, "{number}: {case:?}");
+        let longest = case.screen.columns().map(Vec::len).into_iter().max();
+        let most = match number {
+            2 => 17,
+            3 => 1,
+            _ => 0,
+        };
+        assert!(longest <= Some(most), "{number}: {case:?}");
     }
     for (number, case) in shrink_refused::<TextCase, (Call, Analysis)>(100) {
         let most = if number == 10 { 65_700 } else { 110 };

@@ -3,6 +3,7 @@
 mod bridge;
 mod command;
 mod faulty;
+mod faulty_screens;
 mod harness;
 mod numbers;
 mod posts;
@@ -10,6 +11,8 @@ mod program;
 mod readings;
 mod real;
 mod refusals;
+mod screen_sorts;
+mod screens;
 mod serve;
 mod sorts;
 mod texts;

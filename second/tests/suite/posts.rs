@@ -11,6 +11,7 @@ use second::generate::push_station;
 use second::impossible::late_rejection;
 use second::post_sorts::is_post;
 use second::scheme::{analyse, run, run_within};
+use second::screen_case::ScreenCase;
 use second::survey::survey_kind;
 use second::tally::{Floor, Tally};
 use second::units::BORDER;
@@ -123,9 +124,11 @@ fn a_border_of_0_changes_requests_with_posts_and_no_others() {
 
 /// So many generated analyses or texts, and so many windows, of any seed, show
 /// each fault of posts. Over 20 seeds the first that did was case 23 and case
-/// 372 at the latest: few windows hear a post that is 256 units out.
+/// 372 at the latest: few windows hear a post that is 256 units out. Of screens
+/// it was case 804: few are answered by cuts with a post beyond a corner.
 const ENOUGH: u64 = 100;
 const ENOUGH_WINDOWS: u64 = 500;
+const ENOUGH_SCREENS: u64 = 1_500;
 
 fn seen_within<C: Case>(count: u64, faults: &[Fault]) {
     for fault in faults {
@@ -153,6 +156,10 @@ fn faults_of_posts_are_seen_early() {
     seen_within::<WindowCase>(ENOUGH_WINDOWS, &OF_THE_RULES);
     seen_within::<WindowCase>(ENOUGH, &[Fault::PostsLeaveTheCut, Fault::PostsOfTheWindowOnly]);
     seen_within::<WindowCase>(ENOUGH_WINDOWS, &[Fault::CornerPostsLeaveTheCut]);
+    seen_within::<ScreenCase>(ENOUGH_SCREENS, &OF_THE_RULES);
+    seen_within::<ScreenCase>(ENOUGH_SCREENS, &[Fault::PostsLeaveTheCut]);
+    seen_within::<ScreenCase>(ENOUGH_SCREENS, &[Fault::PostsOfTheWindowOnly]);
+    seen_within::<ScreenCase>(ENOUGH_SCREENS, &[Fault::CornerPostsLeaveTheCut]);
 }
 
 #[test]

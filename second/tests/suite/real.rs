@@ -2,6 +2,7 @@
 //! faults that these must show.
 
 use crate::faulty::{Fault, Faulty};
+use crate::faulty_screens::{FaultyScreen, OF_ANSWERS};
 use second::call::Refusal;
 use second::compare::{Case, Own};
 use second::field::Shape;
@@ -67,6 +68,10 @@ fn all_rows_are_too_many() {
     assert_eq!((last.0.x.len(), last.expected().err()), (536, Some(refused)));
     let last = cases.windows.last().expect("some");
     assert_eq!((last.call.x.len(), last.expected().err()), (536, Some(refused)));
+    let screens = &cases.screens[cases.screens.len() - 2..];
+    let windows = [0, 1].map(|last| screens[last].screen.left.len());
+    assert_eq!(windows, [0, 16]);
+    assert!(screens.iter().all(|case| case.expected().err() == Some(refused)));
     let last = cases.texts.last().expect("some").text.clone();
     let line = last.split(|byte| *byte == b'\n').position(|line| line == b"stations=536");
     assert_eq!(line, Some(36), "counted from 0");
@@ -95,6 +100,7 @@ fn the_cases_are_counted() {
         "smoothing on: 329 of 405 rejected; 88 of the 405 are posts\n",
         "\nreal analysis, 7 cases\n",
         "\nreal window, 205 cases\n",
+        "\nreal windows, 62 cases\n",
         "\nreal reading, 3072 cases\n",
         "\nreal summary, 6 cases\n",
         "\nreal text, 7 cases\n",
@@ -126,6 +132,10 @@ fn faults_are_seen_in_the_real_stations() {
     for fault in [Fault::WidenedByLargestOnly, Fault::PostsLeaveTheCut, Fault::PostsOfTheWindowOnly]
     {
         let seen = cases.windows.iter().any(|case| case.differs(&Faulty(fault)).is_some());
+        assert!(seen, "{fault:?} was not seen");
+    }
+    for fault in OF_ANSWERS {
+        let seen = cases.screens.iter().any(|case| case.differs(&FaultyScreen(fault)).is_some());
         assert!(seen, "{fault:?} was not seen");
     }
     assert!(analyse(&cases.analyses[0].0).is_ok_and(|analysis| analysis.verdict.contains(&5)));

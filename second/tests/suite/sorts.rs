@@ -5,7 +5,8 @@ use crate::lone_station;
 use second::call::{Call, Query, Window};
 use second::compare::read;
 use second::post_sorts::{
-    call_floors, of_accepted as of_posts, of_window, real_floors, text_floors, window_floors,
+    call_floors, of_accepted as of_posts, of_window, real_floors, screen_floors, text_floors,
+    window_floors,
 };
 use second::query_sorts::{of_reading, of_summary, reading_floors, summary_floors};
 use second::scheme::run;
@@ -13,7 +14,7 @@ use second::sorts::{floors, of_accepted, of_bad, Sort};
 use second::tally::{Floor, Tally};
 
 /// The numbers under the one name that begins so.
-fn numbers(sorts: &[Sort], name: &str) -> Vec<u32> {
+pub fn numbers(sorts: &[Sort], name: &str) -> Vec<u32> {
     sorts.iter().filter(|sort| sort.0.starts_with(name)).map(|sort| sort.1).collect()
 }
 
@@ -245,13 +246,13 @@ fn every_sort_has_a_floor() {
     assert_eq!(held(reading_floors()), 6 * 4 + 5 + 2 + 2 * 4 + 6 + 4 + 1);
     assert_eq!(held(summary_floors()), 3 * 3 + 5 + 4 + 4 + 2 + 1 + 2);
     let of_posts = 3 * 2 + 3 + 4 * 4 + 4 * 16;
-    assert_eq!((held(call_floors()), held(text_floors())), (of_posts, of_posts));
-    assert_eq!((held(window_floors()), real_floors().len()), (2 * 4 + 2 * 8 + 5, 4));
+    assert_eq!([call_floors(), text_floors(), screen_floors()].map(held), [of_posts; 3]);
+    assert_eq!((held(window_floors(50)), real_floors().len()), (2 * 4 + 2 * 8 + 5, 4));
 }
 
 /// Sees that every floor is one that can be missed and be held, and gives
 /// their number.
-fn held(floors: Vec<Floor>) -> usize {
+pub fn held(floors: Vec<Floor>) -> usize {
     let mut tally = Tally { count: 20_000, ..Tally::default() };
     for floor in floors {
         assert!(floor.least > 0 && tally.missed(&[floor]).is_some(), "{floor:?}");

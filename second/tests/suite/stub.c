@@ -1,16 +1,16 @@
 /*
  * stub.c: stands in for the archive in the tests of the bridge. Each of its calls says what it got: in grid the plain
  * numbers, the length, first and last number of each column, and the lengths of the results; as its result how many of
- * the addresses are null. A time that is not 0 asks for a fault. A window query is an analysis with a verdict of its
- * own, and says its four ends at the end of grid. A reading and a summary are made of all that they got; some x, or
- * field[0], ask for a fault.
+ * the addresses are null. A time that is not 0 asks for a fault. A window query and a screen are analyses with a
+ * verdict of their own; the one says its four ends at the end of grid, the other its four columns. A reading and a
+ * summary are made of all that they got; some x, or field[0], ask for a fault.
  */
 #include "../../../tests/standin.h"
 
 #include <stdlib.h>
 #include <string.h>
 
-enum { COLUMNS = 9, OUTSIDE = 1, CHANGES = 7, ABORTS = 16 };
+enum { COLUMNS = 9, ENDS = 4, OUTSIDE = 1, CHANGES = 7, ABORTS = 16, CHANGES_ENDS = 17 };
 
 struct column {
     uint32_t *numbers;
@@ -94,6 +94,30 @@ static uint32_t answer_window(const struct sosnyavik_request *q, struct sosnyavi
     results.verdict.at = verdict;
     results.verdict.count = sizeof verdict;
     return answer_analysis(q, results);
+}
+
+static uint32_t answer_windows(const struct sosnyavik_request *q, struct sosnyavik_screen screen,
+                               struct sosnyavik_results results) {
+    const struct column columns[ENDS] = {
+        {(uint32_t *)screen.left.at, screen.left.count},
+        {(uint32_t *)screen.right.at, screen.right.count},
+        {(uint32_t *)screen.top.at, screen.top.count},
+        {(uint32_t *)screen.bottom.at, screen.bottom.count},
+    };
+    uint8_t verdict[1];
+    uint32_t nulls = 0;
+    for (size_t c = 0; c < ENDS; c++)
+        nulls += columns[c].numbers == NULL;
+    if (results.grid.count != 0) {
+        int32_t *to = results.grid.at + results.grid.count - 3 * ENDS;
+        for (size_t c = 0; c < ENDS; c++)
+            to = tell(to, &columns[c]);
+    }
+    if (CHANGES_ENDS <= q->time && q->time < CHANGES_ENDS + ENDS)
+        columns[q->time - CHANGES_ENDS].numbers[columns[q->time - CHANGES_ENDS].length - 1] ^= 1;
+    results.verdict.at = verdict;
+    results.verdict.count = sizeof verdict;
+    return nulls + answer_analysis(q, results);
 }
 
 enum { CHANGES_FIELD = -7, CHANGES_SUPPORT = -8 };

@@ -58,7 +58,7 @@ fn the_cut_agrees_with_the_whole() {
 }
 
 /// A part of the grid that somebody might take for the cut.
-type Part = fn(&Call, &Window) -> Window;
+pub type Part = fn(&Call, &Window) -> Window;
 
 fn steps(call: &Call, each: fn(u32) -> u32, smoothing: u32) -> u32 {
     let radii = call.radius[..call.scans as usize].iter();
@@ -103,7 +103,7 @@ fn one_less(call: &Call, ends: &Window, side: usize) -> Window {
     }
 }
 
-const TOO_SMALL: [(&str, Part); 8] = [
+pub const TOO_SMALL: [(&str, Part); 8] = [
     ("the largest radius only", largest_only),
     ("R/64 rounded down", rounded_down),
     ("no step for smoothing", no_smoothing_step),
