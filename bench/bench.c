@@ -1,13 +1,21 @@
 /*
- * bench.c: the proved analysis beside the plain one, and its window query beside itself, on made-up evenings that are
- * the same in every run.
+ * bench.c: the proved analysis beside the plain one, its window query beside itself, and a screen of windows beside
+ * both, on made-up evenings that are the same in every run.
  *
  *   bench CASE ours|plain REPEAT   call one of them, for a counter of instructions
  *   bench CASE both REPEAT         compare the answers, then print the least wall time of each
  *   bench CASE window SIDE         call the window query once, for SIDE by SIDE points in the middle of the grid, and
  *                                  compare its answer with the whole analysis
+ *   bench CASE screen SCREEN       compare a screen's answer with plain C's, with those of its single queries, and with
+ *                                  the whole analysis
+ *   bench CASE windows SCREEN      call a screen once, for a counter
+ *   bench CASE singles SCREEN      call the window query once for each window of a screen, for a counter
+ *   bench CASE tests SCREEN        the same for each window but the first, with a request that the last of its tests
+ *                                  refuses
+ *   bench CASE cuts SCREEN         print the points of the windows' cuts together
  *   bench CASE stack               print the bytes of stack that the analysis touches, and those that it may
  *   bench CASE stack SIDE          the same of a window query
+ *   bench CASE stack SCREEN        the same of a screen
  *   bench CASE stack reading|summary   the same of a point reading's two calls, of the summary
  *
  * Exit status: 0 done; 1 the answers differ, or the system failed; 2 bad arguments.
@@ -62,9 +70,26 @@ struct output {
     uint8_t support[MOST_POINTS], verdict[MOST_STATIONS];
 };
 
+/* A screen: windows of BLOCK by BLOCK points in a square, on a grid of 64 by 64. */
+enum { BLOCK = 8, MOST_ALONG = 4, MOST_WINDOWS = MOST_ALONG * MOST_ALONG };
+
+struct arrangement {
+    const char *name;
+    size_t along;            /* windows in a row, and rows of them */
+    uint32_t at[MOST_ALONG]; /* their left ends, and their top ends too */
+};
+
+/* All over the grid, with gaps of 8 points; four that touch in each corner; one in the middle; none. */
+static const struct arrangement ARRANGEMENTS[] = {
+    {"spread", 4, {4, 20, 36, 52}},
+    {"corners", 4, {0, 8, 48, 56}},
+    {"middle", 1, {28}},
+    {"none", 0, {0}},
+};
+
 /* Too large for the stack that is to be measured, and shared by no two calls. */
 static struct input input;
-static struct output ours, plain, part;
+static struct output ours, plain, part, singles;
 
 /* The input as the calls take it. */
 static struct sosnyavik_request request;
@@ -72,11 +97,16 @@ static struct sosnyavik_request request;
 /* The window that is asked for: all ends count from 0 and are inside. */
 static struct sosnyavik_ends ends;
 
+/* The screen that is asked for, and its columns. */
+static uint32_t left[MOST_WINDOWS], right[MOST_WINDOWS], top[MOST_WINDOWS], bottom[MOST_WINDOWS];
+static struct sosnyavik_screen screen;
+
 static void complain(const char *what, const char *word) {
     fprintf(
         stderr,
-        "bench: %s '%s': use bench a|b|c|p|w ours|plain|both REPEAT, window SIDE, one reading|summary, text, or stack "
-        "[SIDE|reading|summary]\n",
+        "bench: %s '%s': use bench a|b|c|p|w ours|plain|both REPEAT, window SIDE, "
+        "screen|windows|singles|tests|cuts SCREEN, one reading|summary, text, or stack [SIDE|SCREEN|reading|summary], "
+        "where a SCREEN is spread, corners, middle or none\n",
         what, word);
     exit(2);
 }
@@ -184,11 +214,12 @@ static void run(Analysis *analysis, struct output *output) {
     output->returned = analysis(&request, results_of(output, request.first_guess.count));
 }
 
-static size_t window_columns(void) { return ends.right - ends.left + 1; }
+static size_t columns_of(struct sosnyavik_ends window) { return window.right - window.left + 1; }
+
+static size_t points_of(struct sosnyavik_ends window) { return columns_of(window) * (window.bottom - window.top + 1); }
 
 static void run_window(void) {
-    size_t points = window_columns() * (ends.bottom - ends.top + 1);
-    part.returned = sosnyavik_request_window(&request, ends, results_of(&part, points));
+    part.returned = sosnyavik_request_window(&request, ends, results_of(&part, points_of(ends)));
 }
 
 static void make_window(uint32_t side) {
@@ -196,6 +227,44 @@ static void make_window(uint32_t side) {
     ends.right = ends.left + side - 1;
     ends.top = (input.evening->ny - side) / 2;
     ends.bottom = ends.top + side - 1;
+}
+
+static void make_screen(const struct arrangement *arrangement) {
+    size_t count = 0;
+    for (size_t j = 0; j < arrangement->along; j++) {
+        for (size_t i = 0; i < arrangement->along; i++) {
+            left[count] = arrangement->at[i];
+            right[count] = arrangement->at[i] + BLOCK - 1;
+            top[count] = arrangement->at[j];
+            bottom[count] = arrangement->at[j] + BLOCK - 1;
+            count++;
+        }
+    }
+    screen = (struct sosnyavik_screen){{left, count}, {right, count}, {top, count}, {bottom, count}};
+}
+
+static struct sosnyavik_ends window_of(size_t k) {
+    return (struct sosnyavik_ends){.left = left[k], .right = right[k], .top = top[k], .bottom = bottom[k]};
+}
+
+static size_t screen_points(void) {
+    size_t points = 0;
+    for (size_t k = 0; k < screen.left.count; k++)
+        points += points_of(window_of(k));
+    return points;
+}
+
+static void run_screening(Screening *screening, struct output *output) {
+    output->returned = screening(&request, screen, results_of(output, screen_points()));
+}
+
+static void run_screen(void) { run_screening(sosnyavik_request_windows, &part); }
+
+/* A single query of a window, into an output's entries from one on. */
+static uint32_t run_single(struct sosnyavik_ends window, struct output *output, size_t at) {
+    size_t points = points_of(window);
+    struct sosnyavik_results results = {.grid = {output->grid + at, points}, .support = {output->support + at, points}};
+    return sosnyavik_request_window(&request, window, results);
 }
 
 /* The results are filled unlike before the calls, so that an entry which one of them leaves out differs too. */
@@ -215,6 +284,18 @@ static void compare(void) {
         fail("the verdicts differ");
 }
 
+/* A window's points, which stand in the part's entries from one on. */
+static void compare_with_whole(struct sosnyavik_ends window, size_t at) {
+    size_t columns = columns_of(window);
+    for (uint32_t j = window.top; j <= window.bottom; j++) {
+        size_t from = j * input.evening->nx + window.left, to = at + (j - window.top) * columns;
+        if (memcmp(ours.grid + from, part.grid + to, columns * sizeof *part.grid) != 0)
+            fail("the window's grid is not the whole analysis's");
+        if (memcmp(ours.support + from, part.support + to, columns) != 0)
+            fail("the window's support is not the whole analysis's");
+    }
+}
+
 /* One call of the window query, which is what a counter is to count. */
 static void compare_window(void) {
     memset(&ours, 0x55, sizeof ours);
@@ -223,13 +304,84 @@ static void compare_window(void) {
     run_window();
     if (ours.returned != 0 || part.returned != 0)
         fail("the window query or the whole analysis is refused");
-    for (uint32_t j = ends.top; j <= ends.bottom; j++) {
-        size_t from = j * input.evening->nx + ends.left, to = (j - ends.top) * window_columns();
-        if (memcmp(ours.grid + from, part.grid + to, window_columns() * sizeof *part.grid) != 0)
-            fail("the window's grid is not the whole analysis's");
-        if (memcmp(ours.support + from, part.support + to, window_columns()) != 0)
-            fail("the window's support is not the whole analysis's");
+    compare_with_whole(ends, 0);
+}
+
+/* One call, which is what a counter is to count. */
+static void call_screen(void) {
+    run_screen();
+    if (part.returned != 0)
+        fail("the screen is refused");
+}
+
+/* The answers one after the other, as those of the screen. */
+static void call_singles(void) {
+    size_t at = 0;
+    singles.returned = 0;
+    for (size_t k = 0; k < screen.left.count; k++) {
+        if (run_single(window_of(k), &singles, at) != 0)
+            fail("a single query of the screen is refused");
+        at += points_of(window_of(k));
     }
+}
+
+/* The tests that a screen saves, those of all single queries but one: every test is run, and the last one refuses. */
+static void call_tests(void) {
+    uint32_t row = (uint32_t)input.evening->stations - 1;
+    input.from[row] = input.until[row];
+    for (size_t k = 1; k < screen.left.count; k++) {
+        if (run_single(window_of(k), &singles, 0) != 8 * 65536 + row)
+            fail("a single query is not refused for its last row");
+    }
+}
+
+static bool alike(const struct output *one, const struct output *two, size_t points) {
+    return one->returned == two->returned && memcmp(one->grid, two->grid, points * sizeof *one->grid) == 0 &&
+           memcmp(one->support, two->support, points) == 0;
+}
+
+static void compare_screen(void) {
+    size_t points = screen_points(), at = 0;
+    memset(&ours, 0x55, sizeof ours);
+    memset(&plain, 0x55, sizeof plain);
+    memset(&singles, 0x55, sizeof singles);
+    memset(&part, 0xAA, sizeof part);
+    run(sosnyavik_request_analyse, &ours);
+    run_screening(plain_windows, &plain);
+    call_singles();
+    call_screen();
+    if (ours.returned != 0)
+        fail("the whole analysis is refused");
+    if (!alike(&part, &plain, points))
+        fail("the screen's answer is not plain C's");
+    if (!alike(&part, &singles, points))
+        fail("the screen's answer is not that of its single queries");
+    for (size_t k = 0; k < screen.left.count; k++) {
+        compare_with_whole(window_of(k), at);
+        at += points_of(window_of(k));
+    }
+}
+
+/* Document 01, "Reach of a window": in grid steps. */
+static uint32_t reach(void) {
+    const struct evening *evening = input.evening;
+    uint32_t steps = 0;
+    for (uint32_t m = 0; m < evening->scans; m++)
+        steps += ((uint32_t)evening->radius[m] + 63) / 64 + (evening->smooth ? 1 : 0);
+    return steps;
+}
+
+/* How many columns or rows a window's cut has. */
+static size_t widened(uint32_t first, uint32_t last, uint32_t side) {
+    uint32_t low = first < reach() ? 0 : first - reach(), high = last + reach();
+    return (high < side ? high : side - 1) - low + 1;
+}
+
+static void print_cuts(void) {
+    size_t points = 0;
+    for (size_t k = 0; k < screen.left.count; k++)
+        points += widened(left[k], right[k], input.evening->nx) * widened(top[k], bottom[k], input.evening->ny);
+    printf("%zu\n", points);
 }
 
 static int64_t nanoseconds(Analysis *analysis, struct output *output) {
@@ -347,6 +499,34 @@ static void run_window_case(const char *what, const char *side) {
         compare_window();
 }
 
+static const struct arrangement *arrangement_of(const char *name) {
+    for (size_t i = 0; i < sizeof ARRANGEMENTS / sizeof *ARRANGEMENTS; i++) {
+        if (strcmp(ARRANGEMENTS[i].name, name) == 0)
+            return &ARRANGEMENTS[i];
+    }
+    return NULL;
+}
+
+static void run_screen_case(const char *what, const struct arrangement *arrangement) {
+    if (input.evening->nx != 64 || input.evening->ny != 64)
+        complain("a screen needs a grid of 64 by 64, and so not case", input.evening->name);
+    make_screen(arrangement);
+    if (strcmp(what, "screen") == 0)
+        compare_screen();
+    else if (strcmp(what, "windows") == 0)
+        call_screen();
+    else if (strcmp(what, "singles") == 0)
+        call_singles();
+    else if (strcmp(what, "tests") == 0)
+        call_tests();
+    else if (strcmp(what, "cuts") == 0)
+        print_cuts();
+    else if (strcmp(what, "stack") == 0)
+        measure_stack(run_screen, SOSNYAVIK_STACK_WINDOW);
+    else
+        complain("nothing is done with a screen by", what);
+}
+
 static void run_case(const char *which, long repeat) {
     bool is_ours = strcmp(which, "ours") == 0, is_plain = strcmp(which, "plain") == 0;
     if (!is_ours && !is_plain && strcmp(which, "both") != 0)
@@ -379,6 +559,8 @@ int main(int argc, char **argv) {
         run_reading();
     else if (strcmp(what, "one") == 0 && strcmp(argv[3], "summary") == 0)
         run_summary();
+    else if (arrangement_of(argv[3]) != NULL)
+        run_screen_case(what, arrangement_of(argv[3]));
     else if (strcmp(what, "window") == 0 || strcmp(what, "stack") == 0)
         run_window_case(what, argv[3]);
     else

@@ -1,12 +1,16 @@
 /*
- * plain.c: document 01's analysis, as request 1 of document 02 changed it, the way a C programmer would write it first:
- * its loops, its numbers, no tricks. It assumes what include/sosnyavik.h says that the caller owes.
+ * plain.c: document 01's analysis, as request 1 of document 02 changed it, and request 2's screen of windows, the way a
+ * C programmer would write them first: their loops, their numbers, no tricks. It assumes what include/sosnyavik.h says
+ * that the caller owes.
  */
 #include "plain.h"
 
 #include <string.h>
 
-/* Document 01, "Units and sizes"; and document 02's MOST_BEYOND, how far off the grid a post may stand on each axis. */
+/*
+ * Document 01, "Units and sizes"; and document 02's MOST_BEYOND, how far off the grid a post may stand on each axis,
+ * and MOST_WINDOWS, how many a screen may have.
+ */
 enum {
     STEP = 64,
     MOST_BEYOND = 256,
@@ -18,6 +22,7 @@ enum {
     GREATEST_RADIUS = 1024,
     GREATEST_LIMIT = 2000000,
     GREATEST_NUMBER = 1000000,
+    MOST_WINDOWS = 16,
 };
 
 struct request {
@@ -208,10 +213,14 @@ static void analyse(const struct request *request, int32_t *grid, uint8_t *suppo
     }
 }
 
+static bool is_grid(const struct sosnyavik_request *asked) {
+    return is_side(asked->nx) && is_side(asked->ny) && asked->first_guess.count == (size_t)asked->nx * asked->ny;
+}
+
 /* Refusals 1 to 5, which measure; 0 if there is none. */
 static uint32_t check_lengths(const struct sosnyavik_request *asked, const struct sosnyavik_results *results) {
     size_t points = asked->first_guess.count, rows = asked->x.count, scans = asked->scans;
-    if (!is_side(asked->nx) || !is_side(asked->ny) || points != (size_t)asked->nx * asked->ny)
+    if (!is_grid(asked))
         return refusal(1, 0);
     if (results->grid.count != points || results->support.count != points || results->verdict.count != rows)
         return refusal(3, 0);
@@ -248,5 +257,70 @@ uint32_t plain_analyse(const struct sosnyavik_request *asked, struct sosnyavik_r
         refused = check_entries(&request);
     if (refused == 0)
         analyse(&request, results.grid.at, results.support.at, results.verdict.at);
+    return refused;
+}
+
+static struct sosnyavik_ends window_of(const struct sosnyavik_screen *screen, size_t window) {
+    return (struct sosnyavik_ends){.left = screen->left.at[window],
+                                   .right = screen->right.at[window],
+                                   .top = screen->top.at[window],
+                                   .bottom = screen->bottom.at[window]};
+}
+
+static bool is_window(const struct sosnyavik_request *asked, struct sosnyavik_ends ends) {
+    return ends.left <= ends.right && ends.top <= ends.bottom && ends.right < asked->nx && ends.bottom < asked->ny;
+}
+
+static size_t columns_of(struct sosnyavik_ends ends) { return ends.right - ends.left + 1; }
+
+static size_t points_of(struct sosnyavik_ends ends) { return columns_of(ends) * (ends.bottom - ends.top + 1); }
+
+/* Refusals 1 to 3 of a screen; 0 if there is none. */
+static uint32_t check_screen(const struct sosnyavik_request *asked, const struct sosnyavik_screen *screen,
+                             const struct sosnyavik_results *results) {
+    size_t windows = screen->left.count, points = 0;
+    if (!is_grid(asked))
+        return refusal(1, 0);
+    if (screen->right.count != windows || screen->top.count != windows || screen->bottom.count != windows ||
+        windows > MOST_WINDOWS)
+        return refusal(2, MOST_WINDOWS);
+    for (size_t window = 0; window < windows; window++) {
+        if (!is_window(asked, window_of(screen, window)))
+            return refusal(2, window);
+        points += points_of(window_of(screen, window));
+    }
+    if (results->grid.count != points || results->support.count != points)
+        return refusal(3, 0);
+    return 0;
+}
+
+/* Each window's points out of the whole analysis's, one window after the other. */
+static void copy_windows(uint32_t nx, const struct sosnyavik_screen *screen, const int32_t *grid,
+                         const uint8_t *support, struct sosnyavik_results results) {
+    size_t to = 0;
+    for (size_t window = 0; window < screen->left.count; window++) {
+        struct sosnyavik_ends ends = window_of(screen, window);
+        for (uint32_t j = ends.top; j <= ends.bottom; j++) {
+            size_t from = (size_t)j * nx + ends.left;
+            memcpy(results.grid.at + to, grid + from, columns_of(ends) * sizeof *grid);
+            memcpy(results.support.at + to, support + from, columns_of(ends));
+            to += columns_of(ends);
+        }
+    }
+}
+
+/* The whole analysis has room here for all that it accepts; refusals 4 to 8 are its own. */
+uint32_t plain_windows(const struct sosnyavik_request *asked, struct sosnyavik_screen screen,
+                       struct sosnyavik_results results) {
+    int32_t grid[MOST_POINTS];
+    uint8_t support[MOST_POINTS], verdict[MOST_STATIONS];
+    struct sosnyavik_results whole = {.grid = {grid, asked->first_guess.count},
+                                      .support = {support, asked->first_guess.count},
+                                      .verdict = {verdict, asked->x.count}};
+    uint32_t refused = check_screen(asked, &screen, &results);
+    if (refused == 0)
+        refused = plain_analyse(asked, whole);
+    if (refused == 0)
+        copy_windows(asked->nx, &screen, grid, support, results);
     return refused;
 }
