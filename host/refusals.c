@@ -36,6 +36,7 @@ static void a_guess_short(struct attempt *a) { set_length(&a->evening, FIRST_GUE
 static void left_past_right(struct attempt *a) { a->window.left = a->window.right + 1; }
 static void top_past_bottom(struct attempt *a) { a->window.top = a->window.bottom + 1; }
 static void right_past_grid(struct attempt *a) { a->window.right = NX; }
+static void bottom_past_grid(struct attempt *a) { a->window.bottom = NY; }
 static void bottom_at_the_most(struct attempt *a) { a->window.bottom = UINT32_MAX; }
 static void set_windows(struct attempt *a, size_t count) {
     for (size_t e = 0; e < ENDS; e++)
@@ -49,6 +50,7 @@ static void no_bottoms(struct attempt *a) { set_end_length(&a->screen, BOTTOM, 0
 static void first_left_past_right(struct attempt *a) { ends_of(&a->screen, LEFT)[0] = 14; }
 static void second_top_past_bottom(struct attempt *a) { ends_of(&a->screen, TOP)[1] = 12; }
 static void last_right_past_grid(struct attempt *a) { ends_of(&a->screen, RIGHT)[BLOCKS - 1] = NX; }
+static void last_bottom_past_grid(struct attempt *a) { ends_of(&a->screen, BOTTOM)[BLOCKS - 1] = NY; }
 static void last_bottom_at_the_most(struct attempt *a) { ends_of(&a->screen, BOTTOM)[BLOCKS - 1] = UINT32_MAX; }
 static void two_bad_windows(struct attempt *a) { last_right_past_grid(a), second_top_past_bottom(a); }
 static void bad_window_in_bad_columns(struct attempt *a) { first_left_past_right(a), a_top_short(a); }
@@ -94,7 +96,8 @@ static const struct mistake OF_A_WINDOW[] = {
     {left_past_right, 2, 0, "refusal 2, left"},
     {top_past_bottom, 2, 0, "refusal 2, top"},
     {right_past_grid, 2, 0, "refusal 2, right"},
-    {bottom_at_the_most, 2, 0, "refusal 2, bottom"},
+    {bottom_past_grid, 2, 0, "refusal 2, bottom"},
+    {bottom_at_the_most, 2, 0, "refusal 2, bottom at the most"},
 };
 
 static const struct mistake OF_A_SCREEN[] = {
@@ -107,7 +110,8 @@ static const struct mistake OF_A_SCREEN[] = {
     {first_left_past_right, 2, 0, "refusal 2, left of window 0"},
     {second_top_past_bottom, 2, 1, "refusal 2, top of window 1"},
     {last_right_past_grid, 2, BLOCKS - 1, "refusal 2, right of the last window"},
-    {last_bottom_at_the_most, 2, BLOCKS - 1, "refusal 2, bottom of the last window"},
+    {last_bottom_past_grid, 2, BLOCKS - 1, "refusal 2, bottom of the last window"},
+    {last_bottom_at_the_most, 2, BLOCKS - 1, "refusal 2, bottom of the last window at the most"},
     {two_bad_windows, 2, 1, "refusal 2, the first of two bad windows"},
     {bad_window_and_no_results, 2, BLOCKS - 1, "refusal 2 before 3"},
     {a_window_more, 3, 0, "refusal 3, a window without results"},

@@ -58,13 +58,11 @@ static struct answer answer_for(size_t screen, unsigned char pattern) {
     return screen_answer(WANTED[screen].windows, WANTED[screen].count, pattern);
 }
 
-static void show_all(const struct known *k, unsigned char pattern) {
-    for (size_t s = 0; s < SCREENS; s++) {
-        struct answer shown = answer_for(s, pattern);
-        must(show(&k->evening, &k->screens[s], &shown) == 0, "a screen among threads");
-        must(same_answer(&shown, &k->shown[s]), "a screen's answer among threads");
-        free_answer(&shown);
-    }
+static void show_again(const struct known *k, size_t screen, unsigned char pattern) {
+    struct answer shown = answer_for(screen, pattern);
+    must(show(&k->evening, &k->screens[screen], &shown) == 0, "a screen among threads");
+    must(same_answer(&shown, &k->shown[screen]), "a screen's answer among threads");
+    free_answer(&shown);
 }
 
 /* Each round has results of its own, filled anew: what is left out of one shows. */
@@ -77,18 +75,20 @@ static void run_all(const struct known *k, unsigned char pattern) {
     struct sosnyavik_summary summary = sum_up(&k->evening, &whole);
     must(memcmp(&reading, &k->reading, sizeof reading) == 0, "a reading among threads");
     must(same_doubles(&summary, &k->summary), "a summary among threads");
-    show_all(k, pattern);
     free_answer(&whole);
     free_answer(&part);
 }
 
 /* Half of the threads begin with the one evening and half with the other: what one call left behind for another to find
- * would not fit. */
+ * would not fit. A thread has shown each screen of both evenings after four rounds. */
 static void *run_rounds(void *first) {
     size_t which = *(const size_t *)first;
     pthread_barrier_wait(&at_once);
-    for (int round = 0; round < ROUNDS; round++)
-        run_all(&known[(which + (size_t)round) % EVENINGS], (unsigned char)(UNTOUCHED + round));
+    for (size_t round = 0; round < ROUNDS; round++) {
+        const struct known *k = &known[(which + round) % EVENINGS];
+        run_all(k, (unsigned char)(UNTOUCHED + round));
+        show_again(k, round / EVENINGS % SCREENS, (unsigned char)(UNTOUCHED + round));
+    }
     return NULL;
 }
 
@@ -118,7 +118,7 @@ static void free_known(struct known *k) {
     free_evening(&k->evening);
 }
 
-static void no_thread(void) {
+static _Noreturn void no_thread(void) {
     fprintf(stderr, "host: a thread cannot be started: allow more threads and memory, and run again\n");
     exit(2);
 }

@@ -242,10 +242,11 @@ static void mistakes_of_a_screen(Call *call) {
     Results r;
     Request q = paper;
     set_count(&q.screen, 17), must(call(&q, &r) == 131088, "the number for seventeen windows"), q = paper;
-    q.screen.top_len--, must(call(&q, &r) == 131088, "the number for unequal columns"), q = paper;
+    set_count(&q.screen, BLOCKS + 1), q.screen.top_len = BLOCKS;
+    must(call(&q, &r) == 131088, "the number for unequal columns"), q = paper;
     q.screen.bottom[2] = 3, must(call(&q, &r) == 131074, "the number for a bad window 2"), q = paper;
-    set_count(&q.screen, BLOCKS + 1), must(call(&q, &r) == 196608, "the number for a window without results"),
-        q = paper;
+    set_count(&q.screen, BLOCKS + 1);
+    must(call(&q, &r) == 196608, "the number for a window without results"), q = paper;
     q.screen.points = 6, refused(call, q, 3, 0, "refusal 3, a point short"), q = paper;
     q.screen.points = 0, refused(call, q, 3, 0, "refusal 3, no results"), q = paper;
     q.screen.points = POINTS, q.y_len = 2, refused(call, q, 3, 0, "refusal 3 before 4");
@@ -361,12 +362,12 @@ static uint32_t one_by_one(Request *q, Blocks *b) {
 // Screens of one to sixteen windows, all windows among them, and ends that are none: by either call as by single
 // queries.
 static void same_as_single_queries(void) {
+    static const uint32_t first[6] = {0, 0, 0, 1, 1, 2}, last[6] = {0, 1, 2, 1, 2, 2};
     Show *shows[] = {show, show_by_name};
     Request q = paper;
     q.y[0] = 32, q.value[0] = 700, q.until[2] = SOSNYAVIK_NO_END;
     for (uint32_t w = 0; w < 36 * MOST; w++) {
         Blocks single, shown;
-        static const uint32_t first[6] = {0, 0, 0, 1, 1, 2}, last[6] = {0, 1, 2, 1, 2, 2};
         set_count(&q.screen, w % MOST + 1);
         for (uint32_t k = 0; k < MOST; k++) {
             uint32_t across = (w + 5 * k) % 36 % 6, down = (w + 5 * k) % 36 / 6;
@@ -374,13 +375,13 @@ static void same_as_single_queries(void) {
         }
         if (w % 5 == 0)
             q.screen.right[w % 7] = 3;
-        for (int i = 0; i < 2; i++) {
+        memset(&single, UNTOUCHED, sizeof single);
+        uint32_t answer = one_by_one(&q, &single);
+        if (answer != 0)
             memset(&single, UNTOUCHED, sizeof single);
+        for (int i = 0; i < 2; i++) {
             memset(&shown, UNTOUCHED, sizeof shown);
-            uint32_t answer = one_by_one(&q, &single);
             must(shows[i](&q, shown.grid, shown.support) == answer, "a screen beside single queries");
-            if (answer != 0)
-                memset(&single, UNTOUCHED, sizeof single);
             must(memcmp(&shown, &single, sizeof shown) == 0, "the answer of a screen beside single queries");
         }
     }
