@@ -81,10 +81,38 @@ void free_evening(struct evening *evening) {
         free_slice(&evening->columns[c]);
 }
 
-void set_length(struct evening *evening, enum column column, size_t length) {
-    struct slice old = evening->columns[column];
-    evening->columns[column] = copy_slice(&old, length);
+static void set_slice_length(struct slice *slice, size_t length) {
+    struct slice old = *slice;
+    *slice = copy_slice(&old, length);
     free_slice(&old);
+}
+
+void set_length(struct evening *evening, enum column column, size_t length) {
+    set_slice_length(&evening->columns[column], length);
+}
+
+uint32_t *ends_of(const struct screen *screen, enum end end) { return screen->ends[end].at; }
+
+struct screen make_screen(const struct sosnyavik_ends *windows, size_t count) {
+    struct screen screen;
+    for (size_t e = 0; e < ENDS; e++)
+        screen.ends[e] = make_slice(count, sizeof(uint32_t));
+    for (size_t k = 0; k < count; k++) {
+        ends_of(&screen, LEFT)[k] = windows[k].left;
+        ends_of(&screen, RIGHT)[k] = windows[k].right;
+        ends_of(&screen, TOP)[k] = windows[k].top;
+        ends_of(&screen, BOTTOM)[k] = windows[k].bottom;
+    }
+    return screen;
+}
+
+void free_screen(struct screen *screen) {
+    for (size_t e = 0; e < ENDS; e++)
+        free_slice(&screen->ends[e]);
+}
+
+void set_end_length(struct screen *screen, enum end end, size_t length) {
+    set_slice_length(&screen->ends[end], length);
 }
 
 struct answer make_answer(size_t grid, size_t support, size_t verdict, unsigned char pattern) {
@@ -101,7 +129,13 @@ struct answer whole_answer(const struct evening *evening, unsigned char pattern)
 }
 
 struct answer window_answer(struct sosnyavik_ends ends, unsigned char pattern) {
-    size_t points = (size_t)(ends.right - ends.left + 1) * (ends.bottom - ends.top + 1);
+    return screen_answer(&ends, 1, pattern);
+}
+
+struct answer screen_answer(const struct sosnyavik_ends *windows, size_t count, unsigned char pattern) {
+    size_t points = 0;
+    for (const struct sosnyavik_ends *w = windows; w < windows + count; w++)
+        points += (size_t)(w->right - w->left + 1) * (w->bottom - w->top + 1);
     return make_answer(points, points, 0, pattern);
 }
 
@@ -121,22 +155,22 @@ bool same_answer(const struct answer *a, const struct answer *b) {
     return true;
 }
 
-static struct sosnyavik_i32_column numbers(const struct slice *slice) {
+static struct sosnyavik_i32_column i32_column(const struct slice *slice) {
     return (struct sosnyavik_i32_column){slice->at, slice->length};
 }
 
-static struct sosnyavik_u32_column minutes(const struct slice *slice) {
+static struct sosnyavik_u32_column u32_column(const struct slice *slice) {
     return (struct sosnyavik_u32_column){slice->at, slice->length};
 }
 
 struct sosnyavik_request request_of(const struct evening *evening) {
     const struct slice *in = evening->columns;
     struct sosnyavik_request request =
-        SOSNYAVIK_REQUEST(.nx = evening->nx, .ny = evening->ny, .first_guess = numbers(&in[FIRST_GUESS]),
-                          .x = numbers(&in[X]), .y = numbers(&in[Y]), .value = numbers(&in[VALUE]),
-                          .observed = minutes(&in[OBSERVED]), .from = minutes(&in[FROM]), .until = minutes(&in[UNTIL]),
-                          .scans = evening->scans, .radius = numbers(&in[RADIUS]), .limit = numbers(&in[LIMIT]),
-                          .smooth = evening->smooth, .time = evening->time);
+        SOSNYAVIK_REQUEST(.nx = evening->nx, .ny = evening->ny, .first_guess = i32_column(&in[FIRST_GUESS]),
+                          .x = i32_column(&in[X]), .y = i32_column(&in[Y]), .value = i32_column(&in[VALUE]),
+                          .observed = u32_column(&in[OBSERVED]), .from = u32_column(&in[FROM]),
+                          .until = u32_column(&in[UNTIL]), .scans = evening->scans, .radius = i32_column(&in[RADIUS]),
+                          .limit = i32_column(&in[LIMIT]), .smooth = evening->smooth, .time = evening->time);
     request.age = evening->age;
     return request;
 }
@@ -156,4 +190,14 @@ uint32_t analyse(const struct evening *evening, struct answer *answer) {
 uint32_t query(const struct evening *evening, struct sosnyavik_ends ends, struct answer *answer) {
     struct sosnyavik_request request = request_of(evening);
     return sosnyavik_request_window(&request, ends, results_of(answer));
+}
+
+uint32_t show(const struct evening *evening, const struct screen *screen, struct answer *answer) {
+    const struct slice *ends = screen->ends;
+    struct sosnyavik_request request = request_of(evening);
+    struct sosnyavik_screen shown = {.left = u32_column(&ends[LEFT]),
+                                     .right = u32_column(&ends[RIGHT]),
+                                     .top = u32_column(&ends[TOP]),
+                                     .bottom = u32_column(&ends[BOTTOM])};
+    return sosnyavik_request_windows(&request, shown, results_of(answer));
 }

@@ -1,18 +1,23 @@
-/* evening.h: an evening's request, its answers, and the archive's calls on them. */
+/* evening.h: an evening's request, the screens that are shown of it, its answers, and the archive's calls on them. */
 #ifndef EVENING_H
 #define EVENING_H
 
 #include "slices.h"
 #include "sosnyavik.h"
 
-/* The columns of a request, and the results of an answer, by name. */
+/* The columns of a request and of a screen, and the results of an answer, by name. */
 enum column { FIRST_GUESS, X, Y, VALUE, OBSERVED, FROM, UNTIL, RADIUS, LIMIT, COLUMNS };
+enum end { LEFT, RIGHT, TOP, BOTTOM, ENDS };
 enum result { GRID, SUPPORT, VERDICT, RESULTS };
 
 struct evening {
     uint32_t nx, ny, scans, time, age;
     bool smooth;
     struct slice columns[COLUMNS];
+};
+
+struct screen {
+    struct slice ends[ENDS];
 };
 
 struct answer {
@@ -32,10 +37,17 @@ void set_length(struct evening *evening, enum column column, size_t length);
 int32_t *numbers_of(const struct evening *evening, enum column column);
 uint32_t *minutes_of(const struct evening *evening, enum column column);
 
+/* The windows of a screen, as a request has its columns. */
+struct screen make_screen(const struct sosnyavik_ends *windows, size_t count);
+void free_screen(struct screen *screen);
+void set_end_length(struct screen *screen, enum end end, size_t length);
+uint32_t *ends_of(const struct screen *screen, enum end end);
+
 /* Results of the lengths that are asked for, all bytes the pattern. */
 struct answer make_answer(size_t grid, size_t support, size_t verdict, unsigned char pattern);
 struct answer whole_answer(const struct evening *evening, unsigned char pattern);
 struct answer window_answer(struct sosnyavik_ends ends, unsigned char pattern);
+struct answer screen_answer(const struct sosnyavik_ends *windows, size_t count, unsigned char pattern);
 void free_answer(struct answer *answer);
 bool same_answer(const struct answer *a, const struct answer *b);
 
@@ -45,5 +57,6 @@ struct sosnyavik_results results_of(const struct answer *answer);
 
 uint32_t analyse(const struct evening *evening, struct answer *answer);
 uint32_t query(const struct evening *evening, struct sosnyavik_ends ends, struct answer *answer);
+uint32_t show(const struct evening *evening, const struct screen *screen, struct answer *answer);
 
 #endif

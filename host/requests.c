@@ -1,4 +1,4 @@
-/* requests.c: an evening, its windows, and a refusal of each number through each call. */
+/* requests.c: an evening, its windows, and its screens. */
 #include "evening.h"
 #include "parts.h"
 
@@ -87,95 +87,91 @@ void try_windows(void) {
     free_evening(&evening);
 }
 
-/* A request, all of it a mistake's to change: the lengths of results are those of the slices. */
-struct attempt {
-    struct evening evening;
-    struct sosnyavik_ends window;
-    size_t lengths[RESULTS];
-};
-
-/* Why a request is refused, and at which place. */
-struct mistake {
-    void (*make)(struct attempt *);
-    uint32_t refusal, place;
-    const char *what;
-};
-
-static void too_wide(struct attempt *a) { a->evening.nx = 65; }
-static void too_few_rows(struct attempt *a) { a->evening.ny = 1; }
-static void a_guess_short(struct attempt *a) { set_length(&a->evening, FIRST_GUESS, NX * NY - 1); }
-static void left_past_right(struct attempt *a) { a->window.left = a->window.right + 1; }
-static void top_past_bottom(struct attempt *a) { a->window.top = a->window.bottom + 1; }
-static void right_past_grid(struct attempt *a) { a->window.right = NX; }
-static void bottom_at_the_most(struct attempt *a) { a->window.bottom = UINT32_MAX; }
-static void a_value_short(struct attempt *a) { a->lengths[GRID]--; }
-static void a_byte_long(struct attempt *a) { a->lengths[SUPPORT]++; }
-static void a_verdict_short(struct attempt *a) { a->lengths[VERDICT]--; }
-static void no_results(struct attempt *a) { a->lengths[GRID] = a->lengths[SUPPORT] = 0; }
-static void a_minute_short(struct attempt *a) { set_length(&a->evening, UNTIL, MASTS - 1); }
-static void a_position_long(struct attempt *a) { set_length(&a->evening, Y, MASTS + 1); }
-static void no_scan(struct attempt *a) { a->evening.scans = 0; }
-static void a_radius_short(struct attempt *a) { set_length(&a->evening, RADIUS, 2); }
-static void rising_radius(struct attempt *a) { numbers_of(&a->evening, RADIUS)[2] = 97; }
-static void limit_out_of_range(struct attempt *a) { numbers_of(&a->evening, LIMIT)[1] = 2000001; }
-static void missing_guess(struct attempt *a) { numbers_of(&a->evening, FIRST_GUESS)[NX * NY - 1] = SOSNYAVIK_MISSING; }
-static void value_out_of_range(struct attempt *a) { numbers_of(&a->evening, VALUE)[MASTS - 1] = 1000001; }
-static void position_out_of_range(struct attempt *a) { numbers_of(&a->evening, X)[7] = -1000001; }
-static void never_in_service(struct attempt *a) { minutes_of(&a->evening, UNTIL)[5] = 0; }
-
-static const struct mistake OF_BOTH[] = {
-    {too_wide, 1, 0, "refusal 1, nx"},
-    {too_few_rows, 1, 0, "refusal 1, ny"},
-    {a_guess_short, 1, 0, "refusal 1, first_guess"},
-    {a_value_short, 3, 0, "refusal 3, grid"},
-    {a_byte_long, 3, 0, "refusal 3, support"},
-    {no_results, 3, 0, "refusal 3, no results"},
-    {a_minute_short, 4, 0, "refusal 4, until"},
-    {a_position_long, 4, 0, "refusal 4, y"},
-    {no_scan, 5, 0, "refusal 5, scans"},
-    {a_radius_short, 5, 0, "refusal 5, radius"},
-    {rising_radius, 6, 2, "refusal 6, radius"},
-    {limit_out_of_range, 6, 1, "refusal 6, limit"},
-    {missing_guess, 7, NX *NY - 1, "refusal 7"},
-    {value_out_of_range, 8, MASTS - 1, "refusal 8, value"},
-    {position_out_of_range, 8, 7, "refusal 8, position"},
-    {never_in_service, 8, 5, "refusal 8, service"},
-};
-static const struct mistake OF_THE_WHOLE[] = {{a_verdict_short, 3, 0, "refusal 3, verdict"}};
-static const struct mistake OF_A_WINDOW[] = {
-    {left_past_right, 2, 0, "refusal 2, left"},
-    {top_past_bottom, 2, 0, "refusal 2, top"},
-    {right_past_grid, 2, 0, "refusal 2, right"},
-    {bottom_at_the_most, 2, 0, "refusal 2, bottom"},
-};
-
-/* A refused call gives its number and place, and leaves every byte of the results as it was. */
-static void try_mistake(const struct mistake *mistake, bool of_window) {
-    struct attempt a = {.evening = make_evening(NX, NY, MASTS), .window = {9, 13, 8, 10}};
-    a.lengths[GRID] = a.lengths[SUPPORT] = of_window ? 5 * 3 : NX * NY;
-    a.lengths[VERDICT] = of_window ? 0 : MASTS;
-    mistake->make(&a);
-    struct answer answer = make_answer(a.lengths[GRID], a.lengths[SUPPORT], a.lengths[VERDICT], UNTOUCHED);
-    struct answer before = make_answer(a.lengths[GRID], a.lengths[SUPPORT], a.lengths[VERDICT], UNTOUCHED);
-    uint32_t returned = of_window ? query(&a.evening, a.window, &answer) : analyse(&a.evening, &answer);
-    must(SOSNYAVIK_REFUSAL(returned) == mistake->refusal, mistake->what);
-    must(SOSNYAVIK_PLACE(returned) == mistake->place, mistake->what);
-    must(same_answer(&answer, &before), "the results of a refused call");
-    free_answer(&answer);
-    free_answer(&before);
-    free_evening(&a.evening);
+/* The windows by single queries, their results one after the other. */
+static struct answer one_by_one(const struct evening *evening, const struct sosnyavik_ends *windows, size_t count) {
+    struct answer all = screen_answer(windows, count, UNTOUCHED);
+    int32_t *grid = all.results[GRID].at;
+    uint8_t *support = all.results[SUPPORT].at;
+    for (size_t k = 0; k < count; k++) {
+        struct answer part = window_answer(windows[k], UNTOUCHED);
+        size_t points = part.results[GRID].length;
+        must(query(evening, windows[k], &part) == 0, "a window of a screen");
+        memcpy(grid, part.results[GRID].at, points * sizeof *grid);
+        memcpy(support, part.results[SUPPORT].at, points);
+        grid += points;
+        support += points;
+        free_answer(&part);
+    }
+    return all;
 }
 
-static size_t try_mistakes(const struct mistake *mistakes, size_t count, bool of_window) {
-    for (size_t i = 0; i < count; i++)
-        try_mistake(&mistakes[i], of_window);
-    return count;
+static bool begins_as(const struct slice *slice, const struct slice *whole) {
+    return slice->length == 0 || memcmp(slice->at, whole->at, slice->length * slice->entry) == 0;
 }
 
-void try_refusals(void) {
-    size_t tried = try_mistakes(OF_BOTH, sizeof OF_BOTH / sizeof *OF_BOTH, false);
-    tried += try_mistakes(OF_BOTH, sizeof OF_BOTH / sizeof *OF_BOTH, true);
-    tried += try_mistakes(OF_THE_WHOLE, sizeof OF_THE_WHOLE / sizeof *OF_THE_WHOLE, false);
-    tried += try_mistakes(OF_A_WINDOW, sizeof OF_A_WINDOW / sizeof *OF_A_WINDOW, true);
-    printf("host: %zu refused requests, refusals 1 to 8, nothing written\n", tried);
+/* A screen of the first so many windows, beside all of them by single queries. */
+static void try_screen(const struct evening *evening, const struct sosnyavik_ends *windows, size_t count,
+                       const struct answer *single) {
+    struct screen screen = make_screen(windows, count);
+    struct answer shown = screen_answer(windows, count, UNTOUCHED);
+    must(show(evening, &screen, &shown) == 0, "a screen's answer");
+    must(begins_as(&shown.results[GRID], &single->results[GRID]), "a screen's grid");
+    must(begins_as(&shown.results[SUPPORT], &single->results[SUPPORT]), "a screen's support");
+    free_answer(&shown);
+    free_screen(&screen);
+}
+
+/* From no window to sixteen. The last is the whole grid, so that a full screen is analysed whole whatever the reach. */
+static size_t try_screens_of(const struct evening *evening) {
+    static const struct sosnyavik_ends windows[SOSNYAVIK_MOST_WINDOWS] = {
+        {9, 13, 8, 10},         {0, 0, 0, 0},     {NX - 1, NX - 1, NY - 1, NY - 1},
+        {9, 13, 8, 10},         {11, 12, 9, 14},  {0, 3, 16, 19},
+        {20, 23, 0, 3},         {5, 5, 5, 5},     {22, 23, 10, 10},
+        {0, 0, 7, 9},           {17, 18, 12, 13}, {4, 6, 0, 0},
+        {15, 15, 18, 19},       {1, 2, 1, 2},     {18, 18, 13, 13},
+        {0, NX - 1, 0, NY - 1},
+    };
+    struct answer single = one_by_one(evening, windows, SOSNYAVIK_MOST_WINDOWS);
+    for (size_t count = 0; count <= SOSNYAVIK_MOST_WINDOWS; count++)
+        try_screen(evening, windows, count, &single);
+    free_answer(&single);
+    return SOSNYAVIK_MOST_WINDOWS + 1;
+}
+
+/* The most points that a screen can have: sixteen times the largest grid. */
+static size_t try_largest_screen(void) {
+    enum { SIDE = 64 };
+    struct evening evening = make_evening(SIDE, SIDE, MASTS);
+    struct sosnyavik_ends windows[SOSNYAVIK_MOST_WINDOWS];
+    for (size_t k = 0; k < SOSNYAVIK_MOST_WINDOWS; k++)
+        windows[k] = (struct sosnyavik_ends){0, SIDE - 1, 0, SIDE - 1};
+    struct screen screen = make_screen(windows, SOSNYAVIK_MOST_WINDOWS);
+    struct answer whole = whole_answer(&evening, UNTOUCHED);
+    struct answer shown = screen_answer(windows, SOSNYAVIK_MOST_WINDOWS, UNTOUCHED);
+    must(analyse(&evening, &whole) == 0 && show(&evening, &screen, &shown) == 0, "the largest screen");
+    const int32_t *grid = shown.results[GRID].at;
+    const uint8_t *support = shown.results[SUPPORT].at;
+    for (size_t k = 0; k < SOSNYAVIK_MOST_WINDOWS; k++, grid += SIDE * SIDE, support += SIDE * SIDE) {
+        must(memcmp(grid, whole.results[GRID].at, SIDE * SIDE * sizeof *grid) == 0, "the largest screen's grid");
+        must(memcmp(support, whole.results[SUPPORT].at, SIDE * SIDE) == 0, "the largest screen's support");
+    }
+    free_answer(&whole);
+    free_answer(&shown);
+    free_screen(&screen);
+    free_evening(&evening);
+    return 1;
+}
+
+/* With three scans the cuts of a few windows have more points than the grid. With the last of these scans alone those
+ * of fifteen have fewer. */
+void try_screens(void) {
+    struct evening evening = make_evening(NX, NY, MASTS);
+    size_t shown = try_screens_of(&evening);
+    evening.scans = 1, evening.smooth = false;
+    numbers_of(&evening, RADIUS)[0] = 64;
+    shown += try_screens_of(&evening);
+    shown += try_largest_screen();
+    printf("host: %zu screens of up to %d windows, each as single queries in its order\n", shown,
+           SOSNYAVIK_MOST_WINDOWS);
+    free_evening(&evening);
 }

@@ -15,10 +15,24 @@ enum { THREADS = 8, ROUNDS = 20, EVENINGS = 2, NX = 32, NY = 32, MASTS = 60 };
 
 static const struct sosnyavik_ends MIDDLE = {12, 19, 12, 19};
 
-/* What all threads share: two evenings, and what a run before them made of each. */
+/* A few windows whose cuts have fewer points than the grid, so that each is analysed by itself; and the whole grid in
+ * blocks, whose cuts have more, so that one analysis serves them all. */
+static const struct sosnyavik_ends FEW[] = {{0, 0, 0, 0}, {12, 19, 12, 19}, {31, 31, 31, 31}};
+#define BLOCKS(j)                                                                                                      \
+    {0, 7, j, (j) + 7}, {8, 15, j, (j) + 7}, {16, 23, j, (j) + 7}, { 24, 31, j, (j) + 7 }
+static const struct sosnyavik_ends ALL[] = {BLOCKS(0), BLOCKS(8), BLOCKS(16), BLOCKS(24)};
+
+enum { SCREENS = 2 };
+static const struct {
+    const struct sosnyavik_ends *windows;
+    size_t count;
+} WANTED[SCREENS] = {{FEW, sizeof FEW / sizeof *FEW}, {ALL, sizeof ALL / sizeof *ALL}};
+
+/* What all threads share: two evenings with their screens, and what a run before them made of each. */
 struct known {
     struct evening evening;
-    struct answer whole, part;
+    struct screen screens[SCREENS];
+    struct answer whole, part, shown[SCREENS];
     struct sosnyavik_summary summary;
     double reading;
 };
@@ -40,6 +54,17 @@ static bool same_doubles(const struct sosnyavik_summary *a, const struct sosnyav
     return memcmp(&a->units, &b->units, sizeof a->units) == 0;
 }
 
+static struct answer answer_for(size_t screen, unsigned char pattern) {
+    return screen_answer(WANTED[screen].windows, WANTED[screen].count, pattern);
+}
+
+static void show_again(const struct known *k, size_t screen, unsigned char pattern) {
+    struct answer shown = answer_for(screen, pattern);
+    must(show(&k->evening, &k->screens[screen], &shown) == 0, "a screen among threads");
+    must(same_answer(&shown, &k->shown[screen]), "a screen's answer among threads");
+    free_answer(&shown);
+}
+
 /* Each round has results of its own, filled anew: what is left out of one shows. */
 static void run_all(const struct known *k, unsigned char pattern) {
     struct answer whole = whole_answer(&k->evening, pattern), part = window_answer(MIDDLE, pattern);
@@ -55,12 +80,15 @@ static void run_all(const struct known *k, unsigned char pattern) {
 }
 
 /* Half of the threads begin with the one evening and half with the other: what one call left behind for another to find
- * would not fit. */
+ * would not fit. A thread has shown each screen of both evenings after four rounds. */
 static void *run_rounds(void *first) {
     size_t which = *(const size_t *)first;
     pthread_barrier_wait(&at_once);
-    for (int round = 0; round < ROUNDS; round++)
-        run_all(&known[(which + (size_t)round) % EVENINGS], (unsigned char)(UNTOUCHED + round));
+    for (size_t round = 0; round < ROUNDS; round++) {
+        const struct known *k = &known[(which + round) % EVENINGS];
+        run_all(k, (unsigned char)(UNTOUCHED + round));
+        show_again(k, round / EVENINGS % SCREENS, (unsigned char)(UNTOUCHED + round));
+    }
     return NULL;
 }
 
@@ -71,17 +99,26 @@ static void make_known(struct known *k, int32_t warmer) {
     k->whole = whole_answer(&k->evening, UNTOUCHED);
     k->part = window_answer(MIDDLE, UNTOUCHED);
     must(analyse(&k->evening, &k->whole) == 0 && query(&k->evening, MIDDLE, &k->part) == 0, "an evening's answers");
+    for (size_t s = 0; s < SCREENS; s++) {
+        k->screens[s] = make_screen(WANTED[s].windows, WANTED[s].count);
+        k->shown[s] = answer_for(s, UNTOUCHED);
+        must(show(&k->evening, &k->screens[s], &k->shown[s]) == 0, "an evening's screens");
+    }
     k->reading = read_middle(&k->evening, &k->whole);
     k->summary = sum_up(&k->evening, &k->whole);
 }
 
 static void free_known(struct known *k) {
+    for (size_t s = 0; s < SCREENS; s++) {
+        free_answer(&k->shown[s]);
+        free_screen(&k->screens[s]);
+    }
     free_answer(&k->whole);
     free_answer(&k->part);
     free_evening(&k->evening);
 }
 
-static void no_thread(void) {
+static _Noreturn void no_thread(void) {
     fprintf(stderr, "host: a thread cannot be started: allow more threads and memory, and run again\n");
     exit(2);
 }
@@ -109,6 +146,7 @@ void try_threads(void) {
 
 /* Made before its thread starts: the stack is for the call. */
 static struct answer small;
+static const struct screen *small_screen;
 
 static void *analyse_small(void *unused) {
     must(analyse(&known[0].evening, &small) == 0, "an analysis on a small stack");
@@ -117,6 +155,11 @@ static void *analyse_small(void *unused) {
 
 static void *query_small(void *unused) {
     must(query(&known[0].evening, MIDDLE, &small) == 0, "a window query on a small stack");
+    return unused;
+}
+
+static void *show_small(void *unused) {
+    must(show(&known[0].evening, small_screen, &small) == 0, "a screen on a small stack");
     return unused;
 }
 
@@ -154,6 +197,19 @@ static size_t run_on(size_t promised, void *(*run)(void *)) {
     return size;
 }
 
+/* By cuts and by the whole analysis, the one with as little as the other. */
+static size_t show_on_small_stacks(void) {
+    size_t size = 0;
+    for (size_t s = 0; s < SCREENS; s++) {
+        small = answer_for(s, UNTOUCHED);
+        small_screen = &known[0].screens[s];
+        size = run_on(SOSNYAVIK_STACK_WINDOWS, show_small);
+        must(same_answer(&small, &known[0].shown[s]), "the answer of a screen on a small stack");
+        free_answer(&small);
+    }
+    return size;
+}
+
 void try_small_stacks(void) {
     make_known(&known[0], 0);
     small = whole_answer(&known[0].evening, UNTOUCHED);
@@ -164,9 +220,11 @@ void try_small_stacks(void) {
     size_t window = run_on(SOSNYAVIK_STACK_WINDOW, query_small);
     must(same_answer(&small, &known[0].part), "the answer of a window query on a small stack");
     free_answer(&small);
+    size_t screen = show_on_small_stacks();
     size_t read = run_on(SOSNYAVIK_STACK_READING, read_small);
     size_t summed = run_on(SOSNYAVIK_STACK_SUMMARISE, sum_up_small);
-    printf("host: threads with stacks of %zu (analysis), %zu (window), %zu (reading) and %zu (summary) bytes\n",
-           analysis, window, read, summed);
+    printf("host: threads with stacks of %zu (analysis), %zu (window), %zu (screen), %zu (reading) and %zu (summary) "
+           "bytes\n",
+           analysis, window, screen, read, summed);
     free_known(&known[0]);
 }

@@ -7,8 +7,9 @@
 ** station. It follows from the arguments alone, to the last digit.
 **
 ** The whole analysis, and the window query, which answers for a part of the
-** grid alone and with the same numbers. Beside them stand a point reading and
-** a summary, which tell a field in doubles that are exact.
+** grid alone and with the same numbers; for up to sixteen parts in one call, as
+** a screen shows them. Beside them stand a point reading and a summary, which
+** tell a field in doubles that are exact.
 **
 ** What follows: version, marks, units and sizes, posts, windows, results,
 ** verdicts, support, refusals, what the caller owes, what the calls keep, the
@@ -119,11 +120,15 @@ extern "C" {
 **   left, right   first and last column              left <= right < nx
 **   top, bottom   first and last row                 top <= bottom < ny
 **
-** Only the window query has one. Its grid and support are, point for point,
-** those of the whole analysis of the same request. The request is the whole
-** one too, with the grid's first guess and stations, posts included: all of it
-** is tested.
+** The window query has one. A screen has windows 0, 1, .. as the rows of four
+** columns of equal length, 0 .. SOSNYAVIK_MOST_WINDOWS: entry k of each is an
+** end of window k. They may overlap, and one may come twice.
+**
+** Grid and support of a window are, point for point, those of the whole
+** analysis of the same request. The request is the whole one too, with the
+** grid's first guess and stations, posts included: all of it is tested.
 */
+#define SOSNYAVIK_MOST_WINDOWS 16
 
 /*
 ** RESULTS
@@ -143,6 +148,15 @@ extern "C" {
 **                 window's top row: point (i, j)
 **                 of the whole grid is entry
 **                 (j-top)*(right-left+1) + i-left
+**   support       as many bytes, in the same order   see SUPPORT
+**
+** Of a screen, which gives no verdicts either:
+**
+**   grid          the values of window 0, then of    -13000000 .. 13000000
+**                 window 1, and so on, each as the
+**                 window query gives them: as many
+**                 as the windows' points together,
+**                 65536 at most
 **   support       as many bytes, in the same order   see SUPPORT
 **
 ** What the results hold before the call does not matter.
@@ -186,19 +200,25 @@ extern "C" {
 /*
 ** REFUSALS
 **
-** Analysis and window query return 0 if the request was accepted, and otherwise
-** refusal*65536 + place. Tested in this order; the first that fits is given,
-** at the first place that it fits.
+** Analysis, window query and screen return 0 if the request was accepted, and
+** otherwise refusal*65536 + place. Tested in this order; the first that fits is
+** given, at the first place that it fits.
 **
 **   refusal   when                                         place
 **   1         nx or ny is out of 2 .. 64, or first_guess   0
 **             is not nx*ny long
-**   2         left is above right, top is above bottom,    0
-**             or right or bottom is past the grid
+**   2         in a window query: left is above right,      0
+**             top is above bottom, or right or bottom is
+**             past the grid
+**             on a screen: the four columns of windows     16
+**             are not equally long, or longer than 16
+**             on a screen, after that: a window is bad,    window, from 0
+**             as in a window query
 **   3         grid or support is not nx*ny long, or        0
 **             verdict is not as long as x; in a window
 **             query: grid or support is not as long as
-**             the window
+**             the window; on a screen: not as long as
+**             its windows together
 **   4         the six station columns are not equally      0
 **             long, or longer than 512
 **   5         scans is out of 1 .. 6, or radius or limit   0
@@ -210,8 +230,9 @@ extern "C" {
 **             the mark, its position is out of range, or
 **             from is not below until
 **
-** Only the window query gives 2. A row with a verdict of 1 .. 5 to come is
-** tested for refusal 8 like any other, and so is one far from the window.
+** Only the window query and the screen give 2. Windows are 0 .. 15, so that 16
+** is none of them. A row with a verdict of 1 .. 5 to come is tested for refusal
+** 8 like any other, and so is one far from every window.
 **
 ** The point reading and the summary give only 1, tested on the field that they
 ** are handed in place of first_guess. The reading tests its support too, which
@@ -221,7 +242,11 @@ extern "C" {
 **
 **   nx = 65, one column too many                           0x00010000 =  65536
 **   right = nx, which is past the last column              0x00020000 = 131072
+**   a screen of seventeen windows                          0x00020010 = 131088
+**   a window added to all columns but top                  0x00020010 = 131088
+**   bottom[2] = ny, on a screen: window 2                  0x00020002 = 131074
 **   grid and support of nx*ny entries, for a window        0x00030000 = 196608
+**   a window added to a screen, and not to its results     0x00030000 = 196608
 **   a station added to the columns, and not to verdict     0x00030000 = 196608
 **   a station added to all columns but y, and to verdict   0x00040000 = 262144
 **   scans = 3, with two radii                              0x00050000 = 327680
@@ -259,6 +284,7 @@ extern "C" {
 */
 #define SOSNYAVIK_STACK_ANALYSE 65536
 #define SOSNYAVIK_STACK_WINDOW 131072
+#define SOSNYAVIK_STACK_WINDOWS 131072
 #define SOSNYAVIK_STACK_READING 4096
 #define SOSNYAVIK_STACK_SUMMARISE 4096
 
@@ -344,7 +370,34 @@ uint32_t sosnyavik_window(
 /*
 ** A SCREEN OF WINDOWS
 **
-** Up to sixteen windows in one call, as a screen shows them.
+** Up to sixteen windows in one call: left, right, top and bottom are columns.
+** The example again, asked for the window above, for the last two points of
+** rows 0 and 1, and for the first point of all:
+**
+**   uint32_t left[3] = {0, 1, 0}, right[3] = {1, 2, 0};
+**   uint32_t top[3] = {1, 0, 0}, bottom[3] = {1, 1, 0};
+**   int32_t blocks[7];
+**   uint8_t blocks_support[7];
+**   uint32_t r = sosnyavik_windows(3, 3, first_guess, 9, left, 3, right, 3,
+**                                  top, 3, bottom, 3, x, 3, y, 3, value, 3,
+**                                  observed, 3, from, 3, until, 3,
+**                                  1, radius, 1, limit, 1, false, 1000, 60,
+**                                  blocks, 7, blocks_support, 7);
+**
+** Now r is 0, blocks is 672, 759, 672, 768, 759, 768, 585, and each byte of
+** blocks_support is 1. Entries 0 and 1 are of window 0, 2 .. 5 of window 1, and
+** 6 of window 2. The middle point, 759, is in two windows and comes twice.
+**
+** The part of each window is what the window query answers for it. A refusal is
+** the whole screen's: where one window is bad, none is written. A screen may
+** have no windows: then its results must have no entries, the request is tested
+** as ever, and nothing is written.
+**
+** The request is tested once, and not once for each window. Then each window is
+** analysed, widened by its reach, as the window query does it. But where these
+** have more points together than the grid, the whole grid is analysed once, and
+** serves all windows. So no screen analyses more points than the grid has,
+** however many its windows are and however they overlap.
 */
 /* clang-format off */
 uint32_t sosnyavik_windows(
@@ -462,7 +515,8 @@ struct sosnyavik_summary sosnyavik_summarise(
 ** a struct too: each column stands under its own name, beside its own length.
 ** What is said above of an argument holds of the member of its name. For each
 ** call sosnyavik_NAME there is sosnyavik_request_NAME, which hands the members
-** on as they are and adds nothing. The example, and its window, once more:
+** on as they are and adds nothing. The example, its window and its screen once
+** more:
 **
 **   struct sosnyavik_request request = SOSNYAVIK_REQUEST(
 **       .nx = 3, .ny = 3, .first_guess = {first_guess, 9},
@@ -477,12 +531,18 @@ struct sosnyavik_summary sosnyavik_summarise(
 **       .left = 0, .right = 1, .top = 1, .bottom = 1};
 **   struct sosnyavik_results window = {
 **       .grid = {part, 2}, .support = {part_support, 2}};
+**   struct sosnyavik_screen screen = {
+**       .left = {left, 3}, .right = {right, 3},
+**       .top = {top, 3}, .bottom = {bottom, 3}};
+**   struct sosnyavik_results shown = {
+**       .grid = {blocks, 7}, .support = {blocks_support, 7}};
 **   uint32_t r = sosnyavik_request_analyse(&request, whole);
 **   uint32_t s = sosnyavik_request_window(&request, ends, window);
+**   uint32_t t = sosnyavik_request_windows(&request, screen, shown);
 **   double at_64_64 = sosnyavik_request_reading_value(&request, whole, 64, 64);
 **
-** Now r and s are 0, grid, support, verdict, part and part_support are as above,
-** and at_64_64 is 11.859375.
+** Now r, s and t are 0, grid, support, verdict, part, part_support, blocks and
+** blocks_support are as above, and at_64_64 is 11.859375.
 **
 ** SOSNYAVIK_REQUEST gives each member that is not named in it its default: age
 ** is SOSNYAVIK_DEFAULT_AGE, all else is 0, false or no entries. A member that
@@ -494,10 +554,11 @@ struct sosnyavik_summary sosnyavik_summarise(
 **   sosnyavik_request request = SOSNYAVIK_REQUEST();
 **   request.nx = 3, request.ny = 3, request.first_guess = {first_guess, 9};
 **
-** The window, which is no part of a request, has its four ends in a struct.
-** Results are slices to be written; the window query asks for no verdict. The
-** reading and the summary take nx and ny from a request, and grid and support
-** from the results of its whole analysis.
+** A window, which is no part of a request, has its four ends in a struct, and a
+** screen has its four columns in one, at most SOSNYAVIK_MOST_WINDOWS entries
+** each. Results are slices to be written; window query and screen ask for no
+** verdict. The reading and the summary take nx and ny from a request, and grid
+** and support from the results of its whole analysis.
 **
 ** A request of zeros alone, made without SOSNYAVIK_REQUEST, is refused like any
 ** other: it has no columns and no rows, which is refusal 1.

@@ -6,6 +6,8 @@
 
 #include "sosnyavik.h"
 
+enum { POINTS = 9, UNTOUCHED = 0x5a };
+
 static void must_give(double given, double said, const char *call) {
     if (given == said)
         return;
@@ -28,6 +30,27 @@ static void say_bytes(const char *name, const uint8_t *bytes, size_t count) {
 // The byte that all of them are; another number if they are not alike.
 static int each(const uint8_t *bytes, size_t count) { return memcmp(bytes, bytes + 1, count - 1) == 0 ? bytes[0] : -1; }
 
+// A result, and what a plain call left in it, which the call by name has to give again.
+typedef struct {
+    void *at;
+    size_t size;
+    unsigned char above[POINTS * sizeof(int32_t)];
+} Kept;
+
+static void keep(Kept *results, size_t count) {
+    for (size_t i = 0; i < count; i++) {
+        memcpy(results[i].above, results[i].at, results[i].size);
+        memset(results[i].at, UNTOUCHED, results[i].size);
+    }
+}
+
+static const char *compared(const Kept *results, size_t count) {
+    for (size_t i = 0; i < count; i++)
+        if (memcmp(results[i].at, results[i].above, results[i].size) != 0)
+            return "others";
+    return "as above";
+}
+
 static void summary(void) {
 #include "the-summary.inc"
     printf("Now s.refusal is %u, s.units.lowest is %g, s.units.highest is %g and s.units.span is %g.\n", s.refusal,
@@ -38,6 +61,7 @@ static void readings(void) {
 #include "the-point-reading.inc"
 }
 
+// Each example has the names of those before it, and an r of its own.
 int main(void) {
 #include "the-whole-analysis.inc"
     printf("Now r is %u, ", r);
@@ -45,27 +69,30 @@ int main(void) {
     printf(", each byte of support is %d, and ", each(support, 9));
     say_bytes("verdict", verdict, 3);
     puts(".");
-    int32_t grid_above[9];
-    uint8_t verdict_above[3];
-    memcpy(grid_above, grid, sizeof grid);
-    memcpy(verdict_above, verdict, sizeof verdict);
     {
 #include "the-window-query.inc"
         printf("Now r is %u, ", r);
         say_numbers("part", part, 2);
         printf(", and both bytes of part_support are %d.\n", each(part_support, 2));
-        memset(grid, 0, sizeof grid);
-        memset(support, 0, sizeof support);
-        memset(verdict, 9, sizeof verdict);
-        memset(part, 0, sizeof part);
-        memset(part_support, 0, sizeof part_support);
         {
+#include "a-screen-of-windows.inc"
+            printf("Now r is %u, ", r);
+            say_numbers("blocks", blocks, 7);
+            printf(", and each byte of blocks_support is %d.\n", each(blocks_support, 7));
+            Kept results[] = {{.at = grid, .size = sizeof grid},
+                              {.at = support, .size = sizeof support},
+                              {.at = verdict, .size = sizeof verdict},
+                              {.at = part, .size = sizeof part},
+                              {.at = part_support, .size = sizeof part_support},
+                              {.at = blocks, .size = sizeof blocks},
+                              {.at = blocks_support, .size = sizeof blocks_support}};
+            keep(results, 7);
+            {
 #include "a-request-by-name.inc"
-            bool as_above = memcmp(grid, grid_above, sizeof grid) == 0 &&
-                            memcmp(verdict, verdict_above, sizeof verdict) == 0 && each(support, 9) == 1 &&
-                            part[0] == grid_above[3] && part[1] == grid_above[4] && each(part_support, 2) == 1;
-            printf("Now r and s are %u, grid, support, verdict, part and part_support are %s, and at_64_64 is %.9g.\n",
-                   r | s, as_above ? "as above" : "others", at_64_64);
+                printf("Now r, s and t are %u, grid, support, verdict, part, part_support, blocks and blocks_support "
+                       "are %s, and at_64_64 is %.9g.\n",
+                       r | s | t, compared(results, 7), at_64_64);
+            }
         }
     }
     readings();

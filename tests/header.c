@@ -1,17 +1,25 @@
-// What include/sosnyavik.h tells a C programmer, called: the paper's example, whole and as a window, a mistake for each
-// refusal of each call, and the examples of the reading and the summary. All of it twice, by the plain calls and by
-// name; the border; and what a request by name has where nothing is given.
+// What include/sosnyavik.h tells a C programmer, called: the paper's example, whole, as a window and as a screen of
+// windows, a mistake for each refusal of each call, and the examples of the reading and the summary. All of it twice,
+// by the plain calls and by name; screens beside the windows one by one; the border; and what a request by name has
+// where nothing is given.
 #include <stdio.h>
 #include <stdlib.h>
 #include <string.h>
 
 #include "sosnyavik.h"
 
-enum { POINTS = 9, ROWS = 3, UNTOUCHED = 0x5a };
+enum { POINTS = 9, ROWS = 3, BLOCKS = 3, MOST = SOSNYAVIK_MOST_WINDOWS, UNTOUCHED = 0x5a };
+
+// The columns of a screen, with room for a window too many.
+typedef struct {
+    uint32_t left[MOST + 1], right[MOST + 1], top[MOST + 1], bottom[MOST + 1];
+    size_t left_len, right_len, top_len, bottom_len, points;
+} Screen;
 
 typedef struct {
     uint32_t nx, scans;
     uint32_t left, right, top, bottom;
+    Screen screen;
     int32_t first_guess[POINTS], x[ROWS], y[ROWS], value[ROWS];
     uint32_t observed[ROWS], from[ROWS], until[ROWS];
     size_t y_len, verdict_len, part_len, plan_len;
@@ -23,7 +31,14 @@ typedef struct {
     uint8_t support[POINTS], verdict[ROWS];
 } Results;
 
+// What a screen of sixteen windows may need on this grid.
+typedef struct {
+    int32_t grid[MOST * POINTS];
+    uint8_t support[MOST * POINTS];
+} Blocks;
+
 typedef uint32_t Call(const Request *q, Results *r);
+typedef uint32_t Show(const Request *q, int32_t *grid, uint8_t *support);
 
 static const Request paper = {
     .nx = 3,
@@ -32,6 +47,15 @@ static const Request paper = {
     .right = 1,
     .top = 1,
     .bottom = 1,
+    .screen = {.left = {0, 1, 0},
+               .right = {1, 2, 0},
+               .top = {1, 0, 0},
+               .bottom = {1, 1, 0},
+               .left_len = BLOCKS,
+               .right_len = BLOCKS,
+               .top_len = BLOCKS,
+               .bottom_len = BLOCKS,
+               .points = 7},
     .first_guess = {640, 640, 640, 640, 640, 640, 640, 640, 640},
     .x = {64, 0, 128},
     .y = {64, 0, 128},
@@ -61,6 +85,16 @@ static uint32_t window(const Request *q, Results *r) {
                             r->support, q->part_len);
 }
 
+static uint32_t show(const Request *q, int32_t *grid, uint8_t *support) {
+    const Screen *s = &q->screen;
+    return sosnyavik_windows(q->nx, 3, q->first_guess, POINTS, s->left, s->left_len, s->right, s->right_len, s->top,
+                             s->top_len, s->bottom, s->bottom_len, q->x, ROWS, q->y, q->y_len, q->value, ROWS,
+                             q->observed, ROWS, q->from, ROWS, q->until, ROWS, q->scans, q->radius, q->plan_len,
+                             q->limit, q->plan_len, false, 1000, 60, grid, s->points, support, s->points);
+}
+
+static uint32_t screen(const Request *q, Results *r) { return show(q, r->grid, r->support); }
+
 // The same request by name, as the header writes its example.
 static struct sosnyavik_request by_name(const Request *q) {
     struct sosnyavik_request request =
@@ -85,6 +119,19 @@ static uint32_t window_by_name(const Request *q, Results *r) {
     struct sosnyavik_results window = {.grid = {r->grid, q->part_len}, .support = {r->support, q->part_len}};
     return sosnyavik_request_window(&request, ends, window);
 }
+
+static uint32_t show_by_name(const Request *q, int32_t *grid, uint8_t *support) {
+    struct sosnyavik_request request = by_name(q);
+    const Screen *s = &q->screen;
+    struct sosnyavik_screen screen = {.left = {s->left, s->left_len},
+                                      .right = {s->right, s->right_len},
+                                      .top = {s->top, s->top_len},
+                                      .bottom = {s->bottom, s->bottom_len}};
+    struct sosnyavik_results shown = {.grid = {grid, s->points}, .support = {support, s->points}};
+    return sosnyavik_request_windows(&request, screen, shown);
+}
+
+static uint32_t screen_by_name(const Request *q, Results *r) { return show_by_name(q, r->grid, r->support); }
 
 static void must(bool holds, const char *what) {
     if (holds)
@@ -111,29 +158,35 @@ static void refused(Call *call, Request q, uint32_t number, uint32_t place, cons
     must(memcmp(&r, &before, sizeof r) == 0, "a refused call");
 }
 
-// What lies past the window's two entries, and all verdicts, the window query leaves alone.
+// What lies past the entries of the window or of the screen, and all verdicts, these calls leave alone.
 static void examples(void) {
     Results whole = {.grid = {585, 672, 768, 672, 759, 768, 768, 768, 768},
                      .support = {1, 1, 1, 1, 1, 1, 1, 1, 1},
                      .verdict = {0, 0, 2}};
-    Results part;
+    static const int32_t shown[7] = {672, 759, 672, 768, 759, 768, 585};
+    Results part, blocks;
     memset(&part, UNTOUCHED, sizeof part);
+    memset(&blocks, UNTOUCHED, sizeof blocks);
     part.grid[0] = 672, part.grid[1] = 759;
     part.support[0] = 1, part.support[1] = 1;
+    memcpy(blocks.grid, shown, sizeof shown);
+    memset(blocks.support, 1, 7);
     answered(analyse, &whole, "the example");
     answered(analyse_by_name, &whole, "the example by name");
     answered(window, &part, "the window of the example");
     answered(window_by_name, &part, "the window of the example by name");
+    answered(screen, &blocks, "the screen of the example");
+    answered(screen_by_name, &blocks, "the screen of the example by name");
 }
 
 // The mistakes that all calls with a request refuse alike.
-static void mistakes(Call *call) {
-    Request q = paper;
-    q.nx = 65, refused(call, q, 1, 0, "refusal 1"), q = paper;
-    q.y_len = 2, refused(call, q, 4, 0, "refusal 4"), q = paper;
-    q.scans = 2, refused(call, q, 5, 0, "refusal 5"), q = paper;
-    q.scans = 2, q.plan_len = 2, refused(call, q, 6, 1, "refusal 6"), q = paper;
-    q.first_guess[4] = SOSNYAVIK_MISSING, refused(call, q, 7, 4, "refusal 7"), q = paper;
+static void mistakes(Call *call, Request right) {
+    Request q = right;
+    q.nx = 65, refused(call, q, 1, 0, "refusal 1"), q = right;
+    q.y_len = 2, refused(call, q, 4, 0, "refusal 4"), q = right;
+    q.scans = 2, refused(call, q, 5, 0, "refusal 5"), q = right;
+    q.scans = 2, q.plan_len = 2, refused(call, q, 6, 1, "refusal 6"), q = right;
+    q.first_guess[4] = SOSNYAVIK_MISSING, refused(call, q, 7, 4, "refusal 7"), q = right;
     q.from[2] = 995, q.until[2] = 0, refused(call, q, 8, 2, "refusal 8");
 }
 
@@ -146,6 +199,70 @@ static void mistakes_of_a_window(Call *call) {
     Request q = paper;
     q.right = 3, refused(call, q, 2, 0, "refusal 2"), q = paper;
     q.part_len = POINTS, refused(call, q, 3, 0, "refusal 3 of a window");
+}
+
+static void set_count(Screen *s, size_t count) { s->left_len = s->right_len = s->top_len = s->bottom_len = count; }
+
+static void set_window(Screen *s, size_t k, uint32_t left, uint32_t right, uint32_t top, uint32_t bottom) {
+    s->left[k] = left, s->right[k] = right, s->top[k] = top, s->bottom[k] = bottom;
+}
+
+// Columns that are no screen, whatever stands in them.
+static void mistakes_of_columns(Call *call) {
+    Request q = paper;
+    set_count(&q.screen, MOST + 1), refused(call, q, 2, 16, "refusal 2, seventeen windows"), q = paper;
+    q.screen.left_len++, refused(call, q, 2, 16, "refusal 2, left longer"), q = paper;
+    q.screen.right_len--, refused(call, q, 2, 16, "refusal 2, right shorter"), q = paper;
+    q.screen.top_len--, refused(call, q, 2, 16, "refusal 2, top shorter"), q = paper;
+    q.screen.bottom_len = 0, refused(call, q, 2, 16, "refusal 2, no bottom"), q = paper;
+    set_count(&q.screen, 0), q.screen.bottom_len = 1, refused(call, q, 2, 16, "refusal 2, bottom alone"), q = paper;
+    q.screen.left[0] = 3, q.screen.top_len--;
+    refused(call, q, 2, 16, "refusal 2, columns before windows"), q = paper;
+    q.nx = 65, q.screen.top_len--, refused(call, q, 1, 0, "refusal 1 before 2");
+}
+
+// Each way in which a window is bad, at each place of a full screen; the first of two is named, before any later test.
+static void mistakes_of_windows(Call *call) {
+    static const uint32_t bad[][4] = {
+        {2, 1, 0, 0}, {0, 0, 2, 1}, {0, 3, 0, 0},          {0, 0, 0, 3},
+        {3, 3, 0, 0}, {0, 0, 3, 3}, {0, UINT32_MAX, 0, 0}, {0, 0, UINT32_MAX, UINT32_MAX}};
+    for (uint32_t k = 0; k < MOST; k++)
+        for (size_t b = 0; b < sizeof bad / sizeof *bad; b++) {
+            Request q = paper;
+            set_count(&q.screen, MOST);
+            set_window(&q.screen, k, bad[b][0], bad[b][1], bad[b][2], bad[b][3]);
+            set_window(&q.screen, MOST - 1, bad[b][0], bad[b][1], bad[b][2], bad[b][3]);
+            q.y_len = 2;
+            refused(call, q, 2, k, "refusal 2, a bad window");
+        }
+}
+
+// The numbers that the header has for these mistakes, and results that are not the windows' together.
+static void mistakes_of_a_screen(Call *call) {
+    Results r;
+    Request q = paper;
+    set_count(&q.screen, 17), must(call(&q, &r) == 131088, "the number for seventeen windows"), q = paper;
+    set_count(&q.screen, BLOCKS + 1), q.screen.top_len = BLOCKS;
+    must(call(&q, &r) == 131088, "the number for unequal columns"), q = paper;
+    q.screen.bottom[2] = 3, must(call(&q, &r) == 131074, "the number for a bad window 2"), q = paper;
+    set_count(&q.screen, BLOCKS + 1);
+    must(call(&q, &r) == 196608, "the number for a window without results"), q = paper;
+    q.screen.points = 6, refused(call, q, 3, 0, "refusal 3, a point short"), q = paper;
+    q.screen.points = 0, refused(call, q, 3, 0, "refusal 3, no results"), q = paper;
+    q.screen.points = POINTS, q.y_len = 2, refused(call, q, 3, 0, "refusal 3 before 4");
+}
+
+// No windows: nothing is written, no entry may be there, and all else is tested as ever.
+static void no_windows(Call *call) {
+    Request none = paper;
+    Results r, before;
+    memset(&r, UNTOUCHED, sizeof r);
+    memset(&before, UNTOUCHED, sizeof before);
+    set_count(&none.screen, 0);
+    refused(call, none, 3, 0, "refusal 3 without windows");
+    none.screen.points = 0;
+    must(call(&none, &r) == 0 && memcmp(&r, &before, sizeof r) == 0, "a screen without windows");
+    mistakes(call, none);
 }
 
 // Bit for bit: positive zero is not negative zero.
@@ -224,6 +341,52 @@ static void same_by_name(void) {
     }
 }
 
+// The windows of a screen by single queries, one after the other, up to the first that is refused; sets its points.
+static uint32_t one_by_one(Request *q, Blocks *b) {
+    q->screen.points = 0;
+    for (uint32_t k = 0; k < q->screen.left_len; k++) {
+        Results r;
+        q->left = q->screen.left[k], q->right = q->screen.right[k];
+        q->top = q->screen.top[k], q->bottom = q->screen.bottom[k];
+        q->part_len = q->right < 3 ? (size_t)(q->right - q->left + 1) * (q->bottom - q->top + 1) : 0;
+        uint32_t answer = window(q, &r);
+        if (answer != 0)
+            return answer + k;
+        memcpy(b->grid + q->screen.points, r.grid, q->part_len * sizeof *r.grid);
+        memcpy(b->support + q->screen.points, r.support, q->part_len);
+        q->screen.points += q->part_len;
+    }
+    return 0;
+}
+
+// Screens of one to sixteen windows, all windows among them, and ends that are none: by either call as by single
+// queries.
+static void same_as_single_queries(void) {
+    static const uint32_t first[6] = {0, 0, 0, 1, 1, 2}, last[6] = {0, 1, 2, 1, 2, 2};
+    Show *shows[] = {show, show_by_name};
+    Request q = paper;
+    q.y[0] = 32, q.value[0] = 700, q.until[2] = SOSNYAVIK_NO_END;
+    for (uint32_t w = 0; w < 36 * MOST; w++) {
+        Blocks single, shown;
+        set_count(&q.screen, w % MOST + 1);
+        for (uint32_t k = 0; k < MOST; k++) {
+            uint32_t across = (w + 5 * k) % 36 % 6, down = (w + 5 * k) % 36 / 6;
+            set_window(&q.screen, k, first[across], last[across], first[down], last[down]);
+        }
+        if (w % 5 == 0)
+            q.screen.right[w % 7] = 3;
+        memset(&single, UNTOUCHED, sizeof single);
+        uint32_t answer = one_by_one(&q, &single);
+        if (answer != 0)
+            memset(&single, UNTOUCHED, sizeof single);
+        for (int i = 0; i < 2; i++) {
+            memset(&shown, UNTOUCHED, sizeof shown);
+            must(shows[i](&q, shown.grid, shown.support) == answer, "a screen beside single queries");
+            must(memcmp(&shown, &single, sizeof shown) == 0, "the answer of a screen beside single queries");
+        }
+    }
+}
+
 static uint8_t verdict_at(Call *call, int32_t x, int32_t y) {
     Results r;
     Request q = paper;
@@ -277,9 +440,11 @@ static void age_where_none_is_given(void) {
 // Refused by its number, and nothing read through a null pointer.
 static void refuses_nothing(struct sosnyavik_request request) {
     const struct sosnyavik_ends ends = {0, 0, 0, 0};
+    const struct sosnyavik_screen screen = {.left = {NULL, 0}};
     const struct sosnyavik_results none = {.grid = {NULL, 0}};
     must(sosnyavik_request_analyse(&request, none) == 0x00010000, "a request of zeros");
     must(sosnyavik_request_window(&request, ends, none) == 0x00010000, "a window of a request of zeros");
+    must(sosnyavik_request_windows(&request, screen, none) == 0x00010000, "a screen of a request of zeros");
     must(sosnyavik_request_reading_kind(&request, none, 0, 0) == SOSNYAVIK_REFUSED, "a reading of zeros");
     must(same(sosnyavik_request_reading_value(&request, none, 0, 0), 0.0), "the double of a reading of zeros");
     says(sosnyavik_request_summarise(&request, none), 1, 0.0, 0.0, 0.0);
@@ -289,7 +454,9 @@ static void refuses_nothing(struct sosnyavik_request request) {
 static void left_out(void) {
     Results r;
     struct sosnyavik_request zeroed, bare = SOSNYAVIK_REQUEST(), empty = by_name(&paper);
-    struct sosnyavik_results whole = {.grid = {r.grid, POINTS}, .support = {r.support, POINTS}};
+    struct sosnyavik_results whole = {.grid = {r.grid, POINTS}, .support = {r.support, POINTS}},
+                             none = {.grid = {NULL, 0}};
+    const struct sosnyavik_screen screen = {.left = {NULL, 0}};
     memset(&zeroed, 0, sizeof zeroed);
     refuses_nothing(zeroed);
     refuses_nothing(bare);
@@ -298,16 +465,23 @@ static void left_out(void) {
     bare.scans = empty.scans, bare.radius = empty.radius, bare.limit = empty.limit;
     must(sosnyavik_request_analyse(&bare, whole) == 0, "a request without stations");
     must(memcmp(r.grid, paper.first_guess, sizeof r.grid) == 0, "the grid without stations");
+    must(sosnyavik_request_windows(&bare, screen, none) == 0, "a screen without windows or stations");
 }
 
 int main(void) {
     Call *analyses[] = {analyse, analyse_by_name}, *windows[] = {window, window_by_name};
+    Call *screens[] = {screen, screen_by_name};
     examples();
     for (int i = 0; i < 2; i++) {
-        mistakes(analyses[i]);
-        mistakes(windows[i]);
+        mistakes(analyses[i], paper);
+        mistakes(windows[i], paper);
+        mistakes(screens[i], paper);
         mistakes_of_an_analysis(analyses[i]);
         mistakes_of_a_window(windows[i]);
+        mistakes_of_columns(screens[i]);
+        mistakes_of_windows(screens[i]);
+        mistakes_of_a_screen(screens[i]);
+        no_windows(screens[i]);
         verdicts_off_the_grid(analyses[i]);
         post_in_two_scans(analyses[i]);
     }
@@ -315,9 +489,10 @@ int main(void) {
     summaries();
     reading_of_the_example();
     same_by_name();
+    same_as_single_queries();
     age_where_none_is_given();
     left_out();
-    puts("header: the examples, posts, and the mistakes for refusals 1 to 8, answer as include/sosnyavik.h says, by "
-         "name too");
+    puts("header: the examples, posts, screens, and the mistakes for refusals 1 to 8, answer as include/sosnyavik.h "
+         "says, by name too");
     return 0;
 }

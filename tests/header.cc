@@ -13,6 +13,8 @@ const int32_t x[3] = {64, 0, 128}, y[3] = {64, 0, 128}, value[3] = {768, 576, 70
 const uint32_t observed[3] = {990, 1000, 990}, from[3] = {0, 0, 0};
 const uint32_t until[3] = {SOSNYAVIK_NO_END, SOSNYAVIK_NO_END, 995};
 const int32_t radius[1] = {96}, limit[1] = {200};
+const uint32_t left[3] = {0, 1, 0}, right[3] = {1, 2, 0}, top[3] = {1, 0, 0}, bottom[3] = {1, 1, 0};
+const int32_t blocks[7] = {672, 759, 672, 768, 759, 768, 585};
 
 struct Answer {
     int32_t grid[9];
@@ -41,6 +43,20 @@ void must_answer(const sosnyavik_request &request, const Answer &expected, const
     results.support = {part.support, 2};
     must(sosnyavik_request_window(&request, {0, 1, 1, 1}, results) == 0, what);
     must(part.grid[0] == expected.grid[3] && part.grid[1] == expected.grid[4], what);
+    results.grid = {part.grid, 7};
+    results.support = {part.support, 7};
+    must(sosnyavik_request_windows(&request, {{left, 3}, {right, 3}, {top, 3}, {bottom, 3}}, results) == 0, what);
+    must(std::memcmp(part.grid, blocks, sizeof blocks) == 0, what);
+}
+
+void must_show() {
+    Answer shown = {};
+    must(sosnyavik_windows(3, 3, first_guess, 9, left, 3, right, 3, top, 3, bottom, 3, x, 3, y, 3, value, 3, observed,
+                           3, from, 3, until, 3, 1, radius, 1, limit, 1, false, 1000, 60, shown.grid, 7, shown.support,
+                           7) == 0,
+         "the screen of the example");
+    must(std::memcmp(shown.grid, blocks, sizeof blocks) == 0, "the screen of the example");
+    must(shown.support[6] == 1 && shown.support[7] == 0 && shown.grid[7] == 0, "the screen's last entry");
 }
 
 sosnyavik_request by_assignment() {
@@ -77,6 +93,7 @@ int main() {
                            limit, 1, false, 1000, 60, plain.grid, 9, plain.support, 9, plain.verdict, 3) == 0,
          "the example");
     must(plain.grid[0] == 585 && plain.grid[4] == 759 && plain.verdict[2] == 2, "the example");
+    must_show();
     must_answer(by_assignment(), plain, "the example by name");
     try_designated(plain);
     std::printf("header: the example from C++ %ld, by name too\n", __cplusplus);

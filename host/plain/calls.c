@@ -37,26 +37,67 @@ static void copy_window(struct sosnyavik_results whole, uint32_t nx, struct sosn
     }
 }
 
-static uint32_t answer_window(const struct sosnyavik_request *request, struct sosnyavik_ends ends,
-                              struct sosnyavik_results results) {
-    size_t points = request->first_guess.count, rows = request->x.count;
-    if (!is_shape(request->nx, request->ny, points))
+static struct sosnyavik_ends window_at(const struct sosnyavik_screen *screen, size_t k) {
+    return (struct sosnyavik_ends){screen->left.at[k], screen->right.at[k], screen->top.at[k], screen->bottom.at[k]};
+}
+
+static size_t points_of(struct sosnyavik_ends ends) {
+    return (size_t)(ends.right - ends.left + 1) * (ends.bottom - ends.top + 1);
+}
+
+/* The windows' points out of the whole analysis's, one window after the other. */
+static void copy_windows(struct sosnyavik_results whole, uint32_t nx, const struct sosnyavik_screen *screen,
+                         struct sosnyavik_results parts) {
+    for (size_t k = 0; k < screen->left.count; k++) {
+        struct sosnyavik_ends ends = window_at(screen, k);
+        copy_window(whole, nx, ends, parts);
+        parts.grid.at += points_of(ends);
+        parts.support.at += points_of(ends);
+    }
+}
+
+/* Refusals 1 to 3; 0 if there is none. */
+static uint32_t refused_screen(const struct sosnyavik_request *request, const struct sosnyavik_screen *screen,
+                               struct sosnyavik_results results) {
+    size_t count = screen->left.count, asked = 0;
+    if (!is_shape(request->nx, request->ny, request->first_guess.count))
         return 1 * ONE;
-    if (ends.left > ends.right || ends.top > ends.bottom || ends.right >= request->nx || ends.bottom >= request->ny)
-        return 2 * ONE;
-    size_t asked = (size_t)(ends.right - ends.left + 1) * (ends.bottom - ends.top + 1);
-    if (results.grid.count != asked || results.support.count != asked)
-        return 3 * ONE;
+    if (count > SOSNYAVIK_MOST_WINDOWS || screen->right.count != count || screen->top.count != count ||
+        screen->bottom.count != count)
+        return 2 * ONE + SOSNYAVIK_MOST_WINDOWS;
+    for (uint32_t k = 0; k < count; k++) {
+        struct sosnyavik_ends ends = window_at(screen, k);
+        if (ends.left > ends.right || ends.top > ends.bottom || ends.right >= request->nx || ends.bottom >= request->ny)
+            return 2 * ONE + k;
+        asked += points_of(ends);
+    }
+    return results.grid.count == asked && results.support.count == asked ? 0 : 3 * ONE;
+}
+
+/* By one whole analysis, whatever the windows are; it has the refusals from 4 on. */
+static uint32_t answer_windows(const struct sosnyavik_request *request, struct sosnyavik_screen screen,
+                               struct sosnyavik_results results) {
+    size_t points = request->first_guess.count, rows = request->x.count;
+    uint32_t returned = refused_screen(request, &screen, results);
+    if (returned != 0)
+        return returned;
     struct sosnyavik_results whole = {.grid = {allocate(points * sizeof(int32_t)), points},
                                       .support = {allocate(points), points},
                                       .verdict = {allocate(rows), rows}};
-    uint32_t returned = plain_analyse(request, whole);
+    returned = plain_analyse(request, whole);
     if (returned == 0)
-        copy_window(whole, request->nx, ends, results);
+        copy_windows(whole, request->nx, &screen, results);
     free(whole.grid.at);
     free(whole.support.at);
     free(whole.verdict.at);
     return returned;
+}
+
+/* A window is a screen of one: a bad one is window 0, and its place is 0. */
+static uint32_t answer_window(const struct sosnyavik_request *request, struct sosnyavik_ends ends,
+                              struct sosnyavik_results results) {
+    struct sosnyavik_screen screen = {{&ends.left, 1}, {&ends.right, 1}, {&ends.top, 1}, {&ends.bottom, 1}};
+    return answer_windows(request, screen, results);
 }
 
 struct reading {
