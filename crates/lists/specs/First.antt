@@ -4,7 +4,7 @@ use native.Mathlib.Omega.{arith}
 use mathlib.Core.Path.{_≡_, refl, sym, ap, _∙_}
 use mathlib.Core.Logic.{_⊎_, inl, inr}
 use mathlib.Core.Bool.{Bool, true, false, cond}
-use mathlib.Core.List.{List, [], _∷_}
+use mathlib.Core.List.{List, [], _∷_, map}
 use borrow.Author.Tests.{lt-ltb, le-ltb}
 use lib.Dec.{ltb}
 use lib.ListN.{length, getD}
@@ -145,6 +145,17 @@ in-table bad n f =
     in-places bad (f 0) (tab n f)
     ∙ ap (λ (m : ℕ). first m (λ k. bad (getD (tab n f) k (f 0)))) (length-tab n f)
     ∙ first-same n (λ k. bad (getD (tab n f) k (f 0))) (λ k. bad (f k)) (λ k h. ap bad (getD-tab n f k (f 0) h))
+
+-- a search of what is made of a list, and one by the same tests
+pub first-map : {A B : Type 0} (bad : B → Bool) (f : A → B) (k : ℕ) (l : List A) → firstFrom k bad (map f l) ≡ firstFrom k (λ a. bad (f a)) l
+unfolding firstFrom
+first-map bad f k [] = refl
+first-map bad f k (a ∷ l) = rw (first-map bad f (suc k) l)
+
+pub first-same-tests : {A : Type 0} (p q : A → Bool) (k : ℕ) (l : List A) → ((a : A) → p a ≡ q a) → firstFrom k p l ≡ firstFrom k q l
+unfolding firstFrom
+first-same-tests p q k [] h = refl
+first-same-tests p q k (a ∷ l) h = rw (h a, first-same-tests p q (suc k) l h)
 
 -- no element is bad
 pub none-bad : {A : Type 0} (bad : A → Bool) (o : A) (l : List A) → firstIn bad l ≡ nowhere → (k : ℕ) → k < length l → bad (getD l k o) ≡ false

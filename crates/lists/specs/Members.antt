@@ -57,10 +57,19 @@ all-drop P zero r = r
 all-drop P (suc n) none = none
 all-drop P (suc n) (more h r) = all-drop P n r
 
-pub all-tab : {A : Type 0} (P : A → Type 0) (n : ℕ) (f : ℕ → A) → ((k : ℕ) → P (f k)) → All P (tab n f)
+pub all-below : {A : Type 0} (P : A → Type 0) (n : ℕ) (f : ℕ → A) → ((k : ℕ) → k < n → P (f k)) → All P (tab n f)
 unfolding tab
-all-tab P zero f h = none
-all-tab P (suc n) f h = more (h 0) (all-tab P n (λ k. f (suc k)) (λ k. h (suc k)))
+all-below P zero f h = none
+all-below P (suc n) f h = more (h 0 (omega arith)) (all-below P n (λ k. f (suc k)) (λ k l. h (suc k) (omega arith)))
+
+pub all-at : {A : Type 0} (P : A → Type 0) (n : ℕ) (f : ℕ → A) → All P (tab n f) → (k : ℕ) → k < n → P (f k)
+unfolding tab
+all-at P zero f h k l = absurd (omega arith)
+all-at P (suc n) f (more e h) zero l = e
+all-at P (suc n) f (more e h) (suc k) l = all-at P n (λ i. f (suc i)) h k (omega arith)
+
+pub all-tab : {A : Type 0} (P : A → Type 0) (n : ℕ) (f : ℕ → A) → ((k : ℕ) → P (f k)) → All P (tab n f)
+all-tab P n f h = all-below P n f (λ k l. h k)
 
 pub some-also : {A : Type 0} (P Q : A → Type 0) → ((a : A) → P a → Q a) → {xs : List A} → Some P xs → Some Q xs
 some-also P Q f (here {a = a} h) = here (f a h)

@@ -1,4 +1,4 @@
--- Document 01, "The scope and its exact rules", and of document 02 the requests that have landed: 1, posts beyond the border.
+-- Document 01, "The scope and its exact rules", and of document 02 the requests that have landed: 1, posts beyond the border; 2, sixteen blocks per screen.
 --
 -- MUST BE BELIEVED, a file for each section, in the paper's order and words. Read them beside the paper.
 pub mod Units
@@ -47,6 +47,7 @@ pub mod Shares
 pub mod Cressman
 pub mod Cut
 pub mod Windows
+pub mod Screens
 pub mod Example
 pub mod Table
 pub mod Cases
