@@ -13,7 +13,7 @@ use Rattle.lists.specs.Sums.{total}
 use Rattle.lists.specs.First.{first, firstFrom, orNext}
 use Rattle.scheme.specs.declared.Reading.the-variants.{Backed, FirstGuess, OffGrid, Refused}
 use Rattle.scheme.specs.Units.{isMissing, missingMark, Field, stored, fieldOf, mostStations, Station, noEnd, Columns, stationAt, stationsOf, mostBeyond, R, E, Request, Call, guess, asking}
-use Rattle.scheme.specs.Refusals.{Refusal, accepted, refused, asOne, inOrder, refusedWith, refusedAt, badShape, Span, Window, badWindow, windowAt, badLengths, badColumns, badScans, rising, badScan, badGuess, badStation, fromFive, analysisRefusal, windowRefusal, summaryRefusal, readingRefusal}
+use Rattle.scheme.specs.Refusals.{Refusal, accepted, refused, asOne, inOrder, refusedWith, refusedAt, badShape, Span, Window, badWindow, windowAt, Screen, windowsOf, badScreen, badLengths, badColumns, badScans, rising, badScan, badGuess, badStation, fromFive, analysisRefusal, windowRefusal, screenRefusal, summaryRefusal, readingRefusal}
 use Rattle.scheme.specs.Verdicts.{serves, outOfService, nearAxis, offGrid, firstThatFits, beforeScans}
 use Rattle.scheme.specs.Rounding.{rounded}
 use Rattle.scheme.specs.Value.{place, cell, corners, sumAt, valueAt}
@@ -31,6 +31,7 @@ use Rattle.scheme.specs.Text.Order.{lines, rows, nothingAfter}
 use Rattle.scheme.specs.Text.Printed.{spelled, decimal, integer, cells, keyed, gridLines}
 use Rattle.scheme.specs.Accepted.{columns-good}
 use Rattle.scheme.specs.Calls.{columnsOf, equal-columns}
+use Rattle.scheme.specs.Promises.{fourColumns}
 use Rattle.scheme.specs.Most.{mostField, mostDifference, mostWeights, mostPulls, mostReach}
 
 -- ---- a call on a grid of two by two, to be damaged
@@ -67,27 +68,57 @@ planned scans radius limit = asking 2 2 level (two good) scans radius limit fals
 abbrev all : Window
 all = windowAt 0 1 0 1
 
--- both calls refuse it so, each with results of the right length
-abbrev BothRefuse : Call → Refusal → Type 0
-BothRefuse c r = (analysisRefusal c 4 4 2 ≡ r) × (windowRefusal c all 4 4 ≡ r)
+-- a screen of that window twice, and one of none
+abbrev allTwice : Screen
+allTwice = fourColumns (0 ∷ 0 ∷ []) (1 ∷ 1 ∷ []) (0 ∷ 0 ∷ []) (1 ∷ 1 ∷ [])
+
+abbrev noWindows : Screen
+noWindows = fourColumns [] [] [] []
+
+-- a screen of so many points, the first of all
+abbrev points : ℕ → Screen
+points n = fourColumns (tab n (λ k. 0)) (tab n (λ k. 0)) (tab n (λ k. 0)) (tab n (λ k. 0))
+
+-- each call refuses it so, with results of the right length
+abbrev EachRefuses : Call → Refusal → Type 0
+EachRefuses c r = (analysisRefusal c 4 4 2 ≡ r) × (windowRefusal c all 4 4 ≡ r) × (screenRefusal c allTwice 8 8 ≡ r) × (screenRefusal c noWindows 0 0 ≡ r)
+
+-- a screen of right shape else
+abbrev Screened : Screen → (grid support : ℕ) → Refusal → Type 0
+Screened s grid support r = screenRefusal (shapedSo 2 2 level) s grid support ≡ r
 
 -- ---- what the calls refuse, and what they do not
 
 pub record Refusals : Type 0 where
-  pub not-refused : BothRefuse (shapedSo 2 2 level) accepted
+  pub not-refused : EachRefuses (shapedSo 2 2 level) accepted
   pub as-one : asOne (refused 7 4095) ≡ 462847
   -- 1: the edges of 2..64, and the length of the first guess
-  pub one-column : BothRefuse (shapedSo 1 4 level) (refused 1 0)
-  pub one-row : BothRefuse (shapedSo 4 1 level) (refused 1 0)
-  pub many-columns : BothRefuse (shapedSo 65 2 level) (refused 1 0)
-  pub many-rows : BothRefuse (shapedSo 2 65 level) (refused 1 0)
-  pub long-guess : BothRefuse (shapedSo 2 2 (pos 0 ∷ level)) (refused 1 0)
+  pub one-column : EachRefuses (shapedSo 1 4 level) (refused 1 0)
+  pub one-row : EachRefuses (shapedSo 4 1 level) (refused 1 0)
+  pub many-columns : EachRefuses (shapedSo 65 2 level) (refused 1 0)
+  pub many-rows : EachRefuses (shapedSo 2 65 level) (refused 1 0)
+  pub long-guess : EachRefuses (shapedSo 2 2 (pos 0 ∷ level)) (refused 1 0)
   -- 2: the ends of a window
   pub left-past-right : windowRefusal (shapedSo 2 2 level) (windowAt 1 0 0 1) 4 4 ≡ refused 2 0
   pub top-past-bottom : windowRefusal (shapedSo 2 2 level) (windowAt 0 1 1 0) 4 4 ≡ refused 2 0
   pub past-the-right : windowRefusal (shapedSo 2 2 level) (windowAt 0 2 0 1) 6 6 ≡ refused 2 0
   pub past-the-bottom : windowRefusal (shapedSo 2 2 level) (windowAt 0 1 0 2) 6 6 ≡ refused 2 0
   pub last-point : windowRefusal (shapedSo 2 2 level) (windowAt 1 1 1 1) 1 1 ≡ accepted
+  -- 2 of a screen: unequal or over sixteen first, with place 16; then the first bad window
+  pub short-right : Screened (fourColumns (0 ∷ 0 ∷ []) (1 ∷ []) (0 ∷ 0 ∷ []) (1 ∷ 1 ∷ [])) 8 8 (refused 2 16)
+  pub short-top : Screened (fourColumns (0 ∷ 0 ∷ []) (1 ∷ 1 ∷ []) (0 ∷ []) (1 ∷ 1 ∷ [])) 8 8 (refused 2 16)
+  pub long-bottom : Screened (fourColumns (0 ∷ 0 ∷ []) (1 ∷ 1 ∷ []) (0 ∷ 0 ∷ []) (1 ∷ 1 ∷ 1 ∷ [])) 8 8 (refused 2 16)
+  pub seventeen-windows : Screened (points 17) 17 17 (refused 2 16)
+  pub sixteen-windows : Screened (points 16) 16 16 accepted
+  pub unequal-before-bad : Screened (fourColumns (2 ∷ []) (2 ∷ []) (0 ∷ []) []) 1 1 (refused 2 16)
+  pub bad-window-by-index : Screened (fourColumns (0 ∷ 0 ∷ 1 ∷ []) (1 ∷ 0 ∷ 0 ∷ []) (0 ∷ 0 ∷ 0 ∷ []) (1 ∷ 0 ∷ 1 ∷ [])) 8 8 (refused 2 2)
+  pub first-of-two-windows : Screened (fourColumns (0 ∷ 0 ∷ 1 ∷ []) (1 ∷ 2 ∷ 0 ∷ []) (0 ∷ 0 ∷ 0 ∷ []) (1 ∷ 0 ∷ 1 ∷ [])) 8 8 (refused 2 1)
+  pub bad-window-before-lengths : Screened (fourColumns (0 ∷ []) (0 ∷ []) (0 ∷ []) (2 ∷ [])) 0 0 (refused 2 0)
+  -- 3 of a screen: all windows together
+  pub together : Screened (fourColumns (0 ∷ 0 ∷ []) (1 ∷ 0 ∷ []) (0 ∷ 0 ∷ []) (1 ∷ 1 ∷ [])) 6 6 accepted
+  pub last-window-alone : Screened (fourColumns (0 ∷ 0 ∷ []) (1 ∷ 0 ∷ []) (0 ∷ 0 ∷ []) (1 ∷ 1 ∷ [])) 2 2 (refused 3 0)
+  pub long-screen-support : Screened (fourColumns (0 ∷ 0 ∷ []) (1 ∷ 0 ∷ []) (0 ∷ 0 ∷ []) (1 ∷ 1 ∷ [])) 6 7 (refused 3 0)
+  pub no-windows-no-points : Screened noWindows 0 1 (refused 3 0)
   -- 3: the results' lengths, before 4
   pub short-grid : analysisRefusal (shapedSo 2 2 level) 3 4 2 ≡ refused 3 0
   pub short-support : analysisRefusal (shapedSo 2 2 level) 4 3 2 ≡ refused 3 0
@@ -95,39 +126,39 @@ pub record Refusals : Type 0 where
   pub short-tile : windowRefusal (shapedSo 2 2 level) (windowAt 0 0 0 1) 1 2 ≡ refused 3 0
   pub short-tile-support : windowRefusal (shapedSo 2 2 level) (windowAt 0 0 0 1) 2 1 ≡ refused 3 0
   -- 4: unequal columns, and more than 512
-  pub unequal : BothRefuse (stationed (record { x = at0; y = at0; value = at0; observed = 0 ∷ 0 ∷ []; from = 0 ∷ 0 ∷ []; until = 1 ∷ [] })) (refused 4 0)
+  pub unequal : EachRefuses (stationed (record { x = at0; y = at0; value = at0; observed = 0 ∷ 0 ∷ []; from = 0 ∷ 0 ∷ []; until = 1 ∷ [] })) (refused 4 0)
   pub many : (ss : List Station) → length ss ≡ 513 → badColumns (columnsOf ss) ≡ true
   pub most : (ss : List Station) → length ss ≡ 512 → badColumns (columnsOf ss) ≡ false
   -- 5: the count, and the columns of the plan
-  pub no-scans : BothRefuse (planned 0 [] []) (refused 5 0)
-  pub seven-scans : BothRefuse (planned 7 (tab 7 (λ m. pos 64)) (tab 7 (λ m. pos 0))) (refused 5 0)
-  pub six-scans : BothRefuse (planned 6 (tab 6 (λ m. pos 64)) (tab 6 (λ m. pos 0))) accepted
-  pub short-radii : BothRefuse (planned 3 at64 (pos 0 ∷ at0)) (refused 5 0)
-  pub short-limits : BothRefuse (planned 3 (pos 64 ∷ at64) at0) (refused 5 0)
+  pub no-scans : EachRefuses (planned 0 [] []) (refused 5 0)
+  pub seven-scans : EachRefuses (planned 7 (tab 7 (λ m. pos 64)) (tab 7 (λ m. pos 0))) (refused 5 0)
+  pub six-scans : EachRefuses (planned 6 (tab 6 (λ m. pos 64)) (tab 6 (λ m. pos 0))) accepted
+  pub short-radii : EachRefuses (planned 3 at64 (pos 0 ∷ at0)) (refused 5 0)
+  pub short-limits : EachRefuses (planned 3 (pos 64 ∷ at64) at0) (refused 5 0)
   -- 6: R and E, at their scan
-  pub no-radius : BothRefuse (planned 2 (pos 64 ∷ pos 0 ∷ []) at0) (refused 6 1)
-  pub wide-radius : BothRefuse (planned 2 (pos 1025 ∷ pos 64 ∷ []) at0) (refused 6 0)
-  pub widest-radius : BothRefuse (planned 2 (pos 1024 ∷ pos 1 ∷ []) at0) accepted
-  pub first-of-two-scans : BothRefuse (planned 2 (pos 0 ∷ pos 0 ∷ []) at0) (refused 6 0)
-  pub rises : BothRefuse (planned 2 (pos 64 ∷ pos 65 ∷ []) at0) (refused 6 1)
-  pub negative-limit : BothRefuse (planned 2 at64 (pos 0 ∷ negsuc 0 ∷ [])) (refused 6 1)
-  pub large-limit : BothRefuse (planned 2 at64 (pos 2000001 ∷ pos 0 ∷ [])) (refused 6 0)
-  pub largest-limit : BothRefuse (planned 2 at64 (pos 2000000 ∷ pos 0 ∷ [])) accepted
+  pub no-radius : EachRefuses (planned 2 (pos 64 ∷ pos 0 ∷ []) at0) (refused 6 1)
+  pub wide-radius : EachRefuses (planned 2 (pos 1025 ∷ pos 64 ∷ []) at0) (refused 6 0)
+  pub widest-radius : EachRefuses (planned 2 (pos 1024 ∷ pos 1 ∷ []) at0) accepted
+  pub first-of-two-scans : EachRefuses (planned 2 (pos 0 ∷ pos 0 ∷ []) at0) (refused 6 0)
+  pub rises : EachRefuses (planned 2 (pos 64 ∷ pos 65 ∷ []) at0) (refused 6 1)
+  pub negative-limit : EachRefuses (planned 2 at64 (pos 0 ∷ negsuc 0 ∷ [])) (refused 6 1)
+  pub large-limit : EachRefuses (planned 2 at64 (pos 2000001 ∷ pos 0 ∷ [])) (refused 6 0)
+  pub largest-limit : EachRefuses (planned 2 at64 (pos 2000000 ∷ pos 0 ∷ [])) accepted
   -- 7: the first guess, at its point
-  pub high-guess : BothRefuse (shapedSo 2 2 (pos 0 ∷ pos 0 ∷ pos 1000001 ∷ pos 0 ∷ [])) (refused 7 2)
-  pub low-guess : BothRefuse (shapedSo 2 2 (pos 0 ∷ pos 0 ∷ pos 0 ∷ negsuc 1000000 ∷ [])) (refused 7 3)
-  pub edge-guess : BothRefuse (shapedSo 2 2 (pos 1000000 ∷ negsuc 999999 ∷ pos 0 ∷ pos 0 ∷ [])) accepted
-  pub first-of-two-guesses : BothRefuse (shapedSo 2 2 (pos 0 ∷ pos 1000001 ∷ pos 1000001 ∷ pos 0 ∷ [])) (refused 7 1)
-  pub missing-guess : BothRefuse (shapedSo 2 2 (missingMark ∷ pos 0 ∷ pos 0 ∷ pos 0 ∷ [])) (refused 7 0)
+  pub high-guess : EachRefuses (shapedSo 2 2 (pos 0 ∷ pos 0 ∷ pos 1000001 ∷ pos 0 ∷ [])) (refused 7 2)
+  pub low-guess : EachRefuses (shapedSo 2 2 (pos 0 ∷ pos 0 ∷ pos 0 ∷ negsuc 1000000 ∷ [])) (refused 7 3)
+  pub edge-guess : EachRefuses (shapedSo 2 2 (pos 1000000 ∷ negsuc 999999 ∷ pos 0 ∷ pos 0 ∷ [])) accepted
+  pub first-of-two-guesses : EachRefuses (shapedSo 2 2 (pos 0 ∷ pos 1000001 ∷ pos 1000001 ∷ pos 0 ∷ [])) (refused 7 1)
+  pub missing-guess : EachRefuses (shapedSo 2 2 (missingMark ∷ pos 0 ∷ pos 0 ∷ pos 0 ∷ [])) (refused 7 0)
   -- 8: a station, at its row
-  pub high-value : BothRefuse (stationed (two (mast (pos 0) (pos 0) (pos 1000001) 0 0 1))) (refused 8 1)
-  pub missing-value : BothRefuse (stationed (two (mast (pos 0) (pos 0) missingMark 0 0 1))) accepted
-  pub next-to-the-mark : BothRefuse (stationed (two (mast (pos 0) (pos 0) (negsuc 2147483646) 0 0 1))) (refused 8 1)
-  pub far-x : BothRefuse (stationed (two (mast (negsuc 1000000) (pos 0) (pos 0) 0 0 1))) (refused 8 1)
-  pub far-y : BothRefuse (stationed (two (mast (pos 0) (pos 1000001) (pos 0) 0 0 1))) (refused 8 1)
-  pub edge-place : BothRefuse (stationed (two (mast (negsuc 999999) (pos 1000000) (pos 0) 0 0 1))) accepted
-  pub no-service : BothRefuse (stationed (two (mast (pos 0) (pos 0) (pos 0) 0 noEnd noEnd))) (refused 8 1)
-  pub first-of-two-rows : BothRefuse (stationed (columnsOf (mast (pos 0) (pos 0) (pos 0) 0 1 1 ∷ mast (pos 0) (pos 0) (pos 0) 0 1 1 ∷ []))) (refused 8 0)
+  pub high-value : EachRefuses (stationed (two (mast (pos 0) (pos 0) (pos 1000001) 0 0 1))) (refused 8 1)
+  pub missing-value : EachRefuses (stationed (two (mast (pos 0) (pos 0) missingMark 0 0 1))) accepted
+  pub next-to-the-mark : EachRefuses (stationed (two (mast (pos 0) (pos 0) (negsuc 2147483646) 0 0 1))) (refused 8 1)
+  pub far-x : EachRefuses (stationed (two (mast (negsuc 1000000) (pos 0) (pos 0) 0 0 1))) (refused 8 1)
+  pub far-y : EachRefuses (stationed (two (mast (pos 0) (pos 1000001) (pos 0) 0 0 1))) (refused 8 1)
+  pub edge-place : EachRefuses (stationed (two (mast (negsuc 999999) (pos 1000000) (pos 0) 0 0 1))) accepted
+  pub no-service : EachRefuses (stationed (two (mast (pos 0) (pos 0) (pos 0) 0 noEnd noEnd))) (refused 8 1)
+  pub first-of-two-rows : EachRefuses (stationed (columnsOf (mast (pos 0) (pos 0) (pos 0) 0 1 1 ∷ mast (pos 0) (pos 0) (pos 0) 0 1 1 ∷ []))) (refused 8 0)
 
 -- more rows than 512, in equal columns
 too-many : (ss : List Station) → mostStations < length ss → badColumns (columnsOf ss) ≡ true
@@ -145,55 +176,68 @@ too-many ss h =
     )
 
 refusals : Refusals
-unfolding analysisRefusal windowRefusal fromFive inOrder refusedWith refusedAt first firstFrom orNext badShape badWindow badLengths badColumns badScans badScan rising badGuess badStation stationsOf stationAt isMissing tab
+unfolding analysisRefusal windowRefusal screenRefusal fromFive inOrder refusedWith refusedAt first firstFrom orNext badShape badWindow windowsOf badScreen total badLengths badColumns badScans badScan rising badGuess badStation stationsOf stationAt isMissing tab
 refusals =
     record {
-      not-refused = (refl, refl);
+      not-refused = (refl, refl, refl, refl);
       as-one = refl;
-      one-column = (refl, refl);
-      one-row = (refl, refl);
-      many-columns = (refl, refl);
-      many-rows = (refl, refl);
-      long-guess = (refl, refl);
+      one-column = (refl, refl, refl, refl);
+      one-row = (refl, refl, refl, refl);
+      many-columns = (refl, refl, refl, refl);
+      many-rows = (refl, refl, refl, refl);
+      long-guess = (refl, refl, refl, refl);
       left-past-right = refl;
       top-past-bottom = refl;
       past-the-right = refl;
       past-the-bottom = refl;
       last-point = refl;
+      short-right = refl;
+      short-top = refl;
+      long-bottom = refl;
+      seventeen-windows = refl;
+      sixteen-windows = refl;
+      unequal-before-bad = refl;
+      bad-window-by-index = refl;
+      first-of-two-windows = refl;
+      bad-window-before-lengths = refl;
+      together = refl;
+      last-window-alone = refl;
+      long-screen-support = refl;
+      no-windows-no-points = refl;
       short-grid = refl;
       short-support = refl;
       short-verdicts = refl;
       short-tile = refl;
       short-tile-support = refl;
-      unequal = (refl, refl);
+      unequal = (refl, refl, refl, refl);
       many = λ ss e. too-many ss (omega arith);
       most = λ ss e. columns-good (columnsOf ss) (equal-columns ss (omega arith));
-      no-scans = (refl, refl);
-      seven-scans = (refl, refl);
-      six-scans = (refl, refl);
-      short-radii = (refl, refl);
-      short-limits = (refl, refl);
-      no-radius = (refl, refl);
-      wide-radius = (refl, refl);
-      widest-radius = (refl, refl);
-      first-of-two-scans = (refl, refl);
-      rises = (refl, refl);
-      negative-limit = (refl, refl);
-      large-limit = (refl, refl);
-      largest-limit = (refl, refl);
-      high-guess = (refl, refl);
-      low-guess = (refl, refl);
-      edge-guess = (refl, refl);
-      first-of-two-guesses = (refl, refl);
-      missing-guess = (refl, refl);
-      high-value = (refl, refl);
-      missing-value = (refl, refl);
-      next-to-the-mark = (refl, refl);
-      far-x = (refl, refl);
-      far-y = (refl, refl);
-      edge-place = (refl, refl);
-      no-service = (refl, refl);
-      first-of-two-rows = (refl, refl);
+      no-scans = (refl, refl, refl, refl);
+      seven-scans = (refl, refl, refl, refl);
+      six-scans = (refl, refl, refl, refl);
+      short-radii = (refl, refl, refl, refl);
+      short-limits = (refl, refl, refl, refl);
+      no-radius = (refl, refl, refl, refl);
+      wide-radius = (refl, refl, refl, refl);
+      widest-radius = (refl, refl, refl, refl);
+      first-of-two-scans = (refl, refl, refl, refl);
+      rises = (refl, refl, refl, refl);
+      negative-limit = (refl, refl, refl, refl);
+      large-limit = (refl, refl, refl, refl);
+      largest-limit = (refl, refl, refl, refl);
+      high-guess = (refl, refl, refl, refl);
+      low-guess = (refl, refl, refl, refl);
+      edge-guess = (refl, refl, refl, refl);
+      first-of-two-guesses = (refl, refl, refl, refl);
+      missing-guess = (refl, refl, refl, refl);
+      high-value = (refl, refl, refl, refl);
+      missing-value = (refl, refl, refl, refl);
+      next-to-the-mark = (refl, refl, refl, refl);
+      far-x = (refl, refl, refl, refl);
+      far-y = (refl, refl, refl, refl);
+      edge-place = (refl, refl, refl, refl);
+      no-service = (refl, refl, refl, refl);
+      first-of-two-rows = (refl, refl, refl, refl);
     }
 
 -- ---- verdicts before the first scan, on a grid of two by two at minute 1000, with readings of up to 60 minutes

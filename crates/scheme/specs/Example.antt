@@ -8,7 +8,7 @@ use Rattle.lists.specs.Tab.{tab}
 use Rattle.lists.specs.Sums.{total, upTo}
 use Rattle.lists.specs.First.{first, firstFrom, orNext}
 use Rattle.scheme.specs.Units.{isMissing, Field, stored, fieldOf, Station, stationAt, stationsOf, R, E, Request, guess, asking}
-use Rattle.scheme.specs.Refusals.{accepted, inOrder, refusedWith, refusedAt, badShape, Window, badWindow, windowAt, badLengths, badColumns, badScans, rising, badScan, badGuess, badStation, fromFive, analysisRefusal, windowRefusal}
+use Rattle.scheme.specs.Refusals.{accepted, inOrder, refusedWith, refusedAt, badShape, Window, badWindow, windowAt, Screen, windowsOf, badScreen, badLengths, badColumns, badScans, rising, badScan, badGuess, badStation, fromFive, analysisRefusal, windowRefusal, screenRefusal}
 use Rattle.scheme.specs.Verdicts.{serves, outOfService, nearAxis, offGrid, firstThatFits, beforeScans}
 use Rattle.scheme.specs.Rounding.{rounded}
 use Rattle.scheme.specs.Value.{place, cell, corners, sumAt, valueAt}
@@ -17,9 +17,9 @@ use Rattle.scheme.specs.Weight.{weight}
 use Rattle.scheme.specs.Correction.{gift, share, correction, backedBy}
 use Rattle.scheme.specs.Smoothing.{patternRow, patternSum, inner, smoothed}
 use Rattle.scheme.specs.Scan.{start, rowsJudged, sumsAt, corrected, scan, afterWithin, after, atEnd, Analysis, analysis}
-use Rattle.scheme.specs.Reach.{Tile, windowOf, wholeAt}
+use Rattle.scheme.specs.Reach.{Tile, windowOf, wholeAt, wholeAtEach}
 use Rattle.scheme.specs.Calls.{callFor}
-use Rattle.scheme.specs.Promises.{slices, tile}
+use Rattle.scheme.specs.Promises.{slices, tile, fourColumns}
 use Rattle.scheme.specs.Text.{requestLines, firstTwo, analysisText, replyText, answerText}
 use Rattle.scheme.specs.Text.Pieces.{ascii, word, digits, positive, natural, between, count, unsigned, negative, signed, values}
 use Rattle.scheme.specs.Text.Lines.{number, gridLine, scanLine, rowLine, observation, end, stationLine}
@@ -110,6 +110,13 @@ cornerTwice = tile (pos 577 ∷ pos 672 ∷ pos 672 ∷ pos 767 ∷ []) (3 ∷ 3
 abbrev pub cornerSmooth : Tile
 cornerSmooth = tile (pos 578 ∷ pos 687 ∷ pos 687 ∷ pos 752 ∷ []) (3 ∷ 3 ∷ 3 ∷ 3 ∷ [])
 
+-- three blocks on a screen, the last two of which share points with others
+abbrev pub blocks : Screen
+blocks = fourColumns (0 ∷ 1 ∷ 0 ∷ []) (1 ∷ 2 ∷ 0 ∷ []) (1 ∷ 0 ∷ 0 ∷ []) (1 ∷ 1 ∷ 0 ∷ [])
+
+abbrev pub blocksOnce : Tile
+blocksOnce = tile (pos 672 ∷ pos 759 ∷ pos 672 ∷ pos 768 ∷ pos 759 ∷ pos 768 ∷ pos 585 ∷ []) (1 ∷ 1 ∷ 1 ∷ 1 ∷ 1 ∷ 1 ∷ 1 ∷ [])
+
 abbrev pub onceAnswer : List ℕ
 onceAnswer =
     ascii "refusal=0\nplace=0\n"
@@ -144,6 +151,10 @@ example-analysis = (refl, refl, refl)
 pub example-window : (wholeAt (example 1 false) corner ≡ cornerOnce) × (wholeAt (example 2 false) corner ≡ cornerTwice) × (wholeAt (example 2 true) corner ≡ cornerSmooth)
 unfolding wholeAt windowOf stored tab afterWithin scan start rowsJudged sumsAt corrected smoothed patternSum patternRow inner upTo guess fieldOf R E beforeScans firstThatFits isMissing outOfService serves offGrid nearAxis judged afterTest difference valueAt place sumAt cell corners rounded total share gift weight correction backedBy
 example-window = (refl, refl, refl)
+
+pub example-screen : (screenRefusal (callFor (example 1 false)) blocks 7 7 ≡ accepted) × (wholeAtEach (example 1 false) (windowsOf blocks) ≡ blocksOnce)
+unfolding screenRefusal fromFive inOrder refusedWith refusedAt first firstFrom orNext badShape badWindow badScreen badLengths badColumns badScans badScan rising badGuess badStation stationsOf stationAt windowsOf total wholeAt windowOf stored tab afterWithin scan start rowsJudged sumsAt corrected smoothed patternSum patternRow inner upTo guess fieldOf R E beforeScans firstThatFits isMissing outOfService serves offGrid nearAxis judged afterTest difference valueAt place sumAt cell corners rounded share gift weight correction backedBy
+example-screen = (refl, refl)
 
 -- what the cheats would leave
 pub example-first-scan : stored 3 3 (after (example 2 false) 1 .field) ≡ once .grid

@@ -9,11 +9,11 @@ use Rattle.scheme.specs.declared.Reading.{Reading}
 use Rattle.scheme.specs.declared.Reading.the-variants.{Backed, FirstGuess, OffGrid, Refused}
 use Rattle.scheme.specs.declared.Summary.{Summary}
 use Rattle.scheme.specs.Units.{Call}
-use Rattle.scheme.specs.Refusals.{Window}
+use Rattle.scheme.specs.Refusals.{Window, Screen}
 use Rattle.scheme.specs.Scan.{Analysis}
 use Rattle.scheme.specs.Reach.{Tile}
 use Rattle.scheme.specs.Readings.{numbersOf}
-use Rattle.scheme.specs.Promises.{Promised, Analyses, Queries, Reads, ReadsKind, ReadsValue, Summarises, Replies}
+use Rattle.scheme.specs.Promises.{Promised, Analyses, Queries, QueriesEach, Reads, ReadsKind, ReadsValue, Summarises, Replies}
 
 -- what every promise has in common
 pub one-outcome : {O : Type 0} {right outcome outcome' : O} → Promised right outcome → Promised right outcome' → outcome ≡ outcome'
@@ -52,6 +52,10 @@ analysis-has-one-outcome c found answer answer' left left' = one-outcome
 pub window-has-one-outcome : (c : Call) (w : Window) (found : Tile) (answer answer' : ℕ) (left left' : Tile)
     → Queries c w found answer left → Queries c w found answer' left' → _≡_ {A = ℕ × Tile} (answer, left) (answer', left')
 window-has-one-outcome c w found answer answer' left left' = one-outcome
+
+pub screen-has-one-outcome : (c : Call) (s : Screen) (found : Tile) (answer answer' : ℕ) (left left' : Tile)
+    → QueriesEach c s found answer left → QueriesEach c s found answer' left' → _≡_ {A = ℕ × Tile} (answer, left) (answer', left')
+screen-has-one-outcome c s found answer answer' left left' = one-outcome
 
 module _ (nx ny : ℕ) (field : List ℤ) where
   module _ (support : List ℕ) (x y : ℤ) where

@@ -8,19 +8,24 @@ use mathlib.Core.List.{List, [], _∷_}
 use lib.Arith.{digits-div, digits-mod}
 use lib.ListN.{length, getD}
 use lib.IntN.{pos}
+use Rattle.lists.specs.Tab.{length-tab}
 use Rattle.lists.specs.First.{first, firstIn, Search, all-good, bad-at, search, in-places}
 use Rattle.scheme.specs.Units.{mostStations, Request, Call, asked}
-use Rattle.scheme.specs.Refusals.{Refusal, numberOf, placeOf, asOne, inOrder, refusedIf, refusedWith, refusedAt, badShape, Window, badWindow, badColumns, badScans, badGuess, badStation, fromFive, analysisRefusal, windowRefusal}
-use Rattle.scheme.specs.Accepted.{Shaped, shaped, equal, scans-fit, noStation, rows-of}
+use Rattle.scheme.specs.Refusals.{Refusal, numberOf, placeOf, asOne, inOrder, refusedIf, refusedWith, refusedAt, badShape, Window, badWindow, mostWindows, Screen, windowOn, windowsOf, badScreen, badColumns, badScans, badGuess, badStation, fromFive, analysisRefusal, windowRefusal, screenRefusal}
+use Rattle.scheme.specs.Accepted.{Shaped, shaped, equal, scans-fit, noStation, rows-of, equal-screen}
 
 abbrev Small : Refusal → Type 0
 Small r = placeOf r < 65536
 
--- a test with place 0, and what follows if it does not refuse
-small-if : (number : ℕ) (bad : Bool) (rest : List Refusal) → (bad ≡ false → Small (inOrder rest)) → Small (inOrder (refusedIf number bad ∷ rest))
+-- a test with one place, and what follows if it does not refuse
+small-with : (number place : ℕ) (bad : Bool) (rest : List Refusal) → place < 65536 → (bad ≡ false → Small (inOrder rest))
+    → Small (inOrder (refusedWith number place bad ∷ rest))
 unfolding inOrder refusedWith
-small-if number true rest h = omega arith
-small-if number false rest h = h refl
+small-with number place true rest few h = few
+small-with number place false rest few h = h refl
+
+small-if : (number : ℕ) (bad : Bool) (rest : List Refusal) → (bad ≡ false → Small (inOrder rest)) → Small (inOrder (refusedIf number bad ∷ rest))
+small-if number bad rest h = small-with number 0 bad rest (omega arith) h
 
 -- a test of n places
 small-at : (number n : ℕ) (bad : ℕ → Bool) (rest : List Refusal) → n ≤ 65536 → Small (inOrder rest) → Small (inOrder (refusedAt number (first n bad) ∷ rest))
@@ -70,8 +75,18 @@ window-small c w grid support =
     small-if 1 (badShape (c .nx) (c .ny) (length (c .firstGuess))) _ (λ one. small-if 2 (badWindow (c .nx) (c .ny) w) _ (λ two.
     small-if 3 _ _ (λ three. small-from-four c (shaped _ _ _ one))))
 
+screen-small : (c : Call) (s : Screen) (grid support : ℕ) → Small (screenRefusal c s grid support)
+unfolding screenRefusal windowsOf
+screen-small c s grid support =
+    small-if 1 (badShape (c .nx) (c .ny) (length (c .firstGuess))) _ (λ one. small-with 2 mostWindows (badScreen s) _ (omega arith) (λ two.
+    small-in 2 (badWindow (c .nx) (c .ny)) (windowOn s 0) (windowsOf s) _ (omega (arith, length-tab (length (s .left)) (windowOn s), equal-screen s two .few))
+    (small-if 3 _ _ (λ three. small-from-four c (shaped _ _ _ one)))))
+
 pub analysis-tells-refusal-and-place : (c : Call) (grid support verdict : ℕ) → Tells (analysisRefusal c grid support verdict)
 analysis-tells-refusal-and-place c grid support verdict = told (analysisRefusal c grid support verdict) (analysis-small c grid support verdict)
 
 pub window-tells-refusal-and-place : (c : Call) (w : Window) (grid support : ℕ) → Tells (windowRefusal c w grid support)
 window-tells-refusal-and-place c w grid support = told (windowRefusal c w grid support) (window-small c w grid support)
+
+pub screen-tells-refusal-and-place : (c : Call) (s : Screen) (grid support : ℕ) → Tells (screenRefusal c s grid support)
+screen-tells-refusal-and-place c s grid support = told (screenRefusal c s grid support) (screen-small c s grid support)

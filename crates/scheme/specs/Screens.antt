@@ -4,7 +4,7 @@ use native.Mathlib.Omega.{arith}
 use mathlib.Core.Path.{_≡_, refl, sym, ap, ap₂, _∙_}
 use mathlib.Core.Logic.{_⊎_, inl, inr, _↔_}
 use mathlib.Core.Bool.{Bool, true, false, cond}
-use mathlib.Core.List.{List, [], _∷_, _++_, map}
+use mathlib.Core.List.{List, [], _∷_, _++_, append-nil, map}
 use borrow.Author.Tests.{eq-eqb}
 use lib.Dec.{eqb}
 use lib.ListN.{length, length-map}
@@ -15,9 +15,9 @@ use Rattle.lists.specs.Turns.{joinTo, join-tab}
 use Rattle.lists.specs.First.{Found, nowhere, at, firstFrom, firstIn, first-map, first-same-tests}
 use Rattle.lists.specs.Members.{All, none, more, all-below, all-at}
 use Rattle.scheme.specs.Units.{Call, asked}
-use Rattle.scheme.specs.Refusals.{Refusal, accepted, refused, numberOf, asOne, unlessRefused, inOrder, refusedIf, refusedWith, refusedAt, badShape, Window, badWindow, Screen, windowOn, windowsOf, badScreen, pointsOf, pointsOfAll, badLengths, badColumns, badScans, fromFive, analysisRefusal, windowRefusal, screenRefusal}
+use Rattle.scheme.specs.Refusals.{Refusal, accepted, refused, numberOf, asOne, unlessRefused, inOrder, refusedIf, refusedWith, refusedAt, badShape, Window, badWindow, Screen, windowAt, windowOn, windowsOf, badScreen, pointsOf, pointsOfAll, badLengths, badColumns, badScans, fromFive, analysisRefusal, windowRefusal, screenRefusal}
 use Rattle.scheme.specs.Reach.{Tile, wholeAt, wholeAtEach}
-use Rattle.scheme.specs.Promises.{tile, Queries, QueriesEach}
+use Rattle.scheme.specs.Promises.{tile, Queries, fourColumns, QueriesEach}
 use Rattle.scheme.specs.Accepted.{all-accepted, FitsWindow, FitsScreen, lengths-good}
 
 -- ---- what a screen is refused with, by what its single queries are refused with
@@ -186,6 +186,37 @@ module _ (c : Call) where
         go : (b : Bool) → inOrder (cond b (refused 1 0) accepted ∷ accepted ∷ accepted ∷ accepted ∷ fromFour c) ≡ inOrder (cond b (refused 1 0) accepted ∷ accepted ∷ fromFour c)
         go true = refl
         go false = refl
+
+-- a screen of one window is the single query
+abbrev pub alone : (left right top bottom : ℕ) → Screen
+alone left right top bottom = fourColumns (left ∷ []) (right ∷ []) (top ∷ []) (bottom ∷ [])
+
+module _ (c : Call) (left right top bottom : ℕ) where
+  abbrev window : Window
+  window = windowAt left right top bottom
+
+  one-refused : (grid support : ℕ) → screenRefusal c (alone left right top bottom) grid support ≡ windowRefusal c window grid support
+  unfolding screenRefusal windowRefusal inOrder refusedWith refusedAt windowsOf tab badScreen firstFrom total
+  one-refused grid support = go (badShape (c .nx) (c .ny) (length (c .firstGuess))) (badWindow (c .nx) (c .ny) window)
+    where
+      go : (a b : Bool)
+          → inOrder (refusedIf 1 a ∷ accepted ∷ refusedAt 2 (cond b (at 0) nowhere) ∷ refusedIf 3 (badLengths (pointsOf window + 0) grid support) ∷ fromFour c)
+          ≡ inOrder (refusedIf 1 a ∷ refusedIf 2 b ∷ refusedIf 3 (badLengths (pointsOf window) grid support) ∷ fromFour c)
+      go true b = refl
+      go false true = refl
+      go false false = let e : pointsOf window + 0 ≡ pointsOf window = omega arith in rw e
+
+  one-answers : wholeAtEach (asked c) (windowsOf (alone left right top bottom)) ≡ wholeAt (asked c) window
+  unfolding windowsOf tab total
+  one-answers = ap₂ tile (append-nil (wholeAt (asked c) window .grid)) (append-nil (wholeAt (asked c) window .support))
+
+  pub screen-of-one-window-is-the-query : (found : Tile) (answer : ℕ) (left' : Tile)
+      → QueriesEach c (alone left right top bottom) found answer left' ↔ Queries c window found answer left'
+  screen-of-one-window-is-the-query found answer left' =
+      let r = one-refused (length (found .grid)) (length (found .support)) in (
+        λ p. p ∙ ap₂ (λ (r : Refusal) (t : Tile). (asOne r, unlessRefused r t found)) r one-answers,
+        λ p. p ∙ sym (ap₂ (λ (r : Refusal) (t : Tile). (asOne r, unlessRefused r t found)) r one-answers),
+      )
 
 -- ---- and the answers: the outcomes of the single queries, each with results as long as its window
 

@@ -3,8 +3,8 @@
 use Prim.Native.Nat.{ℕ, suc, _+_, _-_, _*_, _/_, _%_, _^_, _≤_, _<_}
 use mathlib.Core.Path.{_≡_}
 use mathlib.Core.Logic.{_⊎_, _↔_}
-use mathlib.Core.Bool.{true, false, cond, _&&_}
-use mathlib.Core.List.{List, [], _∷_}
+use mathlib.Core.Bool.{Bool, true, false, cond, _&&_}
+use mathlib.Core.List.{List, [], _∷_, _++_, map}
 use lib.Dec.{eqb}
 use lib.ListN.{length, getD}
 use lib.IntN.{ℤ, pos, natAbs, _-ℤ_, _*ℤ_}
@@ -14,6 +14,7 @@ use lib.Ieee.Exact.{HasValue}
 use mir.Syntax.{w32}
 use mir.Val.{SFits}
 use Rattle.lists.specs.Tab.{tab}
+use Rattle.lists.specs.First.{firstIn}
 use Rattle.lists.specs.Members.{All, Some}
 use Rattle.lists.specs.Keep.{keep}
 use Rattle.lists.specs.Parted.{rank}
@@ -21,7 +22,7 @@ use Rattle.lists.specs.Sums.{upTo}
 use Rattle.scheme.specs.declared.Reading.{Reading}
 use Rattle.scheme.specs.declared.Summary.{Summary}
 use Rattle.scheme.specs.Units.{isMissing, stored, fieldOf, step, Station, mostBeyond, Plan, R, E, Request, guess, Call, asked, withStations, asking}
-use Rattle.scheme.specs.Refusals.{accepted, numberOf, placeOf, asOne, badShape, Window, badWindow, fromFive, analysisRefusal, windowRefusal}
+use Rattle.scheme.specs.Refusals.{Refusal, accepted, refused, numberOf, placeOf, asOne, inOrder, refusedAt, badShape, Window, badWindow, Screen, windowAt, windowOn, windowsOf, badScreen, pointsOf, pointsOfAll, fromFive, analysisRefusal, windowRefusal, screenRefusal}
 use Rattle.scheme.specs.Verdicts.{serves, onGrid, offGrid, isAccepted, beforeScans}
 use Rattle.scheme.specs.Rounding.{rounded}
 use Rattle.scheme.specs.Value.{place, sumAt, valueAt}
@@ -34,7 +35,8 @@ use Rattle.scheme.specs.Readings.{double, positiveZero, reading, valueOf
 use Rattle.scheme.specs.Text.{requestLines, analysisText}
 use Rattle.scheme.specs.Text.Reader.{reads}
 use Rattle.scheme.specs.Text.Pieces.{ascii}
-use Rattle.scheme.specs.Promises.{Analyses, Queries, Reads, ReadsKind, ReadsValue, Summarises, Replies}
+use Rattle.scheme.specs.Promises.{Analyses, tile, Queries, fourColumns, QueriesEach, Reads, ReadsKind, ReadsValue, Summarises, Replies}
+use Rattle.scheme.specs.Accepted.{FitsScreen}
 use Rattle.scheme.specs.Calls.{callFor, asks}
 use Rattle.scheme.specs.OneOutcome as outcomes
 use Rattle.scheme.specs.Places as places
@@ -55,6 +57,8 @@ use Rattle.scheme.specs.Gathered.{isKept, Twin}
 use Rattle.scheme.specs.Locality as locality
 use Rattle.scheme.specs.Locality.{Runs, Alike}
 use Rattle.scheme.specs.Windows as windows
+use Rattle.scheme.specs.Screens as screens
+use Rattle.scheme.specs.Screens.{ofSingles}
 use Rattle.scheme.specs.Exact as exactness
 use Rattle.scheme.specs.Exact.{negative, ReadsExactly, ExactUnits, IsZero, ZerosPositive}
 use Rattle.scheme.specs.AnswerSize as size
@@ -78,6 +82,10 @@ analysis-has-one-outcome = outcomes.analysis-has-one-outcome
 pub window-has-one-outcome : (c : Call) (w : Window) (found : Tile) (answer answer' : ℕ) (left left' : Tile)
     → Queries c w found answer left → Queries c w found answer' left' → _≡_ {A = ℕ × Tile} (answer, left) (answer', left')
 window-has-one-outcome = outcomes.window-has-one-outcome
+
+pub screen-has-one-outcome : (c : Call) (s : Screen) (found : Tile) (answer answer' : ℕ) (left left' : Tile)
+    → QueriesEach c s found answer left → QueriesEach c s found answer' left' → _≡_ {A = ℕ × Tile} (answer, left) (answer', left')
+screen-has-one-outcome = outcomes.screen-has-one-outcome
 
 module _ (nx ny : ℕ) (field : List ℤ) (support : List ℕ) (x y : ℤ) where
   pub reading-has-one-outcome : (answer answer' : Reading) → Reads nx ny field support x y answer → Reads nx ny field support x y answer' → answer ≡ answer'
@@ -104,6 +112,10 @@ analysis-tells-refusal-and-place = places.analysis-tells-refusal-and-place
 pub window-tells-refusal-and-place : (c : Call) (w : Window) (grid support : ℕ)
     → (let r = windowRefusal c w grid support in (asOne r / 65536 ≡ numberOf r) × (asOne r % 65536 ≡ placeOf r))
 window-tells-refusal-and-place = places.window-tells-refusal-and-place
+
+pub screen-tells-refusal-and-place : (c : Call) (s : Screen) (grid support : ℕ)
+    → (let r = screenRefusal c s grid support in (asOne r / 65536 ≡ numberOf r) × (asOne r % 65536 ≡ placeOf r))
+screen-tells-refusal-and-place = places.screen-tells-refusal-and-place
 
 -- ---- DEMAND 2: what is not accepted has no weight from then on
 
@@ -207,6 +219,64 @@ module _ (S : Scheme) (across down : Side) (both : Runs S across down) where
       → isKept S across down (S .station (getD (both .whole .rows m) k o)) ≡ true
       → Twin S across down (step * ρ) (getD (both .whole .rows m) k o) (getD (both .part .rows m) (rank (isKept S across down) (both .stations) k) o')
   twin-row = locality.twin-row S across down both
+
+-- ---- a screen of windows, beside the single queries of its windows, each with results as long as the window
+
+module _ (c : Call) where
+  abbrev alone : Window → Refusal
+  alone w = windowRefusal c w (pointsOf w) (pointsOf w)
+
+  -- refused for its window
+  abbrev two : Refusal → Bool
+  two r = eqb (numberOf r) 2
+
+  -- those that are not, are refused alike
+  pub singles-are-refused-alike : (w v : Window) → two (alone w) ≡ false → two (alone v) ≡ false → alone w ≡ alone v
+  singles-are-refused-alike = screens.singles-are-refused-alike c
+
+  module _ (s : Screen) (equal : badScreen s ≡ false) where
+    abbrev n : ℕ
+    n = length (s .left)
+
+    -- 2 names the first that is refused for its window, by its index; or else it is as the first that is refused
+    abbrev inTheirOrder : Refusal
+    inTheirOrder = inOrder (refusedAt 2 (firstIn two (map alone (windowsOf s))) ∷ map alone (windowsOf s))
+
+    pub screen-is-refused-as-its-windows : 0 < length (windowsOf s) → screenRefusal c s (pointsOfAll (windowsOf s)) (pointsOfAll (windowsOf s)) ≡ inTheirOrder
+    unfolding ofSingles
+    screen-is-refused-as-its-windows = screens.screen-is-refused-as-its-windows c s equal
+
+    pub screen-of-no-windows-is-tested-like-the-whole : length (windowsOf s) ≡ 0
+        → screenRefusal c s 0 0 ≡ analysisRefusal c (c .nx * c .ny) (c .nx * c .ny) (length (c .stations .x))
+    screen-of-no-windows-is-tested-like-the-whole = screens.screen-of-no-windows-is-tested-like-the-whole c s equal
+
+    -- an outcome of the screen, and one of each single query
+    module _ (some : 0 < n) (found : Tile) (long : (length (found .grid) ≡ pointsOfAll (windowsOf s)) × (length (found .support) ≡ pointsOfAll (windowsOf s)))
+        (answer : ℕ) (left : Tile) (asked-each : QueriesEach c s found answer left) (found' : ℕ → Tile) (answer' : ℕ → ℕ) (left' : ℕ → Tile)
+        (long' : (k : ℕ) → k < n → (length (found' k .grid) ≡ pointsOf (windowOn s k)) × (length (found' k .support) ≡ pointsOf (windowOn s k)))
+        (asked-alone : (k : ℕ) → k < n → Queries c (windowOn s k) (found' k) (answer' k) (left' k)) where
+      pub screen-answers-as-its-windows : (answer ≡ asOne inTheirOrder) × ((k : ℕ) → k < n → answer' k ≡ asOne (alone (windowOn s k)))
+          × ((inTheirOrder ≡ accepted) ↔ ((k : ℕ) → k < n → alone (windowOn s k) ≡ accepted))
+          × (inTheirOrder ≡ accepted → left ≡ tile (upTo [] _++_ n (λ k. left' k .grid)) (upTo [] _++_ n (λ k. left' k .support)))
+          × ((number place : ℕ) → inTheirOrder ≡ refused number place → left ≡ found)
+      unfolding ofSingles
+      screen-answers-as-its-windows =
+          let fits : FitsScreen (windowsOf s) (length (found .grid)) (length (found .support)) = record { grid-long = long .0; support-long = long .1 } in
+          let each : screens.Singly c s =
+          record {
+            found = found';
+            answer = answer';
+            left = left';
+            fits = λ k h. record { grid-long = long' k h .0; support-long = long' k h .1 };
+            queries = asked-alone;
+          }
+          in
+          let a = screens.screen-answers-as-its-windows c s equal some found fits answer left asked-each each in
+          (a .refusal, a .their-refusals, a .accepted-where-all-are, a .leaves-in-turn, a .or-writes-nothing)
+
+  pub screen-of-one-window-is-the-query : (left right top bottom : ℕ) (found : Tile) (answer : ℕ) (left' : Tile)
+      → QueriesEach c (fourColumns (left ∷ []) (right ∷ []) (top ∷ []) (bottom ∷ [])) found answer left' ↔ Queries c (windowAt left right top bottom) found answer left'
+  screen-of-one-window-is-the-query = screens.screen-of-one-window-is-the-query c
 
 -- ---- one scan
 
