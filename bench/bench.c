@@ -522,7 +522,7 @@ static void run_screen_case(const char *what, const struct arrangement *arrangem
     else if (strcmp(what, "cuts") == 0)
         print_cuts();
     else if (strcmp(what, "stack") == 0)
-        measure_stack(run_screen, SOSNYAVIK_STACK_WINDOW);
+        measure_stack(run_screen, SOSNYAVIK_STACK_WINDOWS);
     else
         complain("nothing is done with a screen by", what);
 }
