@@ -1,5 +1,5 @@
 -- A screen of windows and the single queries of its windows, in order: they answer the same, refusals included (document 02, 2).
-use Prim.Native.Nat.{ℕ, zero, suc, _+_, _*_, _≤_, _<_}
+use Prim.Native.Nat.{ℕ, suc, _+_, _*_, _<_}
 use native.Mathlib.Omega.{arith}
 use mathlib.Core.Path.{_≡_, refl, sym, ap, ap₂, _∙_}
 use mathlib.Core.Logic.{_⊎_, inl, inr, _↔_}
@@ -15,7 +15,7 @@ use Rattle.lists.specs.Turns.{joinTo, join-tab}
 use Rattle.lists.specs.First.{Found, nowhere, at, firstFrom, firstIn, first-map, first-same-tests}
 use Rattle.lists.specs.Members.{All, none, more, all-below, all-at}
 use Rattle.scheme.specs.Units.{Call, asked}
-use Rattle.scheme.specs.Refusals.{Refusal, accepted, refused, numberOf, asOne, unlessRefused, inOrder, refusedIf, refusedWith, refusedAt, badShape, Window, badWindow, Screen, windowAt, windowOn, windowsOf, badScreen, pointsOf, pointsOfAll, badLengths, badColumns, badScans, fromFive, analysisRefusal, windowRefusal, screenRefusal}
+use Rattle.scheme.specs.Refusals.{Refusal, accepted, refused, numberOf, asOne, unlessRefused, inOrder, refusedIf, refusedWith, refusedAt, badShape, Window, badWindow, Screen, windowAt, windowOn, windowsOf, badScreen, pointsOf, pointsOfAll, badLengths, badColumns, fromFive, analysisRefusal, windowRefusal, screenRefusal}
 use Rattle.scheme.specs.Reach.{Tile, wholeAt, wholeAtEach}
 use Rattle.scheme.specs.Promises.{tile, Queries, fourColumns, QueriesEach}
 use Rattle.scheme.specs.Accepted.{all-accepted, FitsWindow, FitsScreen, lengths-good}

@@ -1,10 +1,9 @@
 -- `refusal_shapes::points_of_all` meets its contract. The loop's invariant: the sum is that of the windows passed. Assumes nothing.
-use Prim.Native.Nat.{ℕ, _+_, _-_, _*_, _≤_}
+use Prim.Native.Nat.{ℕ, _+_, _-_, _≤_}
 use native.Mathlib.Omega.{arith}
 use mathlib.Core.Path.{_≡_, refl, sym, ap, ap₂, _∙_}
 use Rattle.lists.specs.Sums.{upTo, upTo-next}
 use Rattle.lists.specs.Turns.{sumTo, sum-tab, sum-most}
-use Rattle.scheme.specs.Units.{mostSide}
 use Rattle.scheme.specs.Refusals.{pointsOf}
 use Rattle.scheme.specs.Most.{mostPoints}
 use Rattle.scheme.specs.Accepted.{few-points}

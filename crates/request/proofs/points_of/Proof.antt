@@ -4,8 +4,6 @@ use borrow.Author.Needs.{needs}
 use Rattle.scheme.specs.Accepted.{few-points}
 use Rattle.request.proofs.points_of.Statement.{statement}
 use Rattle.request.proofs.points_of.Tie as tie
-use Rattle.request.proofs.points_of.Reads as reads
-use Rattle.request.proofs.points_of.Lts as lts
 
 sub-result : tie.Need-sub-result
 sub-result c = search needs

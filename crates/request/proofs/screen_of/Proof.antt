@@ -1,16 +1,14 @@
 -- `request::screen_of` meets its contract. The loop's invariant: the windows passed have the columns' ends. Assumes nothing.
-use Prim.Native.Nat.{ℕ, _+_, _-_, _≤_}
+use Prim.Native.Nat.{_+_, _-_, _≤_}
 use native.Mathlib.Omega.{arith}
 use mathlib.Core.Path.{_≡_, refl}
-use lib.ListN.{length, getD}
+use lib.ListN.{length}
 use mir.Facts.{fits-widen}
 use Rattle.lists.specs.Filled.{Filled, filled-none, filled-set}
 use Rattle.request.specs.Tables.{noEnds}
 use Rattle.request.specs.Loaded.{endsAt, windows-loaded}
 use Rattle.request.proofs.screen_of.Statement.{statement}
 use Rattle.request.proofs.screen_of.Tie as tie
-use Rattle.request.proofs.screen_of.Reads as reads
-use Rattle.request.proofs.screen_of.Lts as lts
 
 abbrev Inv-loop : tie.InvT-loop
 Inv-loop left right top bottom windows₀ k₀ windows k = (k ≤ length left) × Filled noEnds (endsAt left right top bottom) 0 k windows₀ windows

@@ -2,9 +2,8 @@
 use Prim.Native.Nat.{ℕ, _+_, _-_, _*_, _≤_}
 use native.Mathlib.Omega.{arith}
 use native.Mathlib.Nat.{le-trans}
-use borrow.Author.Needs.{needs}
-use mathlib.Core.Path.{_≡_, refl, sym, ap, _∙_}
-use lib.ListN.{length, take, drop}
+use mathlib.Core.Path.{_≡_, _∙_}
+use lib.ListN.{length}
 use Rattle.scheme.specs.Refusals.{mostWindows, pointsOf}
 use Rattle.scheme.specs.Most.{mostPoints}
 use Rattle.scheme.specs.Accepted.{wider}
@@ -14,10 +13,6 @@ use Rattle.window_tile.specs.Query.{tileFrom, tile-long}
 use Rattle.window_tile.specs.Turn.{all-few, Turned, turned-none, enough, in-grid, in-support, its-part, turned-more, turned-all}
 use Rattle.window_tile.proofs.tiles_of.Statement.{statement}
 use Rattle.window_tile.proofs.tiles_of.Tie as tie
-use Rattle.window_tile.proofs.tiles_of.Reads as reads
-use Rattle.window_tile.proofs.tiles_of.Lts as lts
-use Rattle.request.proofs.points_of.Reads as points-of-reads
-use Rattle.window_tile.proofs.tile_of.Reads as tile-of-reads
 
 abbrev Inv-loop : tie.InvT-loop
 Inv-loop t values bits grid₀ support₀ screen at₀ k₀ grid support at k = (k ≤ screen .count) × Turned (tileFrom (t .nx) values bits) (tile-long (t .nx) values bits) screen (length grid₀) (length support₀) k at grid support
