@@ -25,7 +25,7 @@ abbrev pub placeOf : Refusal → ℕ
 placeOf accepted = 0
 placeOf (refused number place) = place
 
--- Analysis and window query return refusal·65,536 + place as one u32
+-- Analysis, window query and screen return refusal·65,536 + place as one u32
 abbrev pub asOne : Refusal → ℕ
 asOne r = numberOf r * 65536 + placeOf r
 
@@ -165,7 +165,7 @@ analysisRefusal c grid support verdict =
     ∷ refusedIf 4 (badColumns (c .stations))
     ∷ fromFive (asked c))
 
--- Only a window query gives 2
+-- Only the window query and a screen give 2
 unfoldable pub windowRefusal : Call → Window → (grid support : ℕ) → Refusal
 windowRefusal c w grid support =
     inOrder
