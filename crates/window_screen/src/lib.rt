@@ -19,8 +19,8 @@ fn points_of_cuts(t: request::Terms, screen: request::Screen) -> usize
     let mut points: usize = 0;
     let mut k: usize = 0;
     while k < screen.count {
-        let w = screen.windows[k];
-        points += request::points_of(window_spans::widened(reach, t.nx, t.ny, w));
+        let cut = window_spans::widened(reach, t.nx, t.ny, screen.windows[k]);
+        points += request::points_of(cut);
         k += 1;
     }
     points

@@ -26,11 +26,11 @@ loop-holds : tie.Need-loop-holds Inv-loop μ-loop
 unfolding upTo
 loop-holds c = (omega arith, refl)
 
-mul-w : tie.Need-mul-w Inv-loop μ-loop
-mul-w c = omega (arith, c .before .before .before .pre .2 .few)
+mul-widened : tie.Need-mul-widened Inv-loop μ-loop
+mul-widened c = omega (arith, c .before .before .before .pre .2 .few)
 
-element-copy-out-w : tie.Need-element-copy-out-w Inv-loop μ-loop
-element-copy-out-w c = omega (arith, c .before .before .before .pre .2 .few)
+element-copy-out-widened : tie.Need-element-copy-out-widened Inv-loop μ-loop
+element-copy-out-widened c = omega (arith, c .before .before .before .pre .2 .few)
 
 -- in a turn: the window, and its cut
 module _ (c : tie.In-loop Inv-loop μ-loop) where
@@ -102,8 +102,8 @@ points-of-cuts-spec =
     μ-loop
     reach-requires
     loop-holds
-    mul-w
-    element-copy-out-w
+    mul-widened
+    element-copy-out-widened
     widened-requires
     points-of-requires
     add-points
