@@ -162,8 +162,8 @@ static size_t try_largest_screen(void) {
     return 1;
 }
 
-/* With three scans the cuts of a few windows have more points than the grid. With the last of these scans alone those
- * of fifteen have fewer. */
+/* With three scans the cuts of a few windows have more points than the grid. With one scan of R = 64 and no smoothing
+ * those of fifteen have fewer. */
 void try_screens(void) {
     struct evening evening = make_evening(NX, NY, MASTS);
     size_t shown = try_screens_of(&evening);

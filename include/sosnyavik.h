@@ -33,7 +33,7 @@ extern "C" {
 ** when a call takes other arguments than before, and a program must be compiled
 ** anew. The second rises with a new call, the third with anything else.
 */
-#define SOSNYAVIK_VERSION "0.2.0" /* 2026-11-15 */
+#define SOSNYAVIK_VERSION "0.2.0" /* 2026-11-16 */
 
 /*
 ** MARKS
@@ -511,8 +511,9 @@ struct sosnyavik_summary sosnyavik_summarise(
 /*
 ** A REQUEST BY NAME
 **
-** In a row of thirty arguments two columns are soon exchanged. So a request is
-** a struct too: each column stands under its own name, beside its own length.
+** In a row of thirty arguments and more two columns are soon exchanged. So a
+** request is a struct too: each column stands under its own name, beside its own
+** length.
 ** What is said above of an argument holds of the member of its name. For each
 ** call sosnyavik_NAME there is sosnyavik_request_NAME, which hands the members
 ** on as they are and adds nothing. The example, its window and its screen once

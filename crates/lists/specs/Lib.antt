@@ -1,4 +1,4 @@
--- Lists as loops make them: by a function of the index, summed, searched, filtered. Nothing here must be believed but the short
+-- Lists as loops make them: by a function of the index, summed, searched, filtered, part by part. Nothing here must be believed but the short
 -- definitions tab, total, upTo, first, firstIn and keep, which the scheme cites, and rank, which demand 3 is stated by.
 pub mod Tests
 pub mod Tab

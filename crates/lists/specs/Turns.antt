@@ -41,11 +41,6 @@ sum-room (suc n) k f h = go (lt-or-le k n) (sum-room n k f)
     go (inl p) r = omega (arith, r p)
     go (inr p) r = let e : k ≡ n = omega arith in rw e (omega arith)
 
-pub join-long : {A : Type 0} (n : ℕ) (f : ℕ → List A) (long : ℕ → ℕ) → ((k : ℕ) → k < n → length (f k) ≡ long k) → length (joinTo n f) ≡ sumTo n long
-unfolding upTo
-join-long zero f long h = refl
-join-long (suc n) f long h = simp length-append (omega (arith, join-long n f long (λ k l. h k (omega arith)), h n (omega arith)))
-
 -- ---- a slice of so many elements whose first ones are written, and are xs
 
 pub record Written {A : Type 0} (long : ℕ) (xs : List A) (at : ℕ) (l : List A) : Type 0 where

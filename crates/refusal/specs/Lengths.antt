@@ -49,7 +49,7 @@ screenLengths l ws grid support =
     ∷ refusedIf 3 (badLengths (pointsOfAll ws) grid support)
     ∷ fourAndFive l
 
--- ---- a call that passes the rows which both calls have
+-- ---- a call that passes the rows which all calls have
 
 pub record Handed (c : Call) : Type 0 where
   pub shape : Shaped (c .nx) (c .ny) (length (c .firstGuess))

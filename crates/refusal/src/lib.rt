@@ -1,5 +1,5 @@
-// The refusal table (document 01): its rows in their order, and the first that refuses, with its place. Rows 1 to 5 are tested on what a
-// call is handed, before its columns are loaded; rows 6 to 8 search the request that was loaded.
+// The refusal table (documents 01 and 02): its rows in their order, and the first that refuses, with its place. Rows 1 to 5 are tested on what
+// a call is handed, before its station columns are loaded; rows 6 to 8 search the request that was loaded.
 ghost use mathlib.Core.Path.{_≡_};
 ghost use Prim.Native.Nat.{_+_, _*_, _≤_, _<_};
 ghost use Rattle.scheme.specs.Refusals.{inOrder, mostWindows};
@@ -77,7 +77,7 @@ pub fn of_screen_columns(
         return coded(1, 0);
     }
     if refusal_shapes::screen_bad(left, right, top, bottom) {
-        return coded(2, 16);
+        return coded(2, request::MOST_WINDOWS);
     }
     0
 }

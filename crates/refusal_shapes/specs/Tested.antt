@@ -1,4 +1,5 @@
--- The lengths of a call, and the tests of rows 4 and 5 as the code makes them, which on these are `badColumns` and `badScans`.
+-- The lengths of a call, and the tests of row 2 of a screen and of rows 4 and 5 as the code makes them, which on these are `badScreen`, `badColumns`
+-- and `badScans`.
 use Prim.Native.Nat.{ℕ}
 use mathlib.Core.Bool.{Bool, not, _||_}
 use lib.Dec.{ltb, eqb}

@@ -1,4 +1,4 @@
-// Rows 1 to 5 of the refusal table (document 01), whose place is 0: a test for each, on lengths and counts alone.
+// Rows 1 to 5 of the refusal table (documents 01 and 02): a test for each, on lengths, counts and the ends of windows. No column of stations is read.
 // Comparisons are joined by | and &, which make them all: there is no branch to prove, and each is the definition's.
 ghost use mathlib.Core.Path.{_≡_};
 ghost use mathlib.Core.Bool.{not, _||_, false};
@@ -81,7 +81,7 @@ pub fn window_bad(nx: usize, ny: usize, w: request::Window) -> bool
 pub fn screen_bad(left: usize, right: usize, top: usize, bottom: usize) -> bool
     ensures { λ r. ⌜ r ≡ unequalScreen left right top bottom ⌝ }
 {
-    (right != left) | (top != left) | (bottom != left) | (16 < left)
+    (right != left) | (top != left) | (bottom != left) | (request::MOST_WINDOWS < left)
 }
 
 // then its first bad window, or their count

@@ -1,4 +1,4 @@
--- The request as it is handed on: its terms, its first guess, and its stations as rows of two tables.
+-- The request as it is handed on: its terms, its first guess, and its stations as rows of two tables; and the windows of a screen.
 use Prim.Native.Nat.{ℕ, _≤_, _<_}
 use mathlib.Core.Path.{_≡_, sym, ap, _∙_}
 use mathlib.Core.List.{List, [], _++_}

@@ -1,5 +1,5 @@
-// A request as it is handed on: its terms in one struct, its stations as rows of two tables, numbers and minutes. Each column that a call
-// is lent is read here, once.
+// A request as it is handed on: its terms in one struct, its stations as rows of two tables, numbers and minutes; and a window, or the windows of a
+// screen. Each column that a call is lent is read here, once.
 ghost use mathlib.Core.Path.{_≡_};
 ghost use mathlib.Core.List.{[]};
 ghost use Prim.Native.Nat.{_≤_};
@@ -31,6 +31,9 @@ pub const UNTIL: usize = 2;
 pub const MISSING: i32 = -2147483648;
 
 pub const NO_END: u32 = 4294967295;
+
+// The most windows of a screen, and the place of a refusal for its columns.
+pub const MOST_WINDOWS: usize = 16;
 
 // All of a request but its first guess and its stations' rows. Entries of radius and limit past the count of scans are not read.
 pub struct Terms {

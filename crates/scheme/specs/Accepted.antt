@@ -288,7 +288,7 @@ on-grid nx ny w e =
     let (down, bottom) = on-axis ny (w .rows) b in
     record { across = across; down = down; right = right; bottom = bottom }
 
--- a grid is on the largest
+-- a window on the grid is on the largest grid
 pub wider : {nx ny len : ℕ} → Shaped nx ny len → {w : Window} → OnGrid nx ny w → OnGrid mostSide mostSide w
 wider shape on =
     record {

@@ -1,4 +1,4 @@
--- "Reach of a window": the reach, the cut, and the window's part of a field.
+-- "Reach of a window": the reach, the cut, and the window's part of a field; and the windows of a screen, one after the other.
 use Prim.Native.Nat.{ℕ, _+_, _-_, _*_, _/_, min}
 use mathlib.Core.Bool.{Bool, cond, _&&_}
 use mathlib.Core.List.{List, [], _++_, map}

@@ -164,23 +164,27 @@ module _ (c : Call) where
     abbrev points : ℕ
     points = pointsOfAll (windowsOf s)
 
+    long : length (windowsOf s) ≡ length (s .left)
+    unfolding windowsOf
+    long = length-tab (length (s .left)) (windowOn s)
+
     -- WHICH SINGLE QUERY IS REFUSED, AND WITH WHAT THE SCREEN THEN IS
-    pub screen-is-refused-as-its-windows : 0 < length (windowsOf s) → screenRefusal c s points points ≡ ofSingles (map (single c) (windowsOf s))
+    pub screen-is-refused-as-its-windows : 0 < length (s .left) → screenRefusal c s points points ≡ ofSingles (map (single c) (windowsOf s))
     unfolding screenRefusal inOrder refusedWith
     screen-is-refused-as-its-windows some = go (true-or-false (badShape (c .nx) (c .ny) (length (c .firstGuess))))
       where
         go : (badShape (c .nx) (c .ny) (length (c .firstGuess)) ≡ true) ⊎ (badShape (c .nx) (c .ny) (length (c .firstGuess)) ≡ false)
             → screenRefusal c s points points ≡ ofSingles (map (single c) (windowsOf s))
-        go (inl e) = rw (by-shape (windowsOf s) some e) (rw e)
-        go (inr e) = rw (by-windows (windowsOf s) some e) (rw (e, equal, lengths-good points points points refl refl) (past-accepted (firstIn (badWindow (c .nx) (c .ny)) (windowsOf s)) (fromFour c)))
+        go (inl e) = rw (by-shape (windowsOf s) (omega (arith, long)) e) (rw e)
+        go (inr e) = rw (by-windows (windowsOf s) (omega (arith, long)) e) (rw (e, equal, lengths-good points points points refl refl) (past-accepted (firstIn (badWindow (c .nx) (c .ny)) (windowsOf s)) (fromFour c)))
 
     -- of no windows: as the whole analysis whose results fit is
-    pub screen-of-no-windows-is-tested-like-the-whole : length (windowsOf s) ≡ 0
+    pub screen-of-no-windows-is-tested-like-the-whole : length (s .left) ≡ 0
         → screenRefusal c s 0 0 ≡ analysisRefusal c (c .nx * c .ny) (c .nx * c .ny) (length (c .stations .x))
     unfolding screenRefusal analysisRefusal inOrder refusedWith refusedAt firstFrom total
     screen-of-no-windows-is-tested-like-the-whole e =
         let n = c .nx * c .ny in
-        rw (no-elements (windowsOf s) e, equal, lengths-good 0 0 0 refl refl, lengths-good n n n refl refl, eq-eqb (length (c .stations .x)) (length (c .stations .x)) refl)
+        rw (no-elements (windowsOf s) (long ∙ e), equal, lengths-good 0 0 0 refl refl, lengths-good n n n refl refl, eq-eqb (length (c .stations .x)) (length (c .stations .x)) refl)
         (go (badShape (c .nx) (c .ny) (length (c .firstGuess))))
       where
         go : (b : Bool) → inOrder (cond b (refused 1 0) accepted ∷ accepted ∷ accepted ∷ accepted ∷ fromFour c) ≡ inOrder (cond b (refused 1 0) accepted ∷ accepted ∷ fromFour c)
@@ -265,10 +269,6 @@ module _ (c : Call) (s : Screen) (equal : badScreen s ≡ false) (some : 0 < len
   abbrev all : Tile
   all = wholeAtEach (asked c) (windowsOf s)
 
-  long : length (windowsOf s) ≡ n
-  unfolding windowsOf
-  long = length-tab n (windowOn s)
-
   in-order : singles ≡ tab n (λ k. single c (windowOn s k))
   unfolding windowsOf
   in-order = map-tab (single c) n (windowOn s)
@@ -278,7 +278,7 @@ module _ (c : Call) (s : Screen) (equal : badScreen s ≡ false) (some : 0 < len
   outcome = asks ∙ ap (λ (r : Refusal). (asOne r, unlessRefused r all found)) same
     where
       same : screenRefusal c s (length (found .grid)) (length (found .support)) ≡ ofSingles singles
-      same = ap₂ (screenRefusal c s) (fits .grid-long) (fits .support-long) ∙ screen-is-refused-as-its-windows c s equal (omega (arith, long))
+      same = ap₂ (screenRefusal c s) (fits .grid-long) (fits .support-long) ∙ screen-is-refused-as-its-windows c s equal some
 
   -- and each window
   outcome-of : (k : ℕ) → k < n

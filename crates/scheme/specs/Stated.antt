@@ -223,15 +223,14 @@ module _ (S : Scheme) (across down : Side) (both : Runs S across down) where
 -- ---- a screen of windows, beside the single queries of its windows, each with results as long as the window
 
 module _ (c : Call) where
-  abbrev alone : Window → Refusal
-  alone w = windowRefusal c w (pointsOf w) (pointsOf w)
+  abbrev single : Window → Refusal
+  single w = windowRefusal c w (pointsOf w) (pointsOf w)
 
-  -- refused for its window
-  abbrev two : Refusal → Bool
-  two r = eqb (numberOf r) 2
+  abbrev forItsWindow : Refusal → Bool
+  forItsWindow r = eqb (numberOf r) 2
 
   -- those that are not, are refused alike
-  pub singles-are-refused-alike : (w v : Window) → two (alone w) ≡ false → two (alone v) ≡ false → alone w ≡ alone v
+  pub singles-are-refused-alike : (w v : Window) → forItsWindow (single w) ≡ false → forItsWindow (single v) ≡ false → single w ≡ single v
   singles-are-refused-alike = screens.singles-are-refused-alike c
 
   module _ (s : Screen) (equal : badScreen s ≡ false) where
@@ -240,13 +239,13 @@ module _ (c : Call) where
 
     -- 2 names the first that is refused for its window, by its index; or else it is as the first that is refused
     abbrev inTheirOrder : Refusal
-    inTheirOrder = inOrder (refusedAt 2 (firstIn two (map alone (windowsOf s))) ∷ map alone (windowsOf s))
+    inTheirOrder = inOrder (refusedAt 2 (firstIn forItsWindow (map single (windowsOf s))) ∷ map single (windowsOf s))
 
-    pub screen-is-refused-as-its-windows : 0 < length (windowsOf s) → screenRefusal c s (pointsOfAll (windowsOf s)) (pointsOfAll (windowsOf s)) ≡ inTheirOrder
+    pub screen-is-refused-as-its-windows : 0 < n → screenRefusal c s (pointsOfAll (windowsOf s)) (pointsOfAll (windowsOf s)) ≡ inTheirOrder
     unfolding ofSingles
     screen-is-refused-as-its-windows = screens.screen-is-refused-as-its-windows c s equal
 
-    pub screen-of-no-windows-is-tested-like-the-whole : length (windowsOf s) ≡ 0
+    pub screen-of-no-windows-is-tested-like-the-whole : n ≡ 0
         → screenRefusal c s 0 0 ≡ analysisRefusal c (c .nx * c .ny) (c .nx * c .ny) (length (c .stations .x))
     screen-of-no-windows-is-tested-like-the-whole = screens.screen-of-no-windows-is-tested-like-the-whole c s equal
 
@@ -254,9 +253,9 @@ module _ (c : Call) where
     module _ (some : 0 < n) (found : Tile) (long : (length (found .grid) ≡ pointsOfAll (windowsOf s)) × (length (found .support) ≡ pointsOfAll (windowsOf s)))
         (answer : ℕ) (left : Tile) (asked-each : QueriesEach c s found answer left) (found' : ℕ → Tile) (answer' : ℕ → ℕ) (left' : ℕ → Tile)
         (long' : (k : ℕ) → k < n → (length (found' k .grid) ≡ pointsOf (windowOn s k)) × (length (found' k .support) ≡ pointsOf (windowOn s k)))
-        (asked-alone : (k : ℕ) → k < n → Queries c (windowOn s k) (found' k) (answer' k) (left' k)) where
-      pub screen-answers-as-its-windows : (answer ≡ asOne inTheirOrder) × ((k : ℕ) → k < n → answer' k ≡ asOne (alone (windowOn s k)))
-          × ((inTheirOrder ≡ accepted) ↔ ((k : ℕ) → k < n → alone (windowOn s k) ≡ accepted))
+        (asked-singly : (k : ℕ) → k < n → Queries c (windowOn s k) (found' k) (answer' k) (left' k)) where
+      pub screen-answers-as-its-windows : (answer ≡ asOne inTheirOrder) × ((k : ℕ) → k < n → answer' k ≡ asOne (single (windowOn s k)))
+          × ((inTheirOrder ≡ accepted) ↔ ((k : ℕ) → k < n → single (windowOn s k) ≡ accepted))
           × (inTheirOrder ≡ accepted → left ≡ tile (upTo [] _++_ n (λ k. left' k .grid)) (upTo [] _++_ n (λ k. left' k .support)))
           × ((number place : ℕ) → inTheirOrder ≡ refused number place → left ≡ found)
       unfolding ofSingles
@@ -268,14 +267,14 @@ module _ (c : Call) where
             answer = answer';
             left = left';
             fits = λ k h. record { grid-long = long' k h .0; support-long = long' k h .1 };
-            queries = asked-alone;
+            queries = asked-singly;
           }
           in
           let a = screens.screen-answers-as-its-windows c s equal some found fits answer left asked-each each in
           (a .refusal, a .their-refusals, a .accepted-where-all-are, a .leaves-in-turn, a .or-writes-nothing)
 
-  pub screen-of-one-window-is-the-query : (left right top bottom : ℕ) (found : Tile) (answer : ℕ) (left' : Tile)
-      → QueriesEach c (fourColumns (left ∷ []) (right ∷ []) (top ∷ []) (bottom ∷ [])) found answer left' ↔ Queries c (windowAt left right top bottom) found answer left'
+  pub screen-of-one-window-is-the-query : (left right top bottom : ℕ) (found : Tile) (answer : ℕ) (leaves : Tile)
+      → QueriesEach c (fourColumns (left ∷ []) (right ∷ []) (top ∷ []) (bottom ∷ [])) found answer leaves ↔ Queries c (windowAt left right top bottom) found answer leaves
   screen-of-one-window-is-the-query = screens.screen-of-one-window-is-the-query c
 
 -- ---- one scan

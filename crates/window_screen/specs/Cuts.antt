@@ -7,7 +7,7 @@ use Rattle.scheme.specs.Refusals.{Window, pointsOf}
 use Rattle.scheme.specs.Reach.{widened}
 use Rattle.scheme.specs.Accepted.{OnGrid}
 
--- the cut of a window, by the reach
+-- the cut of a window: `cutOf` of a request with this reach and these sides, which are all that the code has at hand
 abbrev pub cutBy : (reach nx ny : ℕ) → Window → Window
 cutBy reach nx ny w = record { columns = widened reach nx (w .columns); rows = widened reach ny (w .rows) }
 
