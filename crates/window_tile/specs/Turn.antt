@@ -47,6 +47,7 @@ module _ (s : Screen) {w : Window} (one : (s .count ≡ 1) × (windowNo s 0 ≡ 
   unfolding total
   turn-alone has = rw alone (ap₂ tile (append-nil (has w .grid)) (append-nil (has w .support)))
 
+-- the numbers of the whole grid at a window are as many as it has points
 pub whole-long : (q : Request) (w : Window) → FitsWindow w (length (wholeAt q w .grid)) (length (wholeAt q w .support))
 unfolding wholeAt windowOf
 whole-long q w =
