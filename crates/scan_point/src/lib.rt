@@ -30,7 +30,7 @@ fn more(w: u64, wd: i64, r2: u32, d2: u32, d: i64) -> Sums
     }
     let q = scan_weight::weight(r2, d2);
     Sums {
-        w: w + (q as u64),
+        w: w + q,
         wd: wd + (q as i64) * d,
     }
 }

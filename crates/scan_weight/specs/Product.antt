@@ -5,7 +5,7 @@ use native.Mathlib.Nat.{add-mul-div-right}
 use mathlib.Core.Path.{_≡_}
 use Rattle.scheme.specs.Weight.{scale, weight}
 
--- a weight by a product that is the same for every station of a scan: the whole part of 200R²/(R² + d2), less 100
+-- a weight by a product that is the same for every station of a scan: the whole part of 20,000R²/(R² + d2), less 10,000
 pub by-product : (r2 d2 : ℕ) → d2 < r2 → 2 * scale * r2 / (r2 + d2) ≡ weight r2 d2 + scale
 unfolding weight
 by-product r2 d2 near =

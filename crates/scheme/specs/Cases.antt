@@ -1,4 +1,4 @@
--- A line for each refusal of each call with its place, each verdict, each kind of reading, and the edges of age, service, size and line: what the
+-- A line for each refusal of each call with its place, each verdict, each kind of reading, and the edges of age, service, radius, size and line: what the
 -- theorems leave open is fixed here, by computation.
 use Prim.Native.Nat.{ℕ, _<_}
 use mathlib.Core.Path.{_≡_, refl}
@@ -445,20 +445,20 @@ borders = record { border-keeps = λ z. (refl, refl, refl, refl) }
 
 -- ---- posts beyond the border
 
--- a grid of two by two, level at 640, two scans of radius 96 and limit 64, and one mast, at (x, y), that reads 704
-abbrev asksOf : (x y : ℤ) → Request
-asksOf x y =
-    asking 2 2 (pos 640 ∷ pos 640 ∷ pos 640 ∷ pos 640 ∷ []) (mast x y (pos 704) 1000 0 noEnd ∷ []) 2 (pos 96 ∷ pos 96 ∷ []) (pos 64 ∷ pos 64 ∷ []) false 1000 60
+-- a grid of two by two, level at 640, so many scans of one radius and limit 64, and one mast, at (x, y), that reads 704
+abbrev asksOf : (scans radius : ℕ) (x y : ℤ) → Request
+asksOf scans radius x y =
+    asking 2 2 (tab 4 (λ p. pos 640)) (mast x y (pos 704) 1000 0 noEnd ∷ []) scans (tab scans (λ m. pos radius)) (tab scans (λ m. pos 64)) false 1000 60
 
 abbrev fromTo : ℕ → ℕ → Span
 fromTo first last = record { first = first; last = last }
 
 pub record Posts : Type 0 where
   -- its difference is 64 in both scans, though the field has come up to it; and it is 128 off (1, 0), past the radius
-  pub west-of-the-grid : analysis (asksOf (negsuc 63) (pos 0))
+  pub west-of-the-grid : analysis (asksOf 2 96 (negsuc 63) (pos 0))
       ≡ record { grid = pos 768 ∷ pos 640 ∷ pos 768 ∷ pos 640 ∷ []; support = 3 ∷ 0 ∷ 3 ∷ 0 ∷ []; verdict = 0 ∷ [] }
   -- on the border it is on the grid: the second scan finds nothing left to correct
-  pub on-the-border : analysis (asksOf (pos 0) (pos 0))
+  pub on-the-border : analysis (asksOf 2 96 (pos 0) (pos 0))
       ≡ record { grid = pos 704 ∷ pos 704 ∷ pos 704 ∷ pos 704 ∷ []; support = 3 ∷ 3 ∷ 3 ∷ 3 ∷ []; verdict = 0 ∷ [] }
   -- the first guess at the nearest place, interpolated; a field as found on the grid
   pub nearest-place : (z : Field ℤ) → difference 2 2 (fieldOf (pos 0) 2 ramp) z (standing (pos 32) (pos 320)) ≡ pos 32
@@ -483,13 +483,27 @@ posts =
       not-past-the-other-border = (refl, refl);
     }
 
+-- ---- the rim of a radius
+
+pub record Rims : Type 0 where
+  -- 63 and 9 off (0, 0), so d2 = 4,050 and R² = 4,096: hundredths would give that point no support
+  pub weighed-by-ten-thousandths : analysis (asksOf 1 64 (pos 63) (pos 9))
+      ≡ record { grid = pos 704 ∷ pos 704 ∷ pos 640 ∷ pos 704 ∷ []; support = 1 ∷ 1 ∷ 0 ∷ 1 ∷ []; verdict = 0 ∷ [] }
+  -- 12 and 72 off (0, 0), so d2 = 5,328 and R² = 5,329: inside, and without weight or support all the same
+  pub inside-without-weight : analysis (asksOf 1 73 (pos 12) (pos 72))
+      ≡ record { grid = pos 640 ∷ pos 640 ∷ pos 704 ∷ pos 704 ∷ []; support = 0 ∷ 0 ∷ 1 ∷ 1 ∷ []; verdict = 0 ∷ [] }
+
+rims : Rims
+unfolding analysis stored tab afterWithin scan start rowsJudged sumsAt corrected guess fieldOf R E beforeScans firstThatFits isMissing outOfService serves offGrid nearAxis judged afterTest difference valueAt place sumAt cell corners rounded total share gift weight correction backedBy
+rims = record { weighed-by-ten-thousandths = refl; inside-without-weight = refl }
+
 -- ---- the numbers that the names of Most stand for
 
 pub record Numbers : Type 0 where
   pub most-field : mostField ≡ 13000000
   pub most-difference : mostDifference ≡ 14000000
-  pub most-weights : mostWeights ≡ 51200
-  pub most-pulls : mostPulls ≡ 102400000000
+  pub most-weights : mostWeights ≡ 5120000
+  pub most-pulls : mostPulls ≡ 10240000000000
   pub most-reach : mostReach ≡ 102
 
 -- ---- the table
@@ -501,6 +515,7 @@ pub record Cases : Type 0 where
   pub answered-so : Texts
   pub smoothed-so : Borders
   pub heard-so : Posts
+  pub weighed-so : Rims
   pub numbers : Numbers
 
 pub cases : Cases
@@ -512,5 +527,6 @@ cases =
       answered-so = texts;
       smoothed-so = borders;
       heard-so = posts;
+      weighed-so = rims;
       numbers = record { most-field = refl; most-difference = refl; most-weights = refl; most-pulls = refl; most-reach = refl };
     }

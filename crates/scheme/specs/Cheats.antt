@@ -55,13 +55,13 @@ module _ (found : Analysis) (long : Long found) (answer answer' answer'' : ℕ) 
   abbrev ended-smooth : (answer'' ≡ 0) × (left'' ≡ smooth)
   ended-smooth = ended (example 2 true) smooth found left'' answer'' long (example-accepted .2 .0) (example-analysis .2) asked-smooth
 
-  first-once : firstOf (left .grid) ≡ 585
+  first-once : firstOf (left .grid) ≡ 587
   first-once = ap (λ (a : Analysis). firstOf (a .grid)) (ended-once .1)
 
   first-twice : firstOf (left' .grid) ≡ 577
   first-twice = ap (λ (a : Analysis). firstOf (a .grid)) (ended-twice .1)
 
-  first-smooth : firstOf (left'' .grid) ≡ 578
+  first-smooth : firstOf (left'' .grid) ≡ 579
   first-smooth = ap (λ (a : Analysis). firstOf (a .grid)) (ended-smooth .1)
 
   -- refusing everything
@@ -71,18 +71,18 @@ module _ (found : Analysis) (long : Long found) (answer answer' answer'' : ℕ) 
   -- the first guess untouched, or one fixed grid
   pub not-the-first-guess : left .grid ≡ level → ⊥
   unfolding tab
-  not-the-first-guess = begin-otherwise 585 640 first-once refl (λ e. omega arith)
+  not-the-first-guess = begin-otherwise 587 640 first-once refl (λ e. omega arith)
 
   pub not-one-fixed-grid : left' .grid ≡ left .grid → ⊥
-  not-one-fixed-grid = begin-otherwise 577 585 first-twice first-once (λ e. omega arith)
+  not-one-fixed-grid = begin-otherwise 577 587 first-twice first-once (λ e. omega arith)
 
   -- correcting in the first scan, and just smoothing afterwards: with smoothing off that leaves the first scan's grid, and with smoothing on
   -- that grid, smoothed
   pub not-one-scan-only : left' .grid ≡ stored 3 3 (after (example 2 false) 1 .field) → ⊥
-  not-one-scan-only = begin-otherwise 577 585 first-twice (ap firstOf example-first-scan) (λ e. omega arith)
+  not-one-scan-only = begin-otherwise 577 587 first-twice (ap firstOf example-first-scan) (λ e. omega arith)
 
   pub not-only-smoothed : left'' .grid ≡ stored 3 3 onlySmoothed → ⊥
-  not-only-smoothed = begin-otherwise 578 585 first-smooth (ap firstOf example-only-smoothed) (λ e. omega arith)
+  not-only-smoothed = begin-otherwise 579 587 first-smooth (ap firstOf example-only-smoothed) (λ e. omega arith)
 
   -- made-up support or verdicts
   pub no-other-support : (left .support ≡ once .support) × (left' .support ≡ twice .support) × (left'' .support ≡ smooth .support)
@@ -111,13 +111,13 @@ module _ (found : Tile) (long : (length (found .grid) ≡ 4) × (length (found .
   abbrev window-smooth : (answer'' ≡ 0) × (left'' ≡ cornerSmooth)
   window-smooth = window-ended (example 2 true) cornerSmooth found left'' answer'' long (example-accepted .2 .1) (example-window .2) asked-smooth
 
-  tile-once : firstOf (left .grid) ≡ 585
+  tile-once : firstOf (left .grid) ≡ 587
   tile-once = ap (λ (t : Tile). firstOf (t .grid)) (window-once .1)
 
   tile-twice : firstOf (left' .grid) ≡ 577
   tile-twice = ap (λ (t : Tile). firstOf (t .grid)) (window-twice .1)
 
-  tile-smooth : firstOf (left'' .grid) ≡ 578
+  tile-smooth : firstOf (left'' .grid) ≡ 579
   tile-smooth = ap (λ (t : Tile). firstOf (t .grid)) (window-smooth .1)
 
   pub window-no-refusal : (answer ≡ 0) × (answer' ≡ 0) × (answer'' ≡ 0)
@@ -125,16 +125,16 @@ module _ (found : Tile) (long : (length (found .grid) ≡ 4) × (length (found .
 
   pub window-not-the-first-guess : left .grid ≡ tab 4 (λ p. pos 640) → ⊥
   unfolding tab
-  window-not-the-first-guess = begin-otherwise 585 640 tile-once refl (λ e. omega arith)
+  window-not-the-first-guess = begin-otherwise 587 640 tile-once refl (λ e. omega arith)
 
   pub window-not-one-fixed-grid : left' .grid ≡ left .grid → ⊥
-  window-not-one-fixed-grid = begin-otherwise 577 585 tile-twice tile-once (λ e. omega arith)
+  window-not-one-fixed-grid = begin-otherwise 577 587 tile-twice tile-once (λ e. omega arith)
 
   pub window-not-one-scan-only : left' .grid ≡ windowOf corner (after (example 2 false) 1 .field) → ⊥
-  window-not-one-scan-only = begin-otherwise 577 585 tile-twice (ap firstOf example-first-scan-corner) (λ e. omega arith)
+  window-not-one-scan-only = begin-otherwise 577 587 tile-twice (ap firstOf example-first-scan-corner) (λ e. omega arith)
 
   pub window-not-only-smoothed : left'' .grid ≡ windowOf corner onlySmoothed → ⊥
-  window-not-only-smoothed = begin-otherwise 578 585 tile-smooth (ap firstOf example-only-smoothed-corner) (λ e. omega arith)
+  window-not-only-smoothed = begin-otherwise 579 587 tile-smooth (ap firstOf example-only-smoothed-corner) (λ e. omega arith)
 
   pub window-no-other-support : (left .support ≡ cornerOnce .support) × (left' .support ≡ cornerTwice .support) × (left'' .support ≡ cornerSmooth .support)
   window-no-other-support = (ap (λ (t : Tile). t .support) (window-once .1), ap (λ (t : Tile). t .support) (window-twice .1), ap (λ (t : Tile). t .support) (window-smooth .1))
@@ -163,9 +163,9 @@ text-ended : (input found : List ℕ) {answer left : List ℕ} {bytes : ℕ} →
 unfolding putFirst
 text-ended input found e p = (ap (λ (o : ℕ × List ℕ). o .0) p ∙ rw e, ap (λ (o : ℕ × List ℕ). o .1) p ∙ rw e)
 
--- two texts that have another byte at the third digit of their first value
-read-otherwise : {l m : List ℕ} (a b : ℕ) → getD l 6 0 ≡ a → getD m 6 0 ≡ b → (a ≡ b → ⊥) → l ≡ m → ⊥
-read-otherwise a b p q n e = n (sym p ∙ ap (λ (l : List ℕ). getD l 6 0) e ∙ q)
+-- two texts that have another byte at the second digit of their first value
+read-otherwise : {l m : List ℕ} (a b : ℕ) → getD l 5 0 ≡ a → getD m 5 0 ≡ b → (a ≡ b → ⊥) → l ≡ m → ⊥
+read-otherwise a b p q n e = n (sym p ∙ ap (λ (l : List ℕ). getD l 5 0) e ∙ q)
 
 module _ (found left left' left'' : List ℕ) (bytes bytes' bytes'' : ℕ) (asked-once : Replies onceText found bytes left)
     (asked-twice : Replies twiceText found bytes' left') (asked-smooth : Replies smoothText found bytes'' left'') where
@@ -178,32 +178,32 @@ module _ (found left left' left'' : List ℕ) (bytes bytes' bytes'' : ℕ) (aske
   abbrev text-smooth : (bytes'' ≡ 106) × (left'' ≡ smoothAnswer ++ drop 106 found)
   text-smooth = text-ended smoothText found (example-text .2) asked-smooth
 
-  digit-once : getD (rowLines left) 6 0 ≡ 53
-  digit-once = ap (λ (l : List ℕ). getD (rowLines l) 6 0) (text-once .1)
+  digit-once : getD (rowLines left) 5 0 ≡ 56
+  digit-once = ap (λ (l : List ℕ). getD (rowLines l) 5 0) (text-once .1)
 
-  digit-twice : getD (rowLines left') 6 0 ≡ 55
-  digit-twice = ap (λ (l : List ℕ). getD (rowLines l) 6 0) (text-twice .1)
+  digit-twice : getD (rowLines left') 5 0 ≡ 55
+  digit-twice = ap (λ (l : List ℕ). getD (rowLines l) 5 0) (text-twice .1)
 
-  digit-smooth : getD (rowLines left'') 6 0 ≡ 56
-  digit-smooth = ap (λ (l : List ℕ). getD (rowLines l) 6 0) (text-smooth .1)
+  digit-smooth : getD (rowLines left'') 5 0 ≡ 55
+  digit-smooth = ap (λ (l : List ℕ). getD (rowLines l) 5 0) (text-smooth .1)
 
   pub text-no-refusal : (firstTwoLines left ≡ ascii "refusal=0\nplace=0\n") × (firstTwoLines left' ≡ ascii "refusal=0\nplace=0\n") × (firstTwoLines left'' ≡ ascii "refusal=0\nplace=0\n")
   text-no-refusal = (ap firstTwoLines (text-once .1), ap firstTwoLines (text-twice .1), ap firstTwoLines (text-smooth .1))
 
   pub text-not-the-first-guess : rowLines left ≡ shown level → ⊥
   unfolding tab gridLines keyed cells integer decimal spelled
-  text-not-the-first-guess = read-otherwise 53 48 digit-once refl (λ e. omega arith)
+  text-not-the-first-guess = read-otherwise 56 52 digit-once refl (λ e. omega arith)
 
   pub text-not-one-fixed-grid : rowLines left' ≡ rowLines left → ⊥
-  text-not-one-fixed-grid = read-otherwise 55 53 digit-twice digit-once (λ e. omega arith)
+  text-not-one-fixed-grid = read-otherwise 55 56 digit-twice digit-once (λ e. omega arith)
 
   pub text-not-one-scan-only : rowLines left' ≡ shown (stored 3 3 (after (example 2 false) 1 .field)) → ⊥
   unfolding gridLines keyed cells integer decimal spelled
-  text-not-one-scan-only = read-otherwise 55 53 digit-twice (ap (λ (g : List ℤ). getD (shown g) 6 0) example-first-scan) (λ e. omega arith)
+  text-not-one-scan-only = read-otherwise 55 56 digit-twice (ap (λ (g : List ℤ). getD (shown g) 5 0) example-first-scan) (λ e. omega arith)
 
   pub text-not-only-smoothed : rowLines left'' ≡ shown (stored 3 3 onlySmoothed) → ⊥
   unfolding gridLines keyed cells integer decimal spelled
-  text-not-only-smoothed = read-otherwise 56 53 digit-smooth (ap (λ (g : List ℤ). getD (shown g) 6 0) example-only-smoothed) (λ e. omega arith)
+  text-not-only-smoothed = read-otherwise 55 56 digit-smooth (ap (λ (g : List ℤ). getD (shown g) 5 0) example-only-smoothed) (λ e. omega arith)
 
   pub text-no-other-support : (supLines left ≡ ascii "sup=1,1,1\nsup=1,1,1\nsup=1,1,1\n") × (supLines left' ≡ ascii "sup=3,3,3\nsup=3,3,3\nsup=3,3,3\n")
       × (supLines left'' ≡ ascii "sup=3,3,3\nsup=3,3,3\nsup=3,3,3\n")

@@ -75,14 +75,14 @@ smoothText = planned (ascii "smooth=1\nscans=2\nscan=96,200\nscan=96,200\n")
 abbrev pub once : Analysis
 once =
     slices
-    (pos 585 ∷ pos 672 ∷ pos 768 ∷ pos 672 ∷ pos 759 ∷ pos 768 ∷ pos 768 ∷ pos 768 ∷ pos 768 ∷ [])
+    (pos 587 ∷ pos 672 ∷ pos 768 ∷ pos 672 ∷ pos 757 ∷ pos 768 ∷ pos 768 ∷ pos 768 ∷ pos 768 ∷ [])
     (1 ∷ 1 ∷ 1 ∷ 1 ∷ 1 ∷ 1 ∷ 1 ∷ 1 ∷ 1 ∷ [])
     (0 ∷ 0 ∷ 2 ∷ [])
 
 abbrev pub twice : Analysis
 twice =
     slices
-    (pos 577 ∷ pos 672 ∷ pos 777 ∷ pos 672 ∷ pos 767 ∷ pos 777 ∷ pos 777 ∷ pos 777 ∷ pos 777 ∷ [])
+    (pos 577 ∷ pos 672 ∷ pos 779 ∷ pos 672 ∷ pos 767 ∷ pos 779 ∷ pos 779 ∷ pos 779 ∷ pos 779 ∷ [])
     (3 ∷ 3 ∷ 3 ∷ 3 ∷ 3 ∷ 3 ∷ 3 ∷ 3 ∷ 3 ∷ [])
     (0 ∷ 0 ∷ 2 ∷ [])
 
@@ -90,7 +90,7 @@ twice =
 abbrev pub smooth : Analysis
 smooth =
     slices
-    (pos 578 ∷ pos 687 ∷ pos 806 ∷ pos 687 ∷ pos 752 ∷ pos 806 ∷ pos 806 ∷ pos 806 ∷ pos 806 ∷ [])
+    (pos 579 ∷ pos 686 ∷ pos 806 ∷ pos 686 ∷ pos 752 ∷ pos 806 ∷ pos 806 ∷ pos 806 ∷ pos 806 ∷ [])
     (3 ∷ 3 ∷ 3 ∷ 3 ∷ 3 ∷ 3 ∷ 3 ∷ 3 ∷ 3 ∷ [])
     (0 ∷ 0 ∷ 2 ∷ [])
 
@@ -99,40 +99,40 @@ abbrev pub onlySmoothed : Field ℤ
 onlySmoothed = smoothed 3 3 (after (example 2 true) 1 .field)
 
 abbrev pub onlySmoothedGrid : List ℤ
-onlySmoothedGrid = pos 585 ∷ pos 672 ∷ pos 768 ∷ pos 672 ∷ pos 723 ∷ pos 768 ∷ pos 768 ∷ pos 768 ∷ pos 768 ∷ []
+onlySmoothedGrid = pos 587 ∷ pos 672 ∷ pos 768 ∷ pos 672 ∷ pos 723 ∷ pos 768 ∷ pos 768 ∷ pos 768 ∷ pos 768 ∷ []
 
 abbrev pub cornerOnce : Tile
-cornerOnce = tile (pos 585 ∷ pos 672 ∷ pos 672 ∷ pos 759 ∷ []) (1 ∷ 1 ∷ 1 ∷ 1 ∷ [])
+cornerOnce = tile (pos 587 ∷ pos 672 ∷ pos 672 ∷ pos 757 ∷ []) (1 ∷ 1 ∷ 1 ∷ 1 ∷ [])
 
 abbrev pub cornerTwice : Tile
 cornerTwice = tile (pos 577 ∷ pos 672 ∷ pos 672 ∷ pos 767 ∷ []) (3 ∷ 3 ∷ 3 ∷ 3 ∷ [])
 
 abbrev pub cornerSmooth : Tile
-cornerSmooth = tile (pos 578 ∷ pos 687 ∷ pos 687 ∷ pos 752 ∷ []) (3 ∷ 3 ∷ 3 ∷ 3 ∷ [])
+cornerSmooth = tile (pos 579 ∷ pos 686 ∷ pos 686 ∷ pos 752 ∷ []) (3 ∷ 3 ∷ 3 ∷ 3 ∷ [])
 
 -- three blocks on a screen, the last two of which share points with others
 abbrev pub blocks : Screen
 blocks = fourColumns (0 ∷ 1 ∷ 0 ∷ []) (1 ∷ 2 ∷ 0 ∷ []) (1 ∷ 0 ∷ 0 ∷ []) (1 ∷ 1 ∷ 0 ∷ [])
 
 abbrev pub blocksOnce : Tile
-blocksOnce = tile (pos 672 ∷ pos 759 ∷ pos 672 ∷ pos 768 ∷ pos 759 ∷ pos 768 ∷ pos 585 ∷ []) (1 ∷ 1 ∷ 1 ∷ 1 ∷ 1 ∷ 1 ∷ 1 ∷ [])
+blocksOnce = tile (pos 672 ∷ pos 757 ∷ pos 672 ∷ pos 768 ∷ pos 757 ∷ pos 768 ∷ pos 587 ∷ []) (1 ∷ 1 ∷ 1 ∷ 1 ∷ 1 ∷ 1 ∷ 1 ∷ [])
 
 abbrev pub onceAnswer : List ℕ
 onceAnswer =
     ascii "refusal=0\nplace=0\n"
-    ++ ascii "row=585,672,768\nrow=672,759,768\nrow=768,768,768\n"
+    ++ ascii "row=587,672,768\nrow=672,757,768\nrow=768,768,768\n"
     ++ ascii "sup=1,1,1\nsup=1,1,1\nsup=1,1,1\nver=0,0,2\n"
 
 abbrev pub twiceAnswer : List ℕ
 twiceAnswer =
     ascii "refusal=0\nplace=0\n"
-    ++ ascii "row=577,672,777\nrow=672,767,777\nrow=777,777,777\n"
+    ++ ascii "row=577,672,779\nrow=672,767,779\nrow=779,779,779\n"
     ++ ascii "sup=3,3,3\nsup=3,3,3\nsup=3,3,3\nver=0,0,2\n"
 
 abbrev pub smoothAnswer : List ℕ
 smoothAnswer =
     ascii "refusal=0\nplace=0\n"
-    ++ ascii "row=578,687,806\nrow=687,752,806\nrow=806,806,806\n"
+    ++ ascii "row=579,686,806\nrow=686,752,806\nrow=806,806,806\n"
     ++ ascii "sup=3,3,3\nsup=3,3,3\nsup=3,3,3\nver=0,0,2\n"
 
 -- ---- all of it by computation
@@ -169,7 +169,7 @@ pub example-only-smoothed : stored 3 3 onlySmoothed ≡ onlySmoothedGrid
 unfolding stored tab afterWithin scan start rowsJudged sumsAt corrected smoothed patternSum patternRow inner upTo guess fieldOf R E beforeScans firstThatFits isMissing outOfService serves offGrid nearAxis judged afterTest difference valueAt place sumAt cell corners rounded total share gift weight correction backedBy
 example-only-smoothed = refl
 
-pub example-only-smoothed-corner : windowOf corner onlySmoothed ≡ pos 585 ∷ pos 672 ∷ pos 672 ∷ pos 723 ∷ []
+pub example-only-smoothed-corner : windowOf corner onlySmoothed ≡ pos 587 ∷ pos 672 ∷ pos 672 ∷ pos 723 ∷ []
 unfolding windowOf stored tab afterWithin scan start rowsJudged sumsAt corrected smoothed patternSum patternRow inner upTo guess fieldOf R E beforeScans firstThatFits isMissing outOfService serves offGrid nearAxis judged afterTest difference valueAt place sumAt cell corners rounded total share gift weight correction backedBy
 example-only-smoothed-corner = refl
 

@@ -1,4 +1,4 @@
--- Document 01, "The scope and its exact rules", and of document 02 the requests that have landed: 1, posts beyond the border; 2, sixteen blocks per screen.
+-- Document 01, "The scope and its exact rules", and of document 02 the requests that have landed: 1, posts beyond the border; 2, sixteen blocks per screen; 3, weights in ten-thousandths.
 --
 -- MUST BE BELIEVED, a file for each section, in the paper's order and words. Read them beside the paper.
 pub mod Units
@@ -32,6 +32,7 @@ pub mod Lengths
 pub mod Bounds
 pub mod Exact
 pub mod Support
+pub mod Finer
 pub mod AnswerSize
 pub mod RoundTrip
 pub mod DeadMasts

@@ -43,6 +43,7 @@ use Rattle.scheme.specs.Places as places
 use Rattle.scheme.specs.Nearest as nearest
 use Rattle.scheme.specs.Nearest.{Nearest}
 use Rattle.scheme.specs.Weights as weights
+use Rattle.scheme.specs.Finer as fineness
 use Rattle.scheme.specs.Gifts as gifts
 use Rattle.scheme.specs.Bounds as bounds
 use Rattle.scheme.specs.Support as support
@@ -299,6 +300,23 @@ weight-beyond = weights.weight-beyond
 pub weight-never-rises : (r2 d2 farther : ℕ) → d2 ≤ farther → weight r2 farther ≤ weight r2 d2
 weight-never-rises = weights.weight-never-rises
 
+-- beside document 01's weight in hundredths, the whole part of 100(R² - d2)/(R² + d2): finer, and nowhere coarser
+pub weight-over-100-is-in-hundredths : (r2 d2 : ℕ) → weight r2 d2 / 100 ≡ 100 * (r2 - d2) / (r2 + d2)
+weight-over-100-is-in-hundredths = fineness.weight-over-100-is-in-hundredths
+
+pub weighed-in-hundredths-weighs : (r2 d2 : ℕ) → 0 < 100 * (r2 - d2) / (r2 + d2) → 0 < weight r2 d2
+weighed-in-hundredths-weighs = fineness.weighed-in-hundredths-weighs
+
+pub inside-70-weighs : (radius d2 : ℕ) → radius ≤ 70 → d2 < radius * radius → 0 < weight (radius * radius) d2
+inside-70-weighs = fineness.inside-70-weighs
+
+pub rim-of-64-weighs : (d2 : ℕ) → 4015 ≤ d2 → d2 ≤ 4095 → (100 * (64 * 64 - d2) / (64 * 64 + d2) ≡ 0) × (0 < weight (64 * 64) d2)
+rim-of-64-weighs = fineness.rim-of-64-weighs
+
+pub rim-of-64-is-told-apart : (100 * (64 * 64 - 3969) / (64 * 64 + 3969) ≡ 100 * (64 * 64 - 4014) / (64 * 64 + 4014))
+    × (weight (64 * 64) 4014 < weight (64 * 64) 3969)
+rim-of-64-is-told-apart = fineness.rim-of-64-is-told-apart
+
 pub gift-far : (radius : ℕ) (D dx dy : ℤ) → (radius ≤ natAbs dx) ⊎ (radius ≤ natAbs dy) → gift (radius * radius) D dx dy ≡ nothing
 gift-far = gifts.gift-far
 
@@ -319,6 +337,14 @@ pub supported-exactly-where-a-mast-weighs : (q : Request) (m k i j : ℕ) → k 
     (rowsJudged q k (after q k))
 unfolding bit
 supported-exactly-where-a-mast-weighs = support.supported-exactly-where-a-mast-weighs
+
+pub supported-in-hundredths-is-supported : (q : Request) (m k i j : ℕ) → k < m
+    → Some (λ r. (isAccepted (r .verdict) ≡ true) × (0 < (let r2 = R (q .plan) k * R (q .plan) k in
+    let d2 = square (r .station .x -ℤ pos (step * i)) + square (r .station .y -ℤ pos (step * j)) in 100 * (r2 - d2) / (r2 + d2))))
+    (rowsJudged q k (after q k))
+    → eqb (after q m .support i j / 2 ^ k % 2) 1 ≡ true
+unfolding bit
+supported-in-hundredths-is-supported = fineness.supported-in-hundredths-is-supported
 
 pub unsupported-point-keeps-first-guess : (q : Request) → q .plan .smooth ≡ false → (i j m : ℕ) → after q m .support i j ≡ 0 → after q m .field i j ≡ guess q i j
 unsupported-point-keeps-first-guess = support.unsupported-point-keeps-first-guess

@@ -41,8 +41,8 @@ twoScans = record { scans = 2; radius = pos 96 ∷ pos 64 ∷ []; limit = pos 0 
 -- ---- the table
 
 pub record Table : Type 0 where
-  pub a : (weight (96 * 96) 0 ≡ 100) × (weight (96 * 96) 4096 ≡ 38) × (weight (96 * 96) 8192 ≡ 5)
-  pub b : (weight (64 * 64) 3969 ≡ 1) × (weight (64 * 64) 4014 ≡ 1) × (weight (64 * 64) 4015 ≡ 0) × (weight (64 * 64) 4096 ≡ 0)
+  pub a : (weight (96 * 96) 0 ≡ 10000) × (weight (96 * 96) 4096 ≡ 3846) × (weight (96 * 96) 8192 ≡ 588)
+  pub b : (weight (64 * 64) 3969 ≡ 157) × (weight (64 * 64) 4014 ≡ 101) × (weight (64 * 64) 4015 ≡ 99) × (weight (64 * 64) 4096 ≡ 0)
   pub c : (rounded (pos 5) 2 ≡ pos 3) × (rounded (negsuc 4) 2 ≡ negsuc 2) × (rounded (pos 1) 3 ≡ pos 0)
   pub d : (smoothed 3 3 (lone (pos 16)) 1 1 ≡ pos 4) × (smoothed 3 3 (lone (pos 2)) 1 1 ≡ pos 1)
       × (smoothed 3 3 (lone (negsuc 1)) 1 1 ≡ negsuc 0)
@@ -57,11 +57,11 @@ pub record Table : Type 0 where
 
 -- ---- its proof, by computation but for (g), which holds of every request
 
-case-a : (weight (96 * 96) 0 ≡ 100) × (weight (96 * 96) 4096 ≡ 38) × (weight (96 * 96) 8192 ≡ 5)
+case-a : (weight (96 * 96) 0 ≡ 10000) × (weight (96 * 96) 4096 ≡ 3846) × (weight (96 * 96) 8192 ≡ 588)
 unfolding weight
 case-a = (refl, refl, refl)
 
-case-b : (weight (64 * 64) 3969 ≡ 1) × (weight (64 * 64) 4014 ≡ 1) × (weight (64 * 64) 4015 ≡ 0) × (weight (64 * 64) 4096 ≡ 0)
+case-b : (weight (64 * 64) 3969 ≡ 157) × (weight (64 * 64) 4014 ≡ 101) × (weight (64 * 64) 4015 ≡ 99) × (weight (64 * 64) 4096 ≡ 0)
 unfolding weight
 case-b = (refl, refl, refl, refl)
 

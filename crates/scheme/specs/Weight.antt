@@ -4,11 +4,11 @@ use mathlib.Core.Bool.{Bool}
 use lib.Dec.{ltb}
 use lib.IntN.{ℤ, natAbs}
 
--- a weight is in parts of this
+-- a weight is in parts of this: weights in ten-thousandths (document 02, 3)
 abbrev pub scale : ℕ
-scale = 100
+scale = 10000
 
--- with r2 = R², for squared distance d2 from point to station: the whole part of 100(R² - d2)/(R² + d2)
+-- with r2 = R², for squared distance d2 from point to station: the whole part of 10,000(R² - d2)/(R² + d2)
 unfoldable pub weight : (r2 d2 : ℕ) → ℕ
 weight r2 d2 = scale * (r2 - d2) / (r2 + d2)
 

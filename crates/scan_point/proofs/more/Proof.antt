@@ -57,20 +57,17 @@ returns c =
 weight-requires : tie.Need-weight-requires
 weight-requires c κs = search needs
 
-cast-t8 : tie.Need-cast-t8
-cast-t8 c = search needs
+add-t8 : tie.Need-add-t8
+add-t8 c = record { fits = omega (arith, q-most c, c .before .before .pre .0) }
 
-add-t9 : tie.Need-add-t9
-add-t9 c = record { fits = omega (arith, q-most c, c .before .before .pre .0) }
+cast-t9 : tie.Need-cast-t9
+cast-t9 c = record { sfits = omega (arith, q-most c) }
 
-cast-t10 : tie.Need-cast-t10
-cast-t10 c = search needs
+mul-t10 : tie.Need-mul-t10
+mul-t10 c = rw (product-is c) (fits-size w64 (pos (q c) *ℤ d c) (omega (arith, product-small c)))
 
-mul-t11 : tie.Need-mul-t11
-mul-t11 c = rw (product-is c) (fits-size w64 (pos (q c) *ℤ d c) (omega (arith, product-small c)))
-
-add-t12 : tie.Need-add-t12
-add-t12 c = rw (sum-is c) (fits-size w64 _ (sum-small c))
+add-t11 : tie.Need-add-t11
+add-t11 c = rw (sum-is c) (fits-size w64 _ (sum-small c))
 
 returns-2 : tie.Need-returns-2
 returns-2 c =
@@ -81,4 +78,4 @@ returns-2 c =
     )
 
 pub more-spec : {M : Type 1} → statement M
-more-spec = tie.close (tie.spec returns weight-requires cast-t8 add-t9 cast-t10 mul-t11 add-t12 returns-2)
+more-spec = tie.close (tie.spec returns weight-requires add-t8 cast-t9 mul-t10 add-t11 returns-2)

@@ -19,6 +19,9 @@ mul-result-2 c = search needs
 add-result : tie.Need-add-result
 add-result c = search needs
 
+cast-result : tie.Need-cast-result
+cast-result c = search needs
+
 div-result : tie.Need-div-result
 div-result c = search needs
 
@@ -30,4 +33,4 @@ returns-2 c = omega (arith, by-product (c .before .args .r2) (c .before .args .d
 
 pub weight-spec : {M : Type 1} → statement M
 weight-spec =
-    tie.close (tie.spec returns mul-result mul-result-2 add-result div-result sub-result returns-2)
+    tie.close (tie.spec returns mul-result mul-result-2 add-result cast-result div-result sub-result returns-2)
