@@ -1,7 +1,7 @@
 /*
- * plain.c: document 01's analysis, as request 1 of document 02 changed it, and request 2's screen of windows, the way a
- * C programmer would write them first: their loops, their numbers, no tricks. It assumes what include/sosnyavik.h says
- * that the caller owes.
+ * plain.c: document 01's analysis, as requests 1 and 3 of document 02 changed it, and request 2's screen of windows,
+ * the way a C programmer would write them first: their loops, their numbers, no tricks. It assumes what
+ * include/sosnyavik.h says that the caller owes.
  */
 #include "plain.h"
 
@@ -9,7 +9,7 @@
 
 /*
  * Document 01, "Units and sizes"; and document 02's MOST_BEYOND, how far off the grid a post may stand on each axis,
- * and MOST_WINDOWS, how many a screen may have.
+ * MOST_WINDOWS, how many a screen may have, and SCALE, what a weight is in parts of.
  */
 enum {
     STEP = 64,
@@ -23,6 +23,7 @@ enum {
     GREATEST_LIMIT = 2000000,
     GREATEST_NUMBER = 1000000,
     MOST_WINDOWS = 16,
+    SCALE = 10000,
 };
 
 struct request {
@@ -168,7 +169,7 @@ static void correct(const struct request *request, uint32_t scan, const struct a
                 int32_t dx = accepted[k].x - STEP * i, dy = accepted[k].y - STEP * j;
                 int32_t d2 = dx * dx + dy * dy;
                 if (d2 < r2) {
-                    int32_t weight = 100 * (r2 - d2) / (r2 + d2);
+                    int32_t weight = (int32_t)((int64_t)SCALE * (r2 - d2) / (r2 + d2));
                     weights += weight;
                     sum += (int64_t)weight * accepted[k].difference;
                 }

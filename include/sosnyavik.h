@@ -11,9 +11,10 @@
 ** a screen shows them. Beside them stand a point reading and a summary, which
 ** tell a field in doubles that are exact.
 **
-** What follows: version, marks, units and sizes, posts, windows, results,
-** verdicts, support, refusals, what the caller owes, what the calls keep, the
-** calls, and a request by name, which is how a program had best call them.
+** What follows: version, marks, units and sizes, posts, weights, windows,
+** results, verdicts, support, refusals, what the caller owes, what the calls
+** keep, the calls, and a request by name, which is how a program had best call
+** them.
 */
 #ifndef SOSNYAVIK_H
 #define SOSNYAVIK_H
@@ -33,7 +34,7 @@ extern "C" {
 ** when a call takes other arguments than before, and a program must be compiled
 ** anew. The second rises with a new call, the third with anything else.
 */
-#define SOSNYAVIK_VERSION "0.2.0" /* 2026-11-16 */
+#define SOSNYAVIK_VERSION "0.2.1" /* 2026-11-16 */
 
 /*
 ** MARKS
@@ -110,6 +111,28 @@ extern "C" {
 ** reading beyond the border is off grid, also where a post stands.
 */
 #define SOSNYAVIK_MOST_BEYOND 256
+
+/*
+** WEIGHTS
+**
+** In a scan a point is moved by the mean of the accepted stations' differences,
+** each counted by its weight there, rounded to the nearest 1/64 unit, halves
+** away from zero. Weights are whole ten-thousandths. Where d2 is the squared
+** distance from point to station, a station with d2 < radius*radius has the
+** weight
+**
+**   10000*(radius*radius - d2)/(radius*radius + d2), without its fraction
+**
+** and one farther off has none. It never rises with the distance:
+**
+**   radius   d2: weight
+**   96       0: 10000   4096: 3846   8192: 588   9216: 0
+**   64       3969: 157  3985: 137    4050: 56    4090: 7    4096: 0
+**
+** Up to a radius of 70 every station inside it has weight. At the rim of a
+** wider one the fraction may be below 1, and a station inside has weight 0: it
+** moves nothing, and gives no support.
+*/
 
 /*
 ** WINDOWS
@@ -305,7 +328,7 @@ extern "C" {
 **                                  1, radius, 1, limit, 1, false, 1000, 60,
 **                                  grid, 9, support, 9, verdict, 3);
 **
-** Now r is 0, grid is 585, 672, 768, 672, 759, 768, 768, 768, 768, each byte
+** Now r is 0, grid is 587, 672, 768, 672, 757, 768, 768, 768, 768, each byte
 ** of support is 1, and verdict is 0, 0, 2.
 */
 /* clang-format off */
@@ -340,7 +363,7 @@ uint32_t sosnyavik_analyse(
 **                                 1, radius, 1, limit, 1, false, 1000, 60,
 **                                 part, 2, part_support, 2);
 **
-** Now r is 0, part is 672, 759, and both bytes of part_support are 1.
+** Now r is 0, part is 672, 757, and both bytes of part_support are 1.
 **
 ** The work goes by the window's reach and not by the grid. For each scan count
 ** radius/64 rounded up, plus 1 if smooth; the reach is the total, in grid
@@ -384,9 +407,9 @@ uint32_t sosnyavik_window(
 **                                  1, radius, 1, limit, 1, false, 1000, 60,
 **                                  blocks, 7, blocks_support, 7);
 **
-** Now r is 0, blocks is 672, 759, 672, 768, 759, 768, 585, and each byte of
+** Now r is 0, blocks is 672, 757, 672, 768, 757, 768, 587, and each byte of
 ** blocks_support is 1. Entries 0 and 1 are of window 0, 2 .. 5 of window 1, and
-** 6 of window 2. The middle point, 759, is in two windows and comes twice.
+** 6 of window 2. The middle point, 757, is in two windows and comes twice.
 **
 ** The part of each window is what the window query answers for it. A refusal is
 ** the whole screen's: where one window is bad, none is written. A screen may
@@ -543,7 +566,7 @@ struct sosnyavik_summary sosnyavik_summarise(
 **   double at_64_64 = sosnyavik_request_reading_value(&request, whole, 64, 64);
 **
 ** Now r, s and t are 0, grid, support, verdict, part, part_support, blocks and
-** blocks_support are as above, and at_64_64 is 11.859375.
+** blocks_support are as above, and at_64_64 is 11.828125.
 **
 ** SOSNYAVIK_REQUEST gives each member that is not named in it its default: age
 ** is SOSNYAVIK_DEFAULT_AGE, all else is 0, false or no entries. A member that

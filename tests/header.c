@@ -1,7 +1,7 @@
 // What include/sosnyavik.h tells a C programmer, called: the paper's example, whole, as a window and as a screen of
 // windows, a mistake for each refusal of each call, and the examples of the reading and the summary. All of it twice,
-// by the plain calls and by name; screens beside the windows one by one; the border; and what a request by name has
-// where nothing is given.
+// by the plain calls and by name; screens beside the windows one by one; the border; weights; and what a request by
+// name has where nothing is given.
 #include <stdio.h>
 #include <stdlib.h>
 #include <string.h>
@@ -160,14 +160,14 @@ static void refused(Call *call, Request q, uint32_t number, uint32_t place, cons
 
 // What lies past the entries of the window or of the screen, and all verdicts, these calls leave alone.
 static void examples(void) {
-    Results whole = {.grid = {585, 672, 768, 672, 759, 768, 768, 768, 768},
+    Results whole = {.grid = {587, 672, 768, 672, 757, 768, 768, 768, 768},
                      .support = {1, 1, 1, 1, 1, 1, 1, 1, 1},
                      .verdict = {0, 0, 2}};
-    static const int32_t shown[7] = {672, 759, 672, 768, 759, 768, 585};
+    static const int32_t shown[7] = {672, 757, 672, 768, 757, 768, 587};
     Results part, blocks;
     memset(&part, UNTOUCHED, sizeof part);
     memset(&blocks, UNTOUCHED, sizeof blocks);
-    part.grid[0] = 672, part.grid[1] = 759;
+    part.grid[0] = 672, part.grid[1] = 757;
     part.support[0] = 1, part.support[1] = 1;
     memcpy(blocks.grid, shown, sizeof shown);
     memset(blocks.support, 1, 7);
@@ -317,9 +317,9 @@ static void reading_of_the_example(void) {
     struct sosnyavik_results whole = {
         .grid = {r.grid, POINTS}, .support = {r.support, POINTS}, .verdict = {r.verdict, ROWS}};
     must(sosnyavik_request_analyse(&request, whole) == 0, "the example by name");
-    must(same(sosnyavik_request_reading_value(&request, whole, 64, 64), 11.859375), "the example's reading");
+    must(same(sosnyavik_request_reading_value(&request, whole, 64, 64), 11.828125), "the example's reading");
     must(sosnyavik_request_reading_kind(&request, whole, 64, 64) == SOSNYAVIK_BACKED, "the kind of that reading");
-    says(sosnyavik_request_summarise(&request, whole), 0, 585 / 64.0, 12.0, 183 / 64.0);
+    says(sosnyavik_request_summarise(&request, whole), 0, 587 / 64.0, 12.0, 181 / 64.0);
 }
 
 // By name as by the plain call, over every window, of a request that is not the same with x for y or left for top.
@@ -424,6 +424,29 @@ static void post_in_two_scans(Call *call) {
     must(call(&q, &r) == 0 && r.verdict[0] == 12 && r.grid[0] == 704, "a post under a lower limit");
 }
 
+// A mast on the first point, which agrees with the first guess, and one that is dx and dy off it and a million above:
+// the point moves by weight/(10000 + weight) of that million. With the second mast alone it has support if that has
+// weight.
+static void weighs(Call *call, int32_t radius, int32_t dx, int32_t dy, int64_t weight) {
+    Results r;
+    Request q = paper;
+    const int64_t together = 10000 + weight;
+    memset(q.first_guess, 0, sizeof q.first_guess);
+    q.x[0] = 0, q.y[0] = 0, q.value[0] = 0;
+    q.x[1] = dx, q.y[1] = dy, q.value[1] = 1000000;
+    q.radius[0] = radius, q.limit[0] = 2000000;
+    must(call(&q, &r) == 0 && r.grid[0] == (2 * weight * 1000000 + together) / (2 * together), "a weight");
+    q.x[0] = 1000000;
+    must(call(&q, &r) == 0 && r.support[0] == (weight > 0), "the support by a weight");
+}
+
+static void weights(Call *call) {
+    weighs(call, 96, 0, 0, 10000), weighs(call, 96, 64, 0, 3846), weighs(call, 96, 64, 64, 588);
+    weighs(call, 96, 96, 0, 0), weighs(call, 64, 63, 0, 157), weighs(call, 64, 63, 4, 137);
+    weighs(call, 64, 63, 9, 56), weighs(call, 64, 63, 11, 7), weighs(call, 64, 64, 0, 0);
+    weighs(call, 73, 12, 72, 0);
+}
+
 // Where no age is given, an observation of 120 minutes counts and one of 121 does not: document 01's default.
 static void age_where_none_is_given(void) {
     Results r;
@@ -484,6 +507,7 @@ int main(void) {
         no_windows(screens[i]);
         verdicts_off_the_grid(analyses[i]);
         post_in_two_scans(analyses[i]);
+        weights(analyses[i]);
     }
     readings();
     summaries();
@@ -492,7 +516,7 @@ int main(void) {
     same_as_single_queries();
     age_where_none_is_given();
     left_out();
-    puts("header: the examples, posts, screens, and the mistakes for refusals 1 to 8, answer as include/sosnyavik.h "
-         "says, by name too");
+    puts("header: the examples, posts, weights, screens, and the mistakes for refusals 1 to 8, answer as "
+         "include/sosnyavik.h says, by name too");
     return 0;
 }

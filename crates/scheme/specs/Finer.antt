@@ -65,7 +65,7 @@ rim-of-64-weighs d2 far near =
     let none : hundredths (64 * 64) d2 < 1 = div-lt-iff-lt-mul {k = 64 * 64 + d2} (omega arith) .1 (omega arith) in
     (omega arith, inside-70-weighs 64 d2 (omega arith) (omega arith))
 
--- two distances that hundredths take for one
-pub rim-of-64-is-told-apart : (hundredths (64 * 64) 3969 ≡ hundredths (64 * 64) 4014) × (weight (64 * 64) 4014 < weight (64 * 64) 3969)
+-- two distances that hundredths weigh alike: 63 off along one axis, and 4 beside that along the other
+pub rim-of-64-is-told-apart : (hundredths (64 * 64) 3969 ≡ hundredths (64 * 64) 3985) × (weight (64 * 64) 3985 < weight (64 * 64) 3969)
 unfolding weight
 rim-of-64-is-told-apart = (refl, omega arith)

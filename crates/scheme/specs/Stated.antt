@@ -313,8 +313,8 @@ inside-70-weighs = fineness.inside-70-weighs
 pub rim-of-64-weighs : (d2 : ℕ) → 4015 ≤ d2 → d2 ≤ 4095 → (100 * (64 * 64 - d2) / (64 * 64 + d2) ≡ 0) × (0 < weight (64 * 64) d2)
 rim-of-64-weighs = fineness.rim-of-64-weighs
 
-pub rim-of-64-is-told-apart : (100 * (64 * 64 - 3969) / (64 * 64 + 3969) ≡ 100 * (64 * 64 - 4014) / (64 * 64 + 4014))
-    × (weight (64 * 64) 4014 < weight (64 * 64) 3969)
+pub rim-of-64-is-told-apart : (100 * (64 * 64 - 3969) / (64 * 64 + 3969) ≡ 100 * (64 * 64 - 3985) / (64 * 64 + 3985))
+    × (weight (64 * 64) 3985 < weight (64 * 64) 3969)
 rim-of-64-is-told-apart = fineness.rim-of-64-is-told-apart
 
 pub gift-far : (radius : ℕ) (D dx dy : ℤ) → (radius ≤ natAbs dx) ⊎ (radius ≤ natAbs dy) → gift (radius * radius) D dx dy ≡ nothing
