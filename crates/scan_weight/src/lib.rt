@@ -27,12 +27,12 @@ pub fn squared_distance(x: i32, px: i32, gap: u32) -> u32
 
 // The weight at squared distance d2 for squared radius r2. A station beyond the radius costs a compare and no division. The quotient's
 // upper part is the same for all stations of a scan, 10,000(R² - d2) = 20,000R² - 10,000(R² + d2), and past u32 from R = 464 on.
-pub fn weight(r2: u32, d2: u32) -> u64
+pub fn weight(r2: u32, d2: u32) -> u32
     requires { ⌜ r2 ≤ mostSquare ⌝ }
     ensures { λ r. ⌜ r ≡ weight r2 d2 ⌝ }
 {
     if r2 <= d2 {
         return 0;
     }
-    2 * SCALE * (r2 as u64) / ((r2 + d2) as u64) - SCALE
+    (2 * SCALE * (r2 as u64) / ((r2 + d2) as u64) - SCALE) as u32
 }

@@ -57,17 +57,20 @@ returns c =
 weight-requires : tie.Need-weight-requires
 weight-requires c κs = search needs
 
-add-t8 : tie.Need-add-t8
-add-t8 c = record { fits = omega (arith, q-most c, c .before .before .pre .0) }
+cast-weights : tie.Need-cast-weights
+cast-weights c = search needs
 
-cast-t9 : tie.Need-cast-t9
-cast-t9 c = record { sfits = omega (arith, q-most c) }
+add-weights : tie.Need-add-weights
+add-weights c = record { fits = omega (arith, q-most c, c .before .before .pre .0) }
 
-mul-t10 : tie.Need-mul-t10
-mul-t10 c = rw (product-is c) (fits-size w64 (pos (q c) *ℤ d c) (omega (arith, product-small c)))
+cast-pulls : tie.Need-cast-pulls
+cast-pulls c = search needs
 
-add-t11 : tie.Need-add-t11
-add-t11 c = rw (sum-is c) (fits-size w64 _ (sum-small c))
+mul-pulls : tie.Need-mul-pulls
+mul-pulls c = rw (product-is c) (fits-size w64 (pos (q c) *ℤ d c) (omega (arith, product-small c)))
+
+add-pulls : tie.Need-add-pulls
+add-pulls c = rw (sum-is c) (fits-size w64 _ (sum-small c))
 
 returns-2 : tie.Need-returns-2
 returns-2 c =
@@ -78,4 +81,4 @@ returns-2 c =
     )
 
 pub more-spec : {M : Type 1} → statement M
-more-spec = tie.close (tie.spec returns weight-requires add-t8 cast-t9 mul-t10 add-t11 returns-2)
+more-spec = tie.close (tie.spec returns weight-requires cast-weights add-weights cast-pulls mul-pulls add-pulls returns-2)

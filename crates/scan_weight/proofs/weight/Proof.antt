@@ -2,7 +2,7 @@
 use native.Mathlib.Omega.{arith}
 use borrow.Author.Needs.{needs}
 use mathlib.Core.Path.{sym}
-use Rattle.scheme.specs.Weights.{weight-beyond}
+use Rattle.scheme.specs.Weights.{weight-beyond, weight-most}
 use Rattle.scan_weight.specs.Product.{by-product}
 use Rattle.scan_weight.proofs.weight.Statement.{statement}
 use Rattle.scan_weight.proofs.weight.Tie as tie
@@ -28,9 +28,14 @@ div-result c = search needs
 sub-result : tie.Need-sub-result
 sub-result c = omega (arith, by-product (c .before .args .r2) (c .before .args .d2) (c .if1 .left))
 
+cast-result-2 : tie.Need-cast-result-2
+cast-result-2 c =
+    let s = c .before in
+    record { fits = omega (arith, by-product (s .args .r2) (s .args .d2) (c .if1 .left), weight-most (s .args .r2) (s .args .d2)) }
+
 returns-2 : tie.Need-returns-2
 returns-2 c = omega (arith, by-product (c .before .args .r2) (c .before .args .d2) (c .if1 .left))
 
 pub weight-spec : {M : Type 1} → statement M
 weight-spec =
-    tie.close (tie.spec returns mul-result mul-result-2 add-result cast-result div-result sub-result returns-2)
+    tie.close (tie.spec returns mul-result mul-result-2 add-result cast-result div-result sub-result cast-result-2 returns-2)
