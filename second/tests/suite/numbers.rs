@@ -16,8 +16,8 @@ fn accepted(call: &Call) -> Analysis {
 
 #[test]
 fn a_and_b_weights() {
-    assert_eq!([0, 4096, 8192].map(|d2| weight(96 * 96, d2)), [100, 38, 5]);
-    assert_eq!([3969, 4014, 4015, 4096].map(|d2| weight(64 * 64, d2)), [1, 1, 0, 0]);
+    assert_eq!([0, 4096, 8192].map(|d2| weight(96 * 96, d2)), [10_000, 3_846, 588]);
+    assert_eq!([3969, 4014, 4015, 4096].map(|d2| weight(64 * 64, d2)), [157, 101, 99, 0]);
     assert_eq!(weight(64 * 64, 2_020_000_000_000), 0);
 }
 

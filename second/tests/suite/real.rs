@@ -97,7 +97,7 @@ fn the_cases_are_counted() {
     for said in [
         "536 stations of document 002\n  limits [500000, 500000, 500000, 500000], smoothing off: 0 of",
         "smoothing off: 96 of 405 rejected; 88 of the 405 are posts\n",
-        "smoothing on: 329 of 405 rejected; 88 of the 405 are posts\n",
+        "smoothing on: 330 of 405 rejected; 88 of the 405 are posts\n",
         "\nreal analysis, 7 cases\n",
         "\nreal window, 205 cases\n",
         "\nreal windows, 62 cases\n",

@@ -30,7 +30,7 @@ fn windows_are_written_one_after_the_other() {
         Window::new(0, 0, 0, 0),
     ];
     let answer = screen(&fitting(&windows), &Screen::new(&windows)).expect("accepted");
-    let grid = [672, 759, 768, 768, 768, 585, 585, 672, 672, 759, 585];
+    let grid = [672, 757, 768, 768, 768, 587, 587, 672, 672, 757, 587];
     assert_eq!((answer.grid, answer.support), (grid.to_vec(), vec![1; 11]));
 }
 
