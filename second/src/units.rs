@@ -18,6 +18,8 @@ pub const READING_DIVISOR: f64 = 262_144.0;
 pub const UNIT: f64 = 64.0;
 /// Weights are whole ten-thousandths.
 pub const WEIGHT_SCALE: i64 = 10_000;
+/// What they were in before request 3, to tell requests apart by.
+pub const HUNDREDTHS: i64 = 100;
 
 pub const SIDE: RangeInclusive<u32> = 2..=64;
 pub const VALUE: RangeInclusive<i32> = -1_000_000..=1_000_000;

@@ -9,7 +9,7 @@ use second::scheme::analyse;
 use second::screen::points;
 use second::summary::Summary;
 use second::text;
-use second::units::{rounded, BORDER, MISSING};
+use second::units::{rounded, BORDER, MISSING, WEIGHT_SCALE};
 use second::verdicts::{before_first_scan, ACCEPTED, OFF_GRID};
 use second::window::{pick, reach, rows_on, widened};
 
@@ -285,7 +285,7 @@ pub fn faulty_run(call: &Call, fault: Fault) -> Analysis {
         match fault {
             Fault::HalvesTowardZero => halves_down(&call, scan, &accepted, &mut grid, &mut support),
             Fault::FedBySameScan => feeding(&call, scan, &verdict, &mut grid, &mut support),
-            _ => correct(&call, scan, &accepted, &mut grid, &mut support),
+            _ => correct(&call, scan, WEIGHT_SCALE, &accepted, &mut grid, &mut support),
         }
         if call.smooth {
             grid = match fault {
@@ -307,7 +307,7 @@ fn halves_down(call: &Call, scan: usize, from: &[Accepted], grid: &mut [i32], su
     let shape = call.shape();
     for point in 0..shape.points() {
         let (i, j) = (point % shape.nx, point / shape.nx);
-        let (weights, weighted) = sums(i, j, call.radius[scan], from);
+        let (weights, weighted) = sums(i, j, call.radius[scan], WEIGHT_SCALE, from);
         if weights > 0 {
             let exact_half = 2 * (weighted % weights).abs() == weights;
             let change = if exact_half { weighted / weights } else { rounded(weighted, weights) };
@@ -330,7 +330,7 @@ fn feeding(call: &Call, scan: usize, verdict: &[u8], grid: &mut [i32], support: 
             })
             .collect();
         let (i, j) = (point % shape.nx, point / shape.nx);
-        let (weights, weighted) = sums(i, j, call.radius[scan], &accepted);
+        let (weights, weighted) = sums(i, j, call.radius[scan], WEIGHT_SCALE, &accepted);
         if weights > 0 {
             grid[point] += rounded(weighted, weights) as i32;
             support[point] |= 1 << scan;
