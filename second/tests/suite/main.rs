@@ -16,6 +16,7 @@ mod screens;
 mod serve;
 mod sorts;
 mod texts;
+mod weight_sorts;
 mod windows;
 
 use second::call::Call;
