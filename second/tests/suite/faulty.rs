@@ -1,5 +1,6 @@
 //! Subjects with one planted fault each, to show that the harness sees it.
 
+use crate::faulty_weights::{self, WeightFault};
 use crate::windows::from_part;
 use second::call::{Analysis, Call, Query, Screen, Window, WindowAnswer};
 use second::compare::{Answer, Own, Results, Subject};
@@ -34,6 +35,7 @@ pub enum Fault {
     PostsLeaveTheCut,
     CornerPostsLeaveTheCut,
     PostsOfTheWindowOnly,
+    Weights(WeightFault),
     IdleCornersCount,
     NegativeZero,
     AnyCornerBacks,
@@ -285,6 +287,9 @@ pub fn faulty_run(call: &Call, fault: Fault) -> Analysis {
         match fault {
             Fault::HalvesTowardZero => halves_down(&call, scan, &accepted, &mut grid, &mut support),
             Fault::FedBySameScan => feeding(&call, scan, &verdict, &mut grid, &mut support),
+            Fault::Weights(fault) => {
+                faulty_weights::correct(&call, scan, &accepted, &mut grid, &mut support, fault)
+            }
             _ => correct(&call, scan, WEIGHT_SCALE, &accepted, &mut grid, &mut support),
         }
         if call.smooth {

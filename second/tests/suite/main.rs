@@ -4,6 +4,7 @@ mod bridge;
 mod command;
 mod faulty;
 mod faulty_screens;
+mod faulty_weights;
 mod harness;
 mod numbers;
 mod posts;
@@ -17,6 +18,7 @@ mod serve;
 mod sorts;
 mod texts;
 mod weight_sorts;
+mod weights;
 mod windows;
 
 use second::call::Call;

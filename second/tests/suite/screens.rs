@@ -179,7 +179,7 @@ fn a_fault_of_the_request_is_that_of_single_queries() {
 }
 
 /// So many generated screens, of any seed, show each fault. Over 20 seeds the
-/// first that did was case 312, and case 550 for cuts, at the latest.
+/// first that did was case 273, and case 551 for cuts, at the latest.
 const ENOUGH: u64 = 500;
 const ENOUGH_CUTS: u64 = 1_000;
 
