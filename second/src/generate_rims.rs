@@ -108,8 +108,8 @@ fn lonely_point(rng: &mut Rng, call: &Call, part: &Window, radius: i32) -> (i32,
     points.into_iter().find(is_lonely).unwrap_or(points[0])
 }
 
-/// Adds a station, if there is room for it round the point, with a difference
-/// that no limit rejects in the first scan.
+/// Adds a station, if there is room for it round the point. What it differs by
+/// from the first guess is within every limit that the plan has so far.
 fn add_station(rng: &mut Rng, call: &mut Call, point: (i32, i32), radius: i32, rim: Rim) {
     let (least, most) = rim.squares(radius);
     // Anywhere in the range: the outermost places are not the only ones.
@@ -118,6 +118,7 @@ fn add_station(rng: &mut Rng, call: &mut Call, point: (i32, i32), radius: i32, r
     let Some((x, y)) = found.and_then(|offset| placed(rng, call, point, offset)) else {
         return;
     };
+    // The widest limits let anything pass, and wild values are not asked for.
     let limits = &call.limit[..call.scans as usize];
     let widest = limits.iter().min().map_or(0, |limit| (*limit).clamp(0, 2_000));
     let value = guess_at(call, x, y) + rng.between(-widest, widest);
@@ -140,4 +141,39 @@ fn placed(
         places.iter().copied().find(|place| call.shape().holds_within(place.0, place.1, border))
     };
     within(0).or_else(|| within(BORDER))
+}
+
+#[cfg(test)]
+mod tests {
+    use super::*;
+    use crate::scan::{weight, weight_in};
+
+    #[test]
+    fn rims_have_the_weights_they_are_named_for() {
+        assert_eq!(Rim::Faint.squares(64), (4_015, 4_095));
+        for radius in 1..=200_i32 {
+            let r2 = i64::from(radius).pow(2);
+            for d2 in 0..r2 {
+                let (new, old) = (weight(r2, d2), weight_in(HUNDREDTHS, r2, d2));
+                let is_on = |rim: Rim| {
+                    let (least, most) = rim.squares(radius);
+                    (least..=most).contains(&d2)
+                };
+                let given = [Rim::Faint, Rim::Least, Rim::Silent].map(is_on);
+                assert_eq!(given, [new > 0 && old == 0, new == 1, new == 0], "{radius} {d2}");
+            }
+        }
+    }
+
+    #[test]
+    fn offsets_are_found_where_there_are_any() {
+        let mut rng = Rng::for_case(1, 2, 3);
+        for square in 0..2_000_i64 {
+            let is_sum = (0..=square.isqrt())
+                .any(|dx| (square - dx * dx).isqrt().pow(2) == square - dx * dx);
+            let found = offset(&mut rng, (square, square));
+            assert_eq!(found.is_some(), is_sum, "{square}");
+            assert!(found.is_none_or(|(dx, dy)| i64::from(dx * dx + dy * dy) == square));
+        }
+    }
 }

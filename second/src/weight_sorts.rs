@@ -96,6 +96,7 @@ fn accepted_in(call: &Call, scan: usize, verdict: &[u8]) -> Vec<(i64, i64)> {
     rows.map(|row| (i64::from(call.x[row]), i64::from(call.y[row]))).collect()
 }
 
+/// What a request has been found to have.
 #[derive(Default)]
 struct Found {
     gained: [bool; 2],
