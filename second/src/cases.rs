@@ -20,6 +20,7 @@ use crate::summary::{summarise, Summary};
 use crate::tally::{Floor, Tally};
 use crate::text;
 use crate::text_sorts;
+use crate::weight_sorts;
 use crate::window::{pick, whole};
 use crate::write::{listing, printf_form, rerun_form};
 
@@ -48,6 +49,7 @@ pub fn count_scheme(outcome: Result<(&Call, &Analysis), &Refusal>, tally: &mut T
         Ok((call, analysis)) => {
             tally.add_analysis(call, analysis);
             tally.add_sorts(&post_sorts::of_accepted(call, &analysis.verdict));
+            tally.add_sorts(&weight_sorts::of_accepted(call, analysis));
         }
         Err(refusal) => tally.add_refusal(refusal),
     }
@@ -129,7 +131,7 @@ impl Case for AnalysisCase {
 
     fn floors() -> Vec<Floor> {
         let scheme = scheme_floors(10_000, 300, &[1, 3, 4, 5, 6, 7, 8]);
-        [scheme, length_floors(), post_sorts::call_floors()].concat()
+        [scheme, length_floors(), post_sorts::call_floors(), weight_sorts::floors()].concat()
     }
 }
 
@@ -164,6 +166,7 @@ impl Case for WindowCase {
             (Ok(analysis), _) => {
                 tally.add_sorts(&sorts::of_accepted(call, window, &analysis.verdict));
                 tally.add_sorts(&post_sorts::of_window(call, window, &analysis.verdict));
+                tally.add_sorts(&weight_sorts::of_window(call, window, &analysis.verdict));
             }
             (_, 2) => tally.add_sorts(&sorts::of_bad(call, window)),
             _ => (),
@@ -202,7 +205,8 @@ impl Case for WindowCase {
         let scheme = scheme_floors(10_000, 300, &[1, 2, 3, 4, 5, 6, 7, 8]);
         let empty = vec![Floor::times("empty slice", 2, 50)];
         let posts = [post_sorts::call_floors(), post_sorts::window_floors(50)].concat();
-        [scheme, length_floors(), empty, sorts::floors(), posts].concat()
+        let weights = weight_sorts::window_floors();
+        [scheme, length_floors(), empty, sorts::floors(), posts, weights].concat()
     }
 }
 
@@ -366,6 +370,7 @@ impl Case for TextCase {
 
     fn floors() -> Vec<Floor> {
         let scheme = scheme_floors(10_000, 300, &[6, 7, 8, 9, 10]);
-        [scheme, text_sorts::floors(), harm::floors(), post_sorts::text_floors()].concat()
+        let stations = [post_sorts::text_floors(), weight_sorts::floors()].concat();
+        [scheme, text_sorts::floors(), harm::floors(), stations].concat()
     }
 }

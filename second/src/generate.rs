@@ -1,11 +1,13 @@
 //! The seeded generator: calls, each valid, heavy with bounds, or damaged by a
 //! schedule over the index. `generate_window` and `generate_screen` place windows
 //! on such calls, `generate_text` writes them out as texts, `generate_posts` sets
-//! stations beyond the border; `generate_query` makes readings and summaries.
+//! stations beyond the border and `generate_rims` some at the rim of a radius;
+//! `generate_query` makes readings and summaries.
 
-use crate::call::Call;
+use crate::call::{Call, Window};
 use crate::damage;
 use crate::generate_posts::beyond;
+use crate::generate_rims::add_on_a_rim;
 use crate::rng::Rng;
 use crate::scan::{difference, rounded_at};
 use crate::scheme::run;
@@ -102,6 +104,9 @@ pub fn boundary_call(rng: &mut Rng) -> Call {
 /// some are rejected in each of the scans.
 pub fn call_of(rng: &mut Rng, nx: u32, ny: u32, stations: usize) -> Call {
     let mut call = untuned_call(rng, nx, ny, stations);
+    let whole = Window::new(0, nx.saturating_sub(1), 0, ny.saturating_sub(1));
+    add_on_a_rim(rng, &mut call, &whole);
+    call.fit_results();
     tune_limits(rng, &mut call);
     order_limits(rng, &mut call);
     call

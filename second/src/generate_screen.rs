@@ -9,6 +9,7 @@ use crate::generate::{
     BIG_EVERY, TURNS,
 };
 use crate::generate_posts::move_beyond_the_cut;
+use crate::generate_rims::add_on_a_rim;
 use crate::generate_window::{
     any_window, lay_chain, move_to_the_cut, one, roomy_call, shortened, small_window, some,
 };
@@ -83,6 +84,7 @@ fn with_screen(rng: &mut Rng, make: Make, lay: Lay) -> (Call, Screen) {
         let [one, another] = [rng.pick(&windows), rng.pick(&windows)];
         move_to_the_cut(rng, &mut call, &one);
         move_beyond_the_cut(rng, &mut call, &another);
+        add_on_a_rim(rng, &mut call, &one);
     }
     if chained {
         let window = rng.pick(&windows);

@@ -8,6 +8,7 @@ use crate::generate::{
     untuned_call, Flavour, TURNS,
 };
 use crate::generate_posts::move_beyond_the_cut;
+use crate::generate_rims::add_on_a_rim;
 use crate::rng::Rng;
 use crate::scan::weight;
 use crate::units::{STEP, VALUE};
@@ -48,6 +49,7 @@ fn with_window(rng: &mut Rng, make: fn(&mut Rng) -> Call, place: Place) -> (Call
     let window = place(rng, call.nx, call.ny);
     move_to_the_cut(rng, &mut call, &window);
     move_beyond_the_cut(rng, &mut call, &window);
+    add_on_a_rim(rng, &mut call, &window);
     if rng.one_in(2) {
         lay_chain(rng, &mut call, &window);
     } else {

@@ -1,4 +1,4 @@
-//! The independent second program: document 01 with requests 1 and 2 of
+//! The independent second program: document 01 with requests 1 to 3 of
 //! document 02, worked out plainly, to be compared number for number with the
 //! proved implementation.
 
@@ -15,6 +15,7 @@ pub mod field;
 pub mod generate;
 pub mod generate_posts;
 pub mod generate_query;
+pub mod generate_rims;
 pub mod generate_screen;
 pub mod generate_text;
 pub mod generate_window;
@@ -46,5 +47,6 @@ pub mod text;
 pub mod text_sorts;
 pub mod units;
 pub mod verdicts;
+pub mod weight_sorts;
 pub mod window;
 pub mod write;

@@ -5,10 +5,10 @@
 use crate::call::{Analysis, Call, Query, Screen, Window};
 use crate::cases::{AnalysisCase, ReadingCase, SummaryCase, TextCase, WindowCase};
 use crate::post_sorts::is_post;
-use crate::scheme::run;
+use crate::scheme::{run, run_in};
 use crate::screen::points;
 use crate::screen_case::ScreenCase;
-use crate::units::{DEFAULT_AGE, MOST_STATIONS, MOST_WINDOWS, NO_END};
+use crate::units::{DEFAULT_AGE, HUNDREDTHS, MOST_STATIONS, MOST_WINDOWS, NO_END};
 use crate::write::{written_out, Style};
 
 /// What `data/README.md` describes.
@@ -108,7 +108,7 @@ fn call(stations: &[Station], plan: &Plan, smooth: bool) -> Call {
 }
 
 /// A request over as many stations as a request may have, its analysis, and a
-/// line on what its limits reject.
+/// line on what its limits reject and its weights gain.
 struct Accepted {
     call: Call,
     analysis: Analysis,
@@ -124,11 +124,13 @@ impl Accepted {
         let part: Vec<(usize, u8)> = verdicts.filter(|(_, verdict)| *verdict != 5).collect();
         let posts = part.iter().filter(|(row, verdict)| is_post(&call, *row, *verdict)).count();
         let (rejected, of) = (part.iter().filter(|(_, verdict)| *verdict > 10).count(), part.len());
+        let gained = gained(&call, &analysis);
         let Plan { limits, rejects, holds } = plan;
         let switch = if smooth { "on" } else { "off" };
         let said = format!(
             "limits {limits:?}, smoothing {switch}: {rejected} of {of} rejected; \
-             {posts} of the {of} are posts"
+             {posts} of the {of} are posts; \
+             points that gain support over a run in hundredths: {gained}"
         );
         if holds(rejected, of) {
             Ok(Accepted { call, analysis, said })
@@ -154,6 +156,12 @@ impl Accepted {
     fn text(&self) -> Vec<u8> {
         written_out(&self.call, Style::default()).into_bytes()
     }
+}
+
+/// The points that have support in a scan where a run in hundredths gives none.
+fn gained(call: &Call, analysis: &Analysis) -> usize {
+    let old = run_in(call, HUNDREDTHS).support;
+    analysis.support.iter().zip(old).filter(|(new, old)| *new & !old != 0).count()
 }
 
 /// The call with a window, and results as long as that.

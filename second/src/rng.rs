@@ -12,6 +12,11 @@ impl Rng {
         Rng(of_kind ^ index)
     }
 
+    /// A source beside this one: whatever it draws, this one goes on the same.
+    pub fn beside(&self) -> Self {
+        Rng(Rng(!self.0).draw())
+    }
+
     pub fn draw(&mut self) -> u64 {
         self.0 = self.0.wrapping_add(0x9E37_79B9_7F4A_7C15);
         let z = (self.0 ^ (self.0 >> 30)).wrapping_mul(0xBF58_476D_1CE4_E5B9);

@@ -54,21 +54,26 @@ pub fn judge(call: &Call, field: &[i32], scan: usize, verdict: &mut [u8]) -> Vec
 
 /// The weight of a station at squared distance `d2`, for a squared radius.
 pub fn weight(r2: i64, d2: i64) -> i64 {
+    weight_in(WEIGHT_SCALE, r2, d2)
+}
+
+/// The same on another scale, which is the weight at the station itself.
+pub fn weight_in(scale: i64, r2: i64, d2: i64) -> i64 {
     if d2 >= r2 {
         0
     } else {
-        WEIGHT_SCALE * (r2 - d2) / (r2 + d2)
+        scale * (r2 - d2) / (r2 + d2)
     }
 }
 
 /// The sum of weights and the sum of weight times D at the point (i, j).
-pub fn sums(i: usize, j: usize, radius: i32, accepted: &[Accepted]) -> (i64, i64) {
+pub fn sums(i: usize, j: usize, radius: i32, scale: i64, accepted: &[Accepted]) -> (i64, i64) {
     let (px, py) = (STEP * i as i64, STEP * j as i64);
     let r2 = i64::from(radius) * i64::from(radius);
     let (mut weights, mut weighted) = (0, 0);
     for station in accepted {
         let (dx, dy) = (station.x - px, station.y - py);
-        let w = weight(r2, dx * dx + dy * dy);
+        let w = weight_in(scale, r2, dx * dx + dy * dy);
         weights += w;
         weighted += w * station.difference;
     }
@@ -80,6 +85,7 @@ pub fn sums(i: usize, j: usize, radius: i32, accepted: &[Accepted]) -> (i64, i64
 pub fn correct(
     call: &Call,
     scan: usize,
+    scale: i64,
     accepted: &[Accepted],
     field: &mut [i32],
     support: &mut [u8],
@@ -91,7 +97,7 @@ pub fn correct(
         let beside = |station: &&Accepted| (station.y - STEP * j as i64).abs() < radius;
         let near: Vec<Accepted> = accepted.iter().filter(beside).copied().collect();
         for i in 0..shape.nx {
-            let (weights, weighted) = sums(i, j, call.radius[scan], &near);
+            let (weights, weighted) = sums(i, j, call.radius[scan], scale, &near);
             if weights > 0 {
                 let point = shape.index(i, j);
                 // A correction is at most E in size, so i32 holds the sum.

@@ -13,6 +13,7 @@ use crate::screen_sorts;
 use crate::shrink_screen;
 use crate::tally::{Floor, Tally};
 use crate::text;
+use crate::weight_sorts;
 use crate::write::listing;
 
 #[derive(Clone, Debug, PartialEq, Eq)]
@@ -79,7 +80,7 @@ impl Case for ScreenCase {
     fn floors() -> Vec<Floor> {
         let scheme = scheme_floors(9_000, 30, &[1, 2, 3, 4, 5, 6, 7, 8]);
         let empty = vec![Floor::times("empty slice", 2, 50)];
-        [scheme, length_floors(), empty, screen_sorts::floors(), post_sorts::screen_floors()]
-            .concat()
+        let stations = [post_sorts::screen_floors(), weight_sorts::window_floors()].concat();
+        [scheme, length_floors(), empty, screen_sorts::floors(), stations].concat()
     }
 }

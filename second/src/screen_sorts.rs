@@ -10,6 +10,7 @@ use crate::screen::{points, OF_THE_COLUMNS};
 use crate::sorts::{self, floors_of, named, Sort};
 use crate::tally::Floor;
 use crate::units::MOST_WINDOWS;
+use crate::weight_sorts;
 use crate::window::{pick, reach, widened};
 use std::ops::RangeInclusive;
 
@@ -201,7 +202,8 @@ fn with_other_numbers(call: &Call, windows: &[Window], analysis: &Analysis) -> V
 fn by_themselves(call: &Call, windows: &[Window], verdict: &[u8]) -> Vec<Sort> {
     let each = windows.iter().flat_map(|window| {
         let posts = post_sorts::of_window(call, window, verdict);
-        [sorts::of_accepted(call, window, verdict), posts].concat()
+        let weights = weight_sorts::of_window(call, window, verdict);
+        [sorts::of_accepted(call, window, verdict), posts, weights].concat()
     });
     let mut found: Vec<Sort> = each.collect();
     found.sort_unstable();

@@ -16,8 +16,10 @@ pub const CELL: i64 = STEP * STEP;
 pub const READING_DIVISOR: f64 = 262_144.0;
 /// Values are whole numbers of one over this.
 pub const UNIT: f64 = 64.0;
-/// Weights are whole hundredths.
-pub const WEIGHT_SCALE: i64 = 100;
+/// Weights are whole ten-thousandths.
+pub const WEIGHT_SCALE: i64 = 10_000;
+/// What they were in before request 3, to tell requests apart by.
+pub const HUNDREDTHS: i64 = 100;
 
 pub const SIDE: RangeInclusive<u32> = 2..=64;
 pub const VALUE: RangeInclusive<i32> = -1_000_000..=1_000_000;

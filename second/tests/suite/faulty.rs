@@ -1,5 +1,6 @@
 //! Subjects with one planted fault each, to show that the harness sees it.
 
+use crate::faulty_weights::{self, WeightFault};
 use crate::windows::from_part;
 use second::call::{Analysis, Call, Query, Screen, Window, WindowAnswer};
 use second::compare::{Answer, Own, Results, Subject};
@@ -9,7 +10,7 @@ use second::scheme::analyse;
 use second::screen::points;
 use second::summary::Summary;
 use second::text;
-use second::units::{rounded, BORDER, MISSING};
+use second::units::{rounded, BORDER, MISSING, WEIGHT_SCALE};
 use second::verdicts::{before_first_scan, ACCEPTED, OFF_GRID};
 use second::window::{pick, reach, rows_on, widened};
 
@@ -34,6 +35,7 @@ pub enum Fault {
     PostsLeaveTheCut,
     CornerPostsLeaveTheCut,
     PostsOfTheWindowOnly,
+    Weights(WeightFault),
     IdleCornersCount,
     NegativeZero,
     AnyCornerBacks,
@@ -285,7 +287,10 @@ pub fn faulty_run(call: &Call, fault: Fault) -> Analysis {
         match fault {
             Fault::HalvesTowardZero => halves_down(&call, scan, &accepted, &mut grid, &mut support),
             Fault::FedBySameScan => feeding(&call, scan, &verdict, &mut grid, &mut support),
-            _ => correct(&call, scan, &accepted, &mut grid, &mut support),
+            Fault::Weights(fault) => {
+                faulty_weights::correct(&call, scan, &accepted, &mut grid, &mut support, fault)
+            }
+            _ => correct(&call, scan, WEIGHT_SCALE, &accepted, &mut grid, &mut support),
         }
         if call.smooth {
             grid = match fault {
@@ -307,7 +312,7 @@ fn halves_down(call: &Call, scan: usize, from: &[Accepted], grid: &mut [i32], su
     let shape = call.shape();
     for point in 0..shape.points() {
         let (i, j) = (point % shape.nx, point / shape.nx);
-        let (weights, weighted) = sums(i, j, call.radius[scan], from);
+        let (weights, weighted) = sums(i, j, call.radius[scan], WEIGHT_SCALE, from);
         if weights > 0 {
             let exact_half = 2 * (weighted % weights).abs() == weights;
             let change = if exact_half { weighted / weights } else { rounded(weighted, weights) };
@@ -330,7 +335,7 @@ fn feeding(call: &Call, scan: usize, verdict: &[u8], grid: &mut [i32], support: 
             })
             .collect();
         let (i, j) = (point % shape.nx, point / shape.nx);
-        let (weights, weighted) = sums(i, j, call.radius[scan], &accepted);
+        let (weights, weighted) = sums(i, j, call.radius[scan], WEIGHT_SCALE, &accepted);
         if weights > 0 {
             grid[point] += rounded(weighted, weights) as i32;
             support[point] |= 1 << scan;

@@ -4,6 +4,7 @@ mod bridge;
 mod command;
 mod faulty;
 mod faulty_screens;
+mod faulty_weights;
 mod harness;
 mod numbers;
 mod posts;
@@ -16,6 +17,8 @@ mod screens;
 mod serve;
 mod sorts;
 mod texts;
+mod weight_sorts;
+mod weights;
 mod windows;
 
 use second::call::Call;
@@ -26,7 +29,7 @@ const REQUEST: &str = "grid=3,3\ntime=1000\nage=60\nsmooth=0\nscans=1\nscan=96,2
     row=640,640,640\nrow=640,640,640\nrow=640,640,640\nstations=3\n\
     st=64,64,768,990,0,open\nst=0,0,576,1000,0,open\nst=128,128,700,990,0,995\n";
 
-const ANSWER: &str = "refusal=0\nplace=0\nrow=585,672,768\nrow=672,759,768\nrow=768,768,768\n\
+const ANSWER: &str = "refusal=0\nplace=0\nrow=587,672,768\nrow=672,757,768\nrow=768,768,768\n\
     sup=1,1,1\nsup=1,1,1\nsup=1,1,1\nver=0,0,2\n";
 
 fn sample() -> Call {

@@ -4,10 +4,10 @@ use crate::{changed, lone_station, sample, ANSWER, REQUEST};
 use second::call::{Analysis, Call};
 use second::field::Shape;
 use second::reading::{reading, Reading};
-use second::scan::{smoothed, weight};
-use second::scheme::analyse;
+use second::scan::{smoothed, weight, weight_in};
+use second::scheme::{analyse, run_in};
 use second::text::answer;
-use second::units::{rounded, CELL};
+use second::units::{rounded, CELL, HUNDREDTHS};
 use second::window::reach;
 
 fn accepted(call: &Call) -> Analysis {
@@ -16,9 +16,21 @@ fn accepted(call: &Call) -> Analysis {
 
 #[test]
 fn a_and_b_weights() {
-    assert_eq!([0, 4096, 8192].map(|d2| weight(96 * 96, d2)), [100, 38, 5]);
-    assert_eq!([3969, 4014, 4015, 4096].map(|d2| weight(64 * 64, d2)), [1, 1, 0, 0]);
+    assert_eq!([0, 4096, 8192].map(|d2| weight(96 * 96, d2)), [10_000, 3_846, 588]);
+    assert_eq!([3969, 4014, 4015, 4096].map(|d2| weight(64 * 64, d2)), [157, 101, 99, 0]);
     assert_eq!(weight(64 * 64, 2_020_000_000_000), 0);
+}
+
+/// The table of document 01 as it stood, so that the run on that scale is the
+/// old one.
+#[test]
+fn a_b_and_i_in_hundredths() {
+    let weights = |r2, d2: [i64; 4]| d2.map(|d2| weight_in(HUNDREDTHS, r2, d2));
+    assert_eq!(weights(96 * 96, [0, 4096, 8192, 9216]), [100, 38, 5, 0]);
+    assert_eq!(weights(64 * 64, [3969, 4014, 4015, 4096]), [1, 1, 0, 0]);
+    let old = run_in(&sample(), HUNDREDTHS);
+    assert_eq!(old.grid, [585, 672, 768, 672, 759, 768, 768, 768, 768]);
+    assert_eq!((old.support, old.verdict), (vec![1; 9], vec![0, 0, 2]));
 }
 
 #[test]

@@ -19,7 +19,7 @@ use second::window::{cut, cut_with, pick, reach, rows_on, widened};
 
 const SEED: u64 = 7;
 
-fn run_cases<C: Case>(subject: &dyn Subject, count: u64) -> Run<C> {
+pub fn run_cases<C: Case>(subject: &dyn Subject, count: u64) -> Run<C> {
     compare::run(subject, SEED, count)
 }
 
@@ -97,7 +97,7 @@ fn weights_use_the_true_position() {
 }
 
 /// Generated requests that are accepted.
-fn requests(seed: u64, count: u64) -> impl Iterator<Item = (Call, Analysis)> {
+pub fn requests(seed: u64, count: u64) -> impl Iterator<Item = (Call, Analysis)> {
     let calls = (0..count).map(move |index| AnalysisCase::generate(seed, index).0);
     calls.filter_map(|call| analyse(&call).ok().map(|analysis| (call, analysis)))
 }
@@ -125,12 +125,13 @@ fn a_border_of_0_changes_requests_with_posts_and_no_others() {
 /// So many generated analyses or texts, and so many windows, of any seed, show
 /// each fault of posts. Over 20 seeds the first that did was case 23 and case
 /// 372 at the latest: few windows hear a post that is 256 units out. Of screens
-/// it was case 804: few are answered by cuts with a post beyond a corner.
+/// it was case 635: few are answered by cuts with a post beyond a corner.
 const ENOUGH: u64 = 100;
 const ENOUGH_WINDOWS: u64 = 500;
 const ENOUGH_SCREENS: u64 = 1_500;
 
-fn seen_within<C: Case>(count: u64, faults: &[Fault]) {
+/// Whether each of the faults is seen within so many cases, whatever the seed.
+pub fn seen_within<C: Case>(count: u64, faults: &[Fault]) {
     for fault in faults {
         for seed in 0..5 {
             let differs = |index| C::generate(seed, index).differs(&Faulty(*fault)).is_some();

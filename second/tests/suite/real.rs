@@ -3,6 +3,7 @@
 
 use crate::faulty::{Fault, Faulty};
 use crate::faulty_screens::{FaultyScreen, OF_ANSWERS};
+use crate::faulty_weights::WeightFault;
 use second::call::Refusal;
 use second::compare::{Case, Own};
 use second::field::Shape;
@@ -10,8 +11,10 @@ use second::real::{stations, Cases, Station, DATA};
 use second::scheme::analyse;
 use second::survey::{compare_real, compare_real_texts};
 use second::text::answer;
+use second::units::HUNDREDTHS;
 
 const GRID: Shape = Shape { nx: 21, ny: 27 };
+const GAIN: &str = "points that gain support over a run in hundredths";
 
 fn cases() -> Cases {
     stations(DATA).and_then(|stations| Cases::new(&stations)).expect("as they should be")
@@ -56,8 +59,9 @@ fn limits_that_reject_too_many_are_said() {
         (0..512).map(|row| Station { x: row, y: row, value: 1_000_000 }).collect();
     let said = Cases::new(&wild).err().expect("all are rejected");
     let opening = "limits [500000, 500000, 500000, 500000], smoothing off: 512 of 512 rejected";
-    let close = "0 of the 512 are posts; none were to be rejected: choose other limits in real.rs";
-    assert_eq!(said, format!("{opening}; {close}"));
+    let posts = "0 of the 512 are posts";
+    let close = "none were to be rejected: choose other limits in real.rs";
+    assert_eq!(said, format!("{opening}; {posts}; {GAIN}: 0; {close}"));
 }
 
 #[test]
@@ -96,8 +100,9 @@ fn the_cases_are_counted() {
     let out = String::from_utf8(out).expect("plain");
     for said in [
         "536 stations of document 002\n  limits [500000, 500000, 500000, 500000], smoothing off: 0 of",
-        "smoothing off: 96 of 405 rejected; 88 of the 405 are posts\n",
-        "smoothing on: 329 of 405 rejected; 88 of the 405 are posts\n",
+        &format!("smoothing off: 96 of 405 rejected; 88 of the 405 are posts; {GAIN}: 1\n"),
+        &format!("smoothing off: 322 of 405 rejected; 88 of the 405 are posts; {GAIN}: 10\n"),
+        &format!("smoothing on: 330 of 405 rejected; 88 of the 405 are posts; {GAIN}: 8\n"),
         "\nreal analysis, 7 cases\n",
         "\nreal window, 205 cases\n",
         "\nreal windows, 62 cases\n",
@@ -125,6 +130,9 @@ fn faults_are_seen_in_the_real_stations() {
         Fault::FieldForPosts,
         Fault::FirstGuessForAll,
         Fault::DistanceFromPlace,
+        Fault::Weights(WeightFault::Scale(HUNDREDTHS)),
+        Fault::Weights(WeightFault::Rounded),
+        Fault::Weights(WeightFault::SupportOfHundredths),
     ] {
         let seen = cases.analyses.iter().any(|case| case.differs(&Faulty(fault)).is_some());
         assert!(seen, "{fault:?} was not seen");
