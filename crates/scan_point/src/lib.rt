@@ -31,7 +31,10 @@ fn more(w: u64, wd: i64, r2: u32, d2: u32, d: i64) -> Sums
     let q = scan_weight::weight(r2, d2);
     let weights = w + (q as u64);
     let pulls = wd + (q as i64) * d;
-    Sums { w: weights, wd: pulls }
+    Sums {
+        w: weights,
+        wd: pulls,
+    }
 }
 
 // The sums at column i of a grid row with one more of the stations near that row, the one at t.
