@@ -123,7 +123,7 @@ extern "C" {
 **
 **   10000*(radius*radius - d2)/(radius*radius + d2), without its fraction
 **
-** and one farther off has none. It never rises with the distance:
+** and any other has none. It never rises with the distance:
 **
 **   radius   d2: weight
 **   96       0: 10000   4096: 3846   8192: 588   9216: 0
