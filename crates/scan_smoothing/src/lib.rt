@@ -1,116 +1,85 @@
-// Smoothing of one point, and of the whole field (document 01, "One scan", Smoothing).
+// Smoothing of the whole field, in place (document 01, "One scan", Smoothing; document 02, Item 4).
 ghost use mathlib.Core.Path.{_≡_};
-ghost use mathlib.Core.Bool.{_&&_};
-ghost use Prim.Native.Nat.{_+_, _*_, _≤_, _<_};
+ghost use Prim.Native.Nat.{_+_, _-_, _*_, _≤_, _<_};
 ghost use lib.ListN.{length, getD};
-ghost use lib.IntN.{pos};
+ghost use lib.IntN.{pos, natAbs};
 ghost use Rattle.lists.specs.Filled.{Filled};
 ghost use Rattle.scheme.specs.Units.{mostSide, stored, fieldOf};
-ghost use Rattle.scheme.specs.Smoothing.{inner, smoothed};
+ghost use Rattle.scheme.specs.Rounding.{rounded};
+ghost use Rattle.scheme.specs.Smoothing.{smoothed};
 ghost use Rattle.scheme.specs.Most.{mostPoints};
 ghost use Rattle.scheme.specs.Accepted.{Shaped};
 ghost use Rattle.scheme.specs.Bounds.{Small};
-ghost use Rattle.scan_smoothing.specs.Pattern.{rowAt, nineAt};
-ghost use Rattle.scan_smoothing.specs.Pass.{smoothK};
-use rounding::Total;
+ghost use Rattle.scan_smoothing.specs.Pattern.{SmallFrom, rowAt, newAt};
 
 // The three-by-three pattern is one table.
 const PATTERN: [[u32; 3]; 3] = [[1, 2, 1], [2, 4, 2], [1, 2, 1]];
 
 // Row b of the pattern, laid on three places from p on.
-fn row_sum(z: &[i32], p: usize, b: usize) -> i64
-    requires { ⌜ (b < 3) × (p + 3 ≤ length (now z)) × (length (now z) ≤ mostPoints) × Small (now z) ⌝ }
+fn row_sum(z: &[i32], p: usize, b: usize) -> i32
+    requires { ⌜ (b < 3) × (p + 3 ≤ length (now z)) × (length (now z) ≤ mostPoints) × SmallFrom p (now z) ⌝ }
     ensures { λ r. ⌜ r ≡ rowAt (now (z .entry)) p b ⌝ }
 {
-    let mut s = Total { t: 0 };
+    let mut s: i32 = 0;
     let mut a: usize = 0;
     while a < 3 {
-        s = rounding::plus(s.t, PATTERN[b][a], z[p + a] as i64);
+        s += PATTERN[b][a] as i32 * z[p + a];
         a += 1;
     }
-    s.t
+    s
 }
 
-// The pattern, laid on the nine places whose lowest is p, in a grid of nx columns.
-fn pattern_sum(z: &[i32], nx: usize, p: usize) -> i64
-    requires { ⌜ (nx ≤ mostSide) × (p + 2 * nx + 3 ≤ length (now z)) × (length (now z) ≤ mostPoints) × Small (now z) ⌝ }
-    ensures { λ r. ⌜ r ≡ nineAt (now (z .entry)) nx p ⌝ }
+// A sixteenth, to the nearest whole number, halves away from zero. The shift takes the next lower number, so that below zero a half has one
+// less to be lifted by. With no division, and nothing behind the branch but what is added, the compiler makes four at a time.
+fn sixteenth(n: i32) -> i32
+    requires { ⌜ natAbs n ≤ 1000000000 ⌝ }
+    ensures { λ r. ⌜ r ≡ rounded n 16 ⌝ }
 {
-    let mut s = Total { t: 0 };
-    let mut b: usize = 0;
-    while b < 3 {
-        s = rounding::plus(s.t, 1, row_sum(z, p + b * nx, b));
-        b += 1;
-    }
-    s.t
+    let m = if n < 0 { n + 7 } else { n + 8 };
+    m >> 4
 }
 
-// Neither the first nor the last of n.
-fn is_inner(n: usize, i: usize) -> bool
-    requires { ⌜ i < mostSide ⌝ }
-    ensures { λ r. ⌜ r ≡ inner n i ⌝ }
-{
-    if 0 < i { i + 1 < n } else { false }
-}
-
-// Not on the border of a grid of nx columns and ny rows.
-fn is_inner_point(nx: usize, ny: usize, i: usize, j: usize) -> bool
-    requires { ⌜ (i < mostSide) × (j < mostSide) ⌝ }
-    ensures { λ r. ⌜ r ≡ inner nx i && inner ny j ⌝ }
-{
-    if is_inner(nx, i) {
-        is_inner(ny, j)
-    } else {
-        false
-    }
-}
-
-// The value of point (i, j) after smoothing. A point on the border of the grid keeps its value.
-pub fn smooth_at(z: &[i32], nx: usize, ny: usize, i: usize, j: usize) -> i32
-    requires { ⌜ Shaped nx ny (length (now z)) × Small (now z) × (i < nx) × (j < ny) ⌝ }
-    ensures { λ r. ⌜ r ≡ smoothed nx ny (fieldOf (pos 0) nx (now (z .entry))) i j ⌝ }
-{
-    let k = j * nx + i;
-    if !is_inner_point(nx, ny, i, j) {
-        return z[k];
-    }
-    rounding::rounded(pattern_sum(z, nx, k - nx - 1), 16) as i32
-}
-
-// Row j into the second grid, which has its rows where the grid has them.
-fn smooth_row(out: &mut [i32; 4096], z: &[i32], nx: usize, ny: usize, j: usize)
-    requires { ⌜ Shaped nx ny (length (now z)) × Small (now z) × (j < ny) × (length (now out) ≡ mostPoints) ⌝ }
-    ensures { λ u. ⌜ Filled (pos 0) (smoothK (now (z .entry)) nx ny) (j * nx) (j * nx + nx) (now (out .entry)) (now (out .exit)) ⌝ }
+// The nx values from base on, into a row that is kept.
+fn keep_row(row: &mut [i32; 64], z: &[i32], base: usize, nx: usize)
+    requires { ⌜ (nx ≤ mostSide) × (base + nx ≤ length (now z)) × (length (now z) ≤ mostPoints) × (length (now row) ≡ mostSide) ⌝ }
+    ensures { λ u. ⌜ Filled (pos 0) (λ k. getD (now (z .entry)) (base + k) (pos 0)) 0 nx (now (row .entry)) (now (row .exit)) ⌝ }
 {
     let mut i: usize = 0;
     while i < nx {
-        out[j * nx + i] = smooth_at(z, nx, ny, i, j);
+        row[i] = z[base + i];
         i += 1;
     }
 }
 
-// The second grid has room for the largest grid; only as many of its places as the grid has are taken.
-fn put_back(z: &mut [i32], out: &[i32; 4096])
-    requires { ⌜ length (now z) ≤ mostPoints ⌝ }
-    ensures { λ u. ⌜ Filled (pos 0) (λ k. getD (now (out .entry)) k (pos 0)) 0 (length (now (z .entry))) (now (z .entry)) (now (z .exit)) ⌝ }
+// The inner points of the row that begins at base: each is made from the old values above and beside it, which are kept, and below it, where
+// the grid still has them.
+fn smooth_row(z: &mut [i32], base: usize, nx: usize, above: &[i32; 64], here: &[i32; 64])
+    requires { ⌜ (2 ≤ nx) × (nx ≤ mostSide) × (base + nx + nx ≤ length (now z)) × (length (now z) ≤ mostPoints) × SmallFrom (base + nx) (now z) × (length (now above) ≡ mostSide) × Small (now above) × (length (now here) ≡ mostSide) × Small (now here) ⌝ }
+    ensures { λ u. ⌜ Filled (pos 0) (λ k. newAt (now (above .entry)) (now (here .entry)) (now (z .entry)) (base + nx) (k - (base + 1))) (base + 1) (base + 1 + (nx - 2)) (now (z .entry)) (now (z .exit)) ⌝ }
 {
-    let mut k: usize = 0;
-    while k < z.len() {
-        z[k] = out[k];
-        k += 1;
+    let mut i: usize = 0;
+    while i + 2 < nx {
+        let n = row_sum(above, i, 0) + row_sum(here, i, 1) + row_sum(z, base + nx + i, 2);
+        z[base + 1 + i] = sixteenth(n);
+        i += 1;
     }
 }
 
-// All points at once: each is made from the grid as it was, in a second grid, which then takes its place.
+// All points at once: a row is made from old rows alone. The grid has the old ones from the row below on; of those that are made anew by then,
+// and of the row at hand, a copy is kept. The first row and the last are border.
 pub fn smooth(z: &mut [i32], nx: usize, ny: usize)
     requires { ⌜ Shaped nx ny (length (now z)) × Small (now z) ⌝ }
     ensures { λ u. ⌜ now (z .exit) ≡ stored nx ny (smoothed nx ny (fieldOf (pos 0) nx (now (z .entry)))) ⌝ }
 {
-    let mut out = [0i32; 4096];
+    let mut above = [0i32; 64];
+    let mut here = [0i32; 64];
+    keep_row(&mut above, z, 0, nx);
     let mut j: usize = 0;
-    while j < ny {
-        smooth_row(&mut out, z, nx, ny, j);
+    while j + 2 < ny {
+        let base = (j + 1) * nx;
+        keep_row(&mut here, z, base, nx);
+        smooth_row(z, base, nx, &above, &here);
+        above = here;
         j += 1;
     }
-    put_back(z, &out);
 }

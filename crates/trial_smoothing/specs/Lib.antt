@@ -1,0 +1,2 @@
+-- What the trial of smoothing promises, and its laws. Proved.
+pub mod Trial
