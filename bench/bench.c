@@ -55,6 +55,9 @@ static const struct evening EVENINGS[] = {
     {"c", 16, 16, 12, 2, {320, 192}, {640, 384}, false, ON_GRID},
     {"p", 64, 64, 64, 4, {512, 320, 192, 128}, {640, 512, 384, 320}, true, POSTS},
     {"w", 64, 64, 512, 2, {128, 64}, {640, 512}, true, ON_GRID},
+    /* With no stations nothing is corrected. These two are unlike in smoothing alone. */
+    {"s", 64, 64, 0, 6, {64, 64, 64, 64, 64, 64}, {ANY, ANY, ANY, ANY, ANY, ANY}, true, ON_GRID},
+    {"u", 64, 64, 0, 6, {64, 64, 64, 64, 64, 64}, {ANY, ANY, ANY, ANY, ANY, ANY}, false, ON_GRID},
 };
 
 struct input {
@@ -104,7 +107,7 @@ static struct sosnyavik_screen screen;
 static void complain(const char *what, const char *word) {
     fprintf(
         stderr,
-        "bench: %s '%s': use bench a|b|c|p|w ours|plain|both REPEAT, window SIDE, "
+        "bench: %s '%s': use bench a|b|c|p|w|s|u ours|plain|both REPEAT, window SIDE, "
         "screen|windows|singles|tests|cuts SCREEN, one reading|summary, text, or stack [SIDE|SCREEN|reading|summary], "
         "where a SCREEN is spread, corners, middle or none\n",
         what, word);
