@@ -37,10 +37,10 @@ module _ (s : lts.Start reads.Pre reads.Post) where
       (toZ-ofZ {z = shrZ (n +ℤ pos h) 16} (record { sfits = omega (arith, mag-shr (n +ℤ pos h) 16, mag-size (n +ℤ pos h), lifted-small h m) }))
 
 add-m : tie.Need-add-m
-add-m c = lifted-fits (c .before) 7 (omega arith)
+add-m c = lifted-fits (c .before) _ (omega arith)
 
 add-m-2 : tie.Need-add-m-2
-add-m-2 c = lifted-fits (c .before) 8 (omega arith)
+add-m-2 c = lifted-fits (c .before) _ (omega arith)
 
 returns : tie.Need-returns
 returns c =
