@@ -8,7 +8,7 @@ use crate::generate_field::{BAD_SIDES, BAD_VALUES};
 use crate::refusals::check_shape;
 use crate::scan::{smoothed, smoothing_sum, PATTERN_SUM};
 use crate::slips::{self, smoothed_with};
-use crate::sorts::{floors_of, named, Sort};
+use crate::sorts::{floors_in_order, floors_of, named, Sort};
 use crate::tally::Floor;
 use crate::units::{FIELD, SIDE};
 
@@ -38,27 +38,27 @@ const BAD_ALONE: &str =
     "one refused value alone (at the first point, at the last, at an inner point)";
 const KEPT: &str = "refused field that smoothing would change (by sides, by length, by a value)";
 
-/// The least of each sort in a full run, which is four times as long as most
-/// runs of fields are.
+/// The least of each sort in a full run. Most runs of fields are a quarter of
+/// that, and have a quarter of these.
 pub fn floors() -> Vec<Floor> {
     let sorts = floors_of(&[
-        (SIDES, 9, 1),
-        (UNEQUAL, 2, 1),
-        (EXTREMES, 5, 1),
-        (LONE, 3, 1),
-        (SUMS, 8, 1),
-        (NO_SUM, 2, 1),
-        (SHOWN, slips::ALL.len() as u32, 1),
-        (BAD_NX, 4, 1),
-        (BAD_NY, 4, 1),
-        (FITTING, 3, 1),
-        (WRAPPED, 1, 1),
-        (BAD_LENGTH, 5, 1),
-        (BAD_VALUE, 4, 1),
-        (BAD_ALONE, 3, 1),
-        (KEPT, 3, 1),
+        (SIDES, 9, 600),
+        (UNEQUAL, 2, 2_000),
+        (LONE, 3, 60),
+        (NO_SUM, 2, 800),
+        (SHOWN, slips::ALL.len() as u32, 1_200),
+        (BAD_NX, 4, 120),
+        (BAD_NY, 4, 120),
+        (FITTING, 3, 120),
+        (WRAPPED, 1, 120),
+        (BAD_LENGTH, 5, 120),
+        (BAD_VALUE, 4, 240),
+        (BAD_ALONE, 3, 120),
+        (KEPT, 3, 120),
     ]);
-    [vec![Floor::accepted_share(15_000)], sorts].concat()
+    let sums = [&[1_600; 6][..], &[400; 2]].concat();
+    let extremes = floors_in_order(EXTREMES, &[400, 400, 320, 320, 100]);
+    [vec![Floor::accepted_share(15_000)], sorts, extremes, floors_in_order(SUMS, &sums)].concat()
 }
 
 /// The sorts of an accepted field, with what it is smoothed to.
@@ -96,7 +96,8 @@ fn extremes(shape: Shape, values: &[i32]) -> [bool; 5] {
     let (least, most) = (*FIELD.start(), *FIELD.end());
     let all = |value: i32| values.iter().all(|other| *other == value);
     let extreme = |point: &usize| [least, most].contains(&values[*point]);
-    let across = |point: usize| point % shape.nx == 0 || values[point] != values[point - 1];
+    let across =
+        |point: usize| point.is_multiple_of(shape.nx) || values[point] != values[point - 1];
     let down = |point: usize| point < shape.nx || values[point] != values[point - shape.nx];
     let checks = |point: usize| extreme(&point) && across(point) && down(point);
     let at: Vec<usize> = (0..values.len()).filter(extreme).take(2).collect();

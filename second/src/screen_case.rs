@@ -82,7 +82,7 @@ impl Case for ScreenCase {
         let scheme = scheme_floors(9_000, 30, &[1, 2, 3, 4, 5, 6, 7, 8]);
         let empty = vec![Floor::times("empty slice", 2, 50)];
         let stations = [post_sorts::screen_floors(), weight_sorts::window_floors()].concat();
-        let smoothing = smoothing_sorts::window_floors();
+        let smoothing = smoothing_sorts::window_floors(120);
         [scheme, length_floors(), empty, screen_sorts::floors(), stations, smoothing].concat()
     }
 }

@@ -14,12 +14,18 @@ const LEAST_CUT: &str = "cut that is smoothed and smaller than the grid (3 colum
 
 /// The least of each sort in a full run of analyses or texts.
 pub fn floors() -> Vec<Floor> {
-    floors_in_order(GRID, &[1, 1, 1, 1, 1])
+    floors_in_order(GRID, &[350, 350, 250, 250, 25])
 }
 
-/// The same in a full run of windows or screens, with what only these have.
-pub fn window_floors() -> Vec<Floor> {
-    [floors(), floors_in_order(CUT, &[1, 1, 1, 1, 1]), floors_in_order(LEAST_CUT, &[1, 1])].concat()
+/// The least in a full run of windows or screens, with what only these have. Of
+/// the least cuts, screens have more, since they have more windows.
+pub fn window_floors(least_cut: u64) -> Vec<Floor> {
+    [
+        floors_in_order(GRID, &[220, 220, 150, 150, 15]),
+        floors_in_order(CUT, &[700, 700, 700, 700, 60]),
+        floors_in_order(LEAST_CUT, &[least_cut; 2]),
+    ]
+    .concat()
 }
 
 /// The sorts of an accepted request.

@@ -6,6 +6,7 @@ use second::bridge::{Bridge, Empty};
 use second::call::{Analysis, Call, Refusal};
 use second::cases::{AnalysisCase, ReadingCase, SummaryCase, TextCase, WindowCase};
 use second::compare::{run, Case, Failure, Own, Subject};
+use second::field_case::FieldCase;
 use second::screen_case::ScreenCase;
 use second::shrink::smallest;
 use second::survey::{survey, Counts};
@@ -38,6 +39,7 @@ fn the_same_seed_gives_the_same_cases() {
     same_cases::<ReadingCase>();
     same_cases::<SummaryCase>();
     same_cases::<TextCase>();
+    same_cases::<FieldCase>();
 }
 
 fn holds_its_floors(seed: u64, count: u64) {
@@ -46,6 +48,7 @@ fn holds_its_floors(seed: u64, count: u64) {
     let out = String::from_utf8(out).expect("plain");
     let opening = format!("seed {seed}, count {count}\nanalysis, {count} cases\n");
     assert!(out.starts_with(&opening), "{out}");
+    assert!(out.contains(&format!("\nsmoothing, {count} cases\n")), "{out}");
 }
 
 #[test]
@@ -94,6 +97,7 @@ fn a_call_that_is_not_offered_is_a_difference() {
     assert!(run::<AnalysisCase>(&Nothing, SEED, 1).failure.is_some());
     assert!(run::<ScreenCase>(&Nothing, SEED, 1).failure.is_some());
     assert!(run::<ReadingCase>(&Nothing, SEED, 1).failure.is_some());
+    assert!(run::<FieldCase>(&Nothing, SEED, 1).failure.is_some());
 }
 
 #[test]
