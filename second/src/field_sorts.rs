@@ -43,7 +43,7 @@ const KEPT: &str = "refused field that smoothing would change (by sides, by leng
 pub fn floors() -> Vec<Floor> {
     let sorts = floors_of(&[
         (SIDES, 9, 600),
-        (UNEQUAL, 2, 2_000),
+        (UNEQUAL, 2, 1_600),
         (LONE, 3, 60),
         (NO_SUM, 2, 800),
         (SHOWN, slips::ALL.len() as u32, 1_200),
@@ -53,11 +53,11 @@ pub fn floors() -> Vec<Floor> {
         (WRAPPED, 1, 120),
         (BAD_LENGTH, 5, 120),
         (BAD_VALUE, 4, 240),
-        (BAD_ALONE, 3, 120),
-        (KEPT, 3, 120),
+        (BAD_ALONE, 3, 50),
+        (KEPT, 3, 50),
     ]);
     let sums = [&[1_600; 6][..], &[400; 2]].concat();
-    let extremes = floors_in_order(EXTREMES, &[400, 400, 320, 320, 100]);
+    let extremes = floors_in_order(EXTREMES, &[400, 400, 300, 300, 60]);
     [vec![Floor::accepted_share(15_000)], sorts, extremes, floors_in_order(SUMS, &sums)].concat()
 }
 

@@ -1,4 +1,4 @@
-//! The independent second program: document 01 with requests 1 to 3 of
+//! The independent second program: document 01 with requests 1 to 4 of
 //! document 02, worked out plainly, to be compared number for number with the
 //! proved implementation.
 
