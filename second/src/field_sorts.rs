@@ -19,8 +19,9 @@ const UNEQUAL: &str = "accepted field with inner points and other sides that fit
 const EXTREMES: &str = "accepted field with inner points (all at 13,000,000, all at -13,000,000, \
     checkered with the two, with one of them at an inner point alone, on the border alone)";
 const LONE: &str = "lone inner value among zeros (16, 2, -2)";
-const SUMS: &str = "sum of an inner point above zero, and below zero \
-    (an exact half, one short of it, one past it, the greatest size)";
+const SUMS: &str = "sum of an inner point (an exact half above zero, below zero, one short of \
+    a half above zero, below zero, one past a half above zero, below zero, 208,000,000, \
+    -208,000,000)";
 const NO_SUM: &str = "sum of an inner point that is 0 (at a value of 0, at another)";
 const SHOWN: &str = "field that would show (the new row above, the new value to the left, \
     a row above that is too old, one that never moved on, a smoothed first row, last row, \

@@ -60,8 +60,7 @@ fn sums_are_told_apart() {
     // A corner has a share of 1, so it is the sum.
     let sums = |corner: i32| {
         let sorts = told(&field(3, 3, |point| if point == 8 { corner } else { 0 }));
-        ["sum of an inner point above", "sum of an inner point that"]
-            .map(|name| numbers(&sorts, name))
+        ["sum of an inner point (", "sum of an inner point that"].map(|name| numbers(&sorts, name))
     };
     assert_eq!(sums(8), [vec![0], vec![]]);
     assert_eq!(sums(-24), [vec![1], vec![]]);
@@ -71,7 +70,7 @@ fn sums_are_told_apart() {
     assert_eq!(sums(-9), [vec![5], vec![]]);
     assert_eq!(sums(16), [const { vec![] }; 2]);
     assert_eq!(sums(0), [vec![], vec![0]]);
-    let all = |value| numbers(&told(&field(3, 3, |_| value)), "sum of an inner point above");
+    let all = |value| numbers(&told(&field(3, 3, |_| value)), "sum of an inner point (");
     assert_eq!((all(MOST), all(-MOST), all(MOST - 1)), (vec![6], vec![7], vec![]));
     let checks = |point: usize| if point.is_multiple_of(2) { 5 } else { -5 };
     assert_eq!(numbers(&told(&field(3, 3, checks)), "sum of an inner point that"), [1]);
