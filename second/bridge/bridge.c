@@ -21,10 +21,8 @@
  * A reading and a summary have no results, and bit c stands for column c: field, then support.
  */
 #include "ends.h"
+#include "guards.h"
 #include "sosnyavik.h"
-
-#include <stdlib.h>
-#include <string.h>
 
 enum function { GREET = 0, ANALYSE = 1, WINDOW = 2, KIND = 3, VALUE_AT = 4, SUMMARY = 5, WINDOWS = 6 };
 /* Only a screen has the last four. */
@@ -33,22 +31,11 @@ enum result_name { GRID, SUPPORT, VERDICT, RESULTS };
 
 static const uint32_t GREETING = 0x536F736E;
 
-/* As many cells as the largest grid has points: whoever writes a whole result into a slice that is too short, even an
- * empty one, stays inside. Of a screen that is one window; a write farther out damages the heap. */
-enum { GUARD = 4096 };
-
 /* An input as it came, and in a block of its own and exactly its length: a write beyond that damages the heap, which
  * ends the program, and a read beyond it is a memory checker's to find. */
 struct column {
     size_t length, size;
     void *sent, *lent, *address;
-};
-
-/* A result between two guards. All is in one block; size and guard are bytes. */
-struct result {
-    size_t length, size, guard;
-    unsigned char pattern, *block;
-    void *address;
 };
 
 /* What the archive is asked, and the memory behind it. A window query and a screen have no verdict: the last of their
@@ -68,14 +55,6 @@ static _Noreturn void fail(const char *reason) {
     exit(2);
 }
 
-/* Aligned and not null, with glibc also for a size of 0. */
-static void *allocate(size_t size) {
-    void *block = malloc(size);
-    if (block == NULL)
-        fail("out of memory");
-    return block;
-}
-
 static struct column take_column(size_t cell, bool null) {
     struct column column = {.length = take_number()};
     column.size = column.length * cell;
@@ -92,25 +71,6 @@ static bool is_changed(const struct column *column) { return memcmp(column->sent
 static void release_column(struct column *column) {
     free(column->sent);
     free(column->lent);
-}
-
-static struct result take_result(size_t cell, unsigned char pattern, bool null) {
-    struct result result = {.length = take_number(), .guard = GUARD * cell, .pattern = pattern};
-    result.size = result.length * cell;
-    result.block = allocate(result.guard + result.size + result.guard);
-    memset(result.block, pattern, result.guard + result.size + result.guard);
-    result.address = null && result.length == 0 ? NULL : result.block + result.guard;
-    return result;
-}
-
-/* Each byte is like the one after it: this is quick under an emulator too. */
-static bool is_whole(const unsigned char *guard, size_t size, unsigned char pattern) {
-    return guard[0] == pattern && memcmp(guard, guard + 1, size - 1) == 0;
-}
-
-static bool is_written_outside(const struct result *result) {
-    const unsigned char *before = result->block, *after = before + result->guard + result->size;
-    return !is_whole(before, result->guard, result->pattern) || !is_whole(after, result->guard, result->pattern);
 }
 
 static struct sosnyavik_ends take_ends(void) {
@@ -278,11 +238,7 @@ static void answer(uint32_t function) {
 }
 
 int main(void) {
-    uint32_t function;
     asked = stdin;
     answered = stdout;
-    leave_no_core_files();
-    while (next_request(&function))
-        answer(function);
-    return 0;
+    return answer_all(answer);
 }

@@ -1,7 +1,7 @@
 /*
- * ends.h: the two ends by which bridge.c and serve.c speak with the second program. A request is a number and what
- * belongs to it; every number is 32 bits, little-endian, as it lies in memory here. Whoever includes this says how it
- * fails, and opens the ends before anything is taken.
+ * ends.h: the two ends by which bridge.c, smoothing.c and serve.c speak with the second program. A request is a number
+ * and what belongs to it; every number is 32 bits, little-endian, as it lies in memory here. Whoever includes this says
+ * how it fails, and opens the ends before anything is taken.
  */
 #include <stdbool.h>
 #include <stdint.h>
@@ -49,4 +49,13 @@ static void leave_no_core_files(void) {
     struct rlimit none = {0, 0};
     if (setrlimit(RLIMIT_CORE, &none) != 0)
         fail("core files cannot be turned off");
+}
+
+/* Answers one request after the other, until the input ends. */
+static int answer_all(void (*answer)(uint32_t request)) {
+    uint32_t request;
+    leave_no_core_files();
+    while (next_request(&request))
+        answer(request);
+    return 0;
 }

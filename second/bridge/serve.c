@@ -154,12 +154,8 @@ static void answer(uint32_t request) {
 }
 
 int __wrap_main(void) {
-    uint32_t request;
     told = moved(2, "w");
     asked = moved(0, "r");
     answered = moved(1, "w");
-    leave_no_core_files();
-    while (next_request(&request))
-        answer(request);
-    return 0;
+    return answer_all(answer);
 }

@@ -5,11 +5,9 @@
 use crate::call::{Call, Query, Screen, Window};
 use crate::compare::{Answer, Results, Subject};
 use crate::patterned::BYTE_PATTERN;
-use crate::running::{put_numbers, read_number, Greeting, Running};
+use crate::running::{put_numbers, read_number, Greeting, Lasting};
 use crate::summary::Summary;
-use std::cell::RefCell;
-use std::io::{self, BufReader, Read};
-use std::process::ChildStdout;
+use std::io::{self, Read};
 
 const ANALYSE: u32 = 1;
 const WINDOW: u32 = 2;
@@ -17,7 +15,7 @@ const KIND: u32 = 3;
 const VALUE: u32 = 4;
 const SUMMARY: u32 = 5;
 const WINDOWS: u32 = 6;
-const GREETING: Greeting = Greeting { name: "the bridge", number: 0x536F_736E };
+static GREETING: Greeting = Greeting { name: "the bridge", number: 0x536F_736E };
 
 /// What the lowest bits of the flags stand for; one for each result, then one
 /// for each column.
@@ -39,53 +37,26 @@ pub enum Empty {
     Null,
 }
 
-/// The archive behind a bridge that runs over all calls, and is started anew
-/// after a call in which it died.
+/// The archive behind a bridge that runs over all calls.
 pub struct Bridge {
-    command: String,
     empty: Empty,
-    running: RefCell<Option<Running>>,
+    program: Lasting,
 }
 
 impl Bridge {
     /// Starts the bridge: a program and its arguments, split on spaces.
     pub fn start(command: &str, empty: Empty) -> Result<Self, String> {
-        let running = RefCell::new(Some(Running::start(command, &GREETING)?));
-        Ok(Bridge { command: command.to_string(), empty, running })
-    }
-}
-
-impl Bridge {
-    /// Asks for a call and reads its answer; a bridge that dies in it is a
-    /// finding, and the next call starts another.
-    fn ask<T>(
-        &self,
-        request: &[u8],
-        read: impl FnOnce(&mut BufReader<ChildStdout>) -> io::Result<T>,
-    ) -> Answer<T> {
-        let mut place = self.running.borrow_mut();
-        let mut running = match place.take() {
-            Some(running) => running,
-            None => Running::start(&self.command, &GREETING)
-                .map_err(|why| format!("the bridge does not start again: {why}"))?,
-        };
-        match running.ask(request).and_then(read) {
-            Ok(answer) => {
-                *place = Some(running);
-                Ok(answer)
-            }
-            Err(_) => Err(format!("the archive died in this call: {}", running.end())),
-        }
+        Ok(Bridge { empty, program: Lasting::start(command, &GREETING)? })
     }
 
     fn ask_request(&self, request: &[u8], results: Results, columns: &[&str]) -> Answer<u32> {
-        let (code, flags) = self.ask(request, |output| read_answer(output, results))?;
+        let (code, flags) = self.program.ask(request, |output| read_answer(output, results))?;
         seen_by_bridge(flags, &RESULTS, columns).map_or(Ok(code), Err)
     }
 
     fn ask_query<T>(&self, request: &[u8], read: Reader<T>) -> Answer<T> {
         let (answer, flags) =
-            self.ask(request, |output| Ok((read(output)?, read_number(output)?)))?;
+            self.program.ask(request, |output| Ok((read(output)?, read_number(output)?)))?;
         seen_by_bridge(flags, &[], &QUERY_COLUMNS).map_or(Ok(answer), Err)
     }
 }
@@ -193,7 +164,7 @@ fn put_columns(bytes: &mut Vec<u8>, call: &Call) {
     put_column(bytes, &call.limit, i32::to_le_bytes);
 }
 
-fn put_column<T: Copy>(bytes: &mut Vec<u8>, column: &[T], as_bytes: fn(T) -> [u8; 4]) {
+pub fn put_column<T: Copy>(bytes: &mut Vec<u8>, column: &[T], as_bytes: fn(T) -> [u8; 4]) {
     put_numbers(bytes, &[length(column.len())]);
     bytes.extend(column.iter().flat_map(|number| as_bytes(*number)));
 }

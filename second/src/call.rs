@@ -122,6 +122,21 @@ pub struct Query {
     pub y: i32,
 }
 
+/// The raw arguments of a smoothing by itself, which is for tests alone.
+#[derive(Clone, Debug, PartialEq, Eq)]
+pub struct Field {
+    pub nx: u32,
+    pub ny: u32,
+    pub values: Vec<i32>,
+}
+
+impl Field {
+    /// The grid's shape; it means something where the sides are in range.
+    pub fn shape(&self) -> Shape {
+        Shape { nx: self.nx as usize, ny: self.ny as usize }
+    }
+}
+
 /// A refusal number of the table and the place it names.
 #[derive(Clone, Copy, Debug, PartialEq, Eq)]
 pub struct Refusal {

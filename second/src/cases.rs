@@ -1,5 +1,5 @@
-//! Five kinds of comparison: analysis, window, reading, summary, text. The sixth,
-//! windows, is in `screen_case`.
+//! Five kinds of comparison: analysis, window, reading, summary, text. Two more,
+//! windows and smoothing, are in `screen_case` and `field_case`.
 
 use crate::call::{Analysis, Call, Query, Refusal, Window};
 use crate::compare::{read, Answer, Case, Results, Subject};
@@ -15,6 +15,7 @@ use crate::query_sorts;
 use crate::reading::Reading;
 use crate::scheme::analyse;
 use crate::shrink;
+use crate::smoothing_sorts;
 use crate::sorts::{self, Sort};
 use crate::summary::{summarise, Summary};
 use crate::tally::{Floor, Tally};
@@ -50,6 +51,7 @@ pub fn count_scheme(outcome: Result<(&Call, &Analysis), &Refusal>, tally: &mut T
             tally.add_analysis(call, analysis);
             tally.add_sorts(&post_sorts::of_accepted(call, &analysis.verdict));
             tally.add_sorts(&weight_sorts::of_accepted(call, analysis));
+            tally.add_sorts(&smoothing_sorts::of_accepted(call));
         }
         Err(refusal) => tally.add_refusal(refusal),
     }
@@ -131,7 +133,9 @@ impl Case for AnalysisCase {
 
     fn floors() -> Vec<Floor> {
         let scheme = scheme_floors(10_000, 300, &[1, 3, 4, 5, 6, 7, 8]);
-        [scheme, length_floors(), post_sorts::call_floors(), weight_sorts::floors()].concat()
+        let posts = post_sorts::call_floors();
+        let others = [weight_sorts::floors(), smoothing_sorts::floors()].concat();
+        [scheme, length_floors(), posts, others].concat()
     }
 }
 
@@ -167,6 +171,7 @@ impl Case for WindowCase {
                 tally.add_sorts(&sorts::of_accepted(call, window, &analysis.verdict));
                 tally.add_sorts(&post_sorts::of_window(call, window, &analysis.verdict));
                 tally.add_sorts(&weight_sorts::of_window(call, window, &analysis.verdict));
+                tally.add_sorts(&smoothing_sorts::of_window(call, window));
             }
             (_, 2) => tally.add_sorts(&sorts::of_bad(call, window)),
             _ => (),
@@ -205,8 +210,8 @@ impl Case for WindowCase {
         let scheme = scheme_floors(10_000, 300, &[1, 2, 3, 4, 5, 6, 7, 8]);
         let empty = vec![Floor::times("empty slice", 2, 50)];
         let posts = [post_sorts::call_floors(), post_sorts::window_floors(50)].concat();
-        let weights = weight_sorts::window_floors();
-        [scheme, length_floors(), empty, sorts::floors(), posts, weights].concat()
+        let others = [weight_sorts::window_floors(), smoothing_sorts::window_floors(8)].concat();
+        [scheme, length_floors(), empty, sorts::floors(), posts, others].concat()
     }
 }
 
@@ -371,6 +376,7 @@ impl Case for TextCase {
     fn floors() -> Vec<Floor> {
         let scheme = scheme_floors(10_000, 300, &[6, 7, 8, 9, 10]);
         let stations = [post_sorts::text_floors(), weight_sorts::floors()].concat();
-        [scheme, text_sorts::floors(), harm::floors(), stations].concat()
+        let smoothing = smoothing_sorts::floors();
+        [scheme, text_sorts::floors(), harm::floors(), stations, smoothing].concat()
     }
 }

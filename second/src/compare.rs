@@ -1,11 +1,12 @@
 //! The harness: a subject's calls beside the second program's, over a seed
 //! and a count, with a tally and the smallest failing case.
 
-use crate::call::{Call, Query, Refusal, Screen, Window, WindowAnswer};
+use crate::call::{Call, Field, Query, Refusal, Screen, Window, WindowAnswer};
 use crate::reading::{reading, Reading};
 use crate::scheme::analyse;
 use crate::screen::screen;
 use crate::shrink::smallest;
+use crate::smoothing::smooth;
 use crate::summary::{summarise, Summary};
 use crate::tally::{Floor, Tally};
 use crate::text;
@@ -65,6 +66,11 @@ pub trait Subject {
     fn text(&self, _request: &[u8]) -> Answer<Vec<u8>> {
         not_offered()
     }
+
+    /// Smooths the values in place, or says false and leaves them.
+    fn smooth(&self, _nx: u32, _ny: u32, _values: &mut [i32]) -> Answer<bool> {
+        not_offered()
+    }
 }
 
 /// The second program itself, behind the same interface.
@@ -101,6 +107,11 @@ impl Subject for Own {
 
     fn text(&self, request: &[u8]) -> Answer<Vec<u8>> {
         Ok(text::answer(request))
+    }
+
+    fn smooth(&self, nx: u32, ny: u32, values: &mut [i32]) -> Answer<bool> {
+        let smoothed = smooth(&Field { nx, ny, values: values.to_vec() });
+        Ok(smoothed.map(|smoothed| values.copy_from_slice(&smoothed)).is_some())
     }
 }
 

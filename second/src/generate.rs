@@ -2,7 +2,8 @@
 //! schedule over the index. `generate_window` and `generate_screen` place windows
 //! on such calls, `generate_text` writes them out as texts, `generate_posts` sets
 //! stations beyond the border and `generate_rims` some at the rim of a radius;
-//! `generate_query` makes readings and summaries.
+//! `generate_query` makes readings and summaries, and `generate_field` single
+//! fields.
 
 use crate::call::{Call, Window};
 use crate::damage;

@@ -1,4 +1,4 @@
-//! The independent second program: document 01 with requests 1 to 3 of
+//! The independent second program: document 01 with requests 1 to 4 of
 //! document 02, worked out plainly, to be compared number for number with the
 //! proved implementation.
 
@@ -12,7 +12,10 @@ pub mod damage;
 pub mod damage_screen;
 pub mod damage_text;
 pub mod field;
+pub mod field_case;
+pub mod field_sorts;
 pub mod generate;
+pub mod generate_field;
 pub mod generate_posts;
 pub mod generate_query;
 pub mod generate_rims;
@@ -38,13 +41,18 @@ pub mod screen_case;
 pub mod screen_sorts;
 pub mod serve;
 pub mod shrink;
+pub mod shrink_field;
 pub mod shrink_screen;
+pub mod slips;
+pub mod smoothing;
+pub mod smoothing_sorts;
 pub mod sorts;
 pub mod summary;
 pub mod survey;
 pub mod tally;
 pub mod text;
 pub mod text_sorts;
+pub mod trial;
 pub mod units;
 pub mod verdicts;
 pub mod weight_sorts;

@@ -5,15 +5,17 @@
 use second::bridge::{Bridge, Empty};
 use second::cases::{AnalysisCase, ReadingCase, SummaryCase, TextCase, WindowCase};
 use second::compare::{Case, Own, Subject};
+use second::field_case::FieldCase;
 use second::near::STRIDE;
 use second::program::Program;
 use second::real::DATA;
 use second::screen_case::ScreenCase;
 use second::serve::Servers;
 use second::survey::{
-    compare_kind, compare_near, compare_real, compare_real_texts, compare_texts, survey,
+    compare_kind, compare_near, compare_real, compare_real_texts, compare_texts, survey, Counts,
 };
 use second::text;
+use second::trial::Trial;
 use second::units::MOST_TEXT;
 use std::env::{args, var_os};
 use std::io::{self, Read, Write};
@@ -21,6 +23,7 @@ use std::process::ExitCode;
 
 const SEED: u64 = 20_261_947;
 const COUNT: u64 = 20_000;
+const FIELDS: u64 = 5_000;
 const USAGE: &str = "use: second text | second generate KIND SEED COUNT | \
     second survey [SEED [COUNT]] | second compare KIND [SEED [COUNT]] | \
     second compare near | second compare real | second compare real-text";
@@ -28,6 +31,11 @@ const BRIDGE: &str = "SOSNYAVIK_BRIDGE";
 const BRIDGE_HELP: &str = "in the repository's root, run second/bridge/build FOLDER \
     build/bridge/bridge with the folder of libclause.a, and set SOSNYAVIK_BRIDGE to \
     'scripts/x86 run build/bridge/bridge'";
+
+const SMOOTHING: &str = "SOSNYAVIK_SMOOTHING";
+const SMOOTHING_HELP: &str = "in the repository's root, run second/bridge/build-smoothing FOLDER \
+    build/bridge/smoothing with the folder of libtrial_smoothing.a, and set SOSNYAVIK_SMOOTHING \
+    to 'scripts/x86 run build/bridge/smoothing'";
 
 const ANALYSE: &str = "SOSNYAVIK_ANALYSE";
 const ANALYSE_HELP: &str = "build the text program and set SOSNYAVIK_ANALYSE to the command \
@@ -106,12 +114,13 @@ fn generate(kind: &str, seed: &str, count: &str) -> Result<(), Wrong> {
         "reading" => print_cases::<ReadingCase>(seed, count),
         "summary" => print_cases::<SummaryCase>(seed, count),
         "text" => print_cases::<TextCase>(seed, count),
+        "smoothing" => print_cases::<FieldCase>(seed, count),
         _ => Err(no_such_kind(kind)),
     }
 }
 
 fn no_such_kind(kind: &str) -> Wrong {
-    let kinds = "analysis, window, windows, reading, summary or text";
+    let kinds = "analysis, window, windows, reading, summary, text or smoothing";
     Wrong::Asked(format!("no such kind: {kind:?}; give {kinds}"))
 }
 
@@ -133,12 +142,13 @@ fn print(bytes: &[u8]) -> Result<(), Wrong> {
 }
 
 fn run_survey(seed: Option<&str>, count: Option<&str>) -> Result<(), Wrong> {
-    let (seed, count) = seed_and_count(seed, count)?;
-    survey(&Own, seed, count, &mut io::stdout()).map_err(Wrong::Found)
+    let (seed, requests) = seed_and_count(seed, count)?;
+    let fields = count_of(count, FIELDS)?;
+    survey(&Own, seed, Counts { requests, fields }, &mut io::stdout()).map_err(Wrong::Found)
 }
 
 /// The archive beside the second program, over the cases of one kind; for
-/// texts, the text program.
+/// texts, the text program, and for smoothings the archive of their own.
 fn compare(kind: &str, seed: Option<&str>, count: Option<&str>) -> Result<(), Wrong> {
     let compare_kind = match kind {
         "analysis" => compare_kind::<AnalysisCase>,
@@ -149,6 +159,11 @@ fn compare(kind: &str, seed: Option<&str>, count: Option<&str>) -> Result<(), Wr
         "text" => {
             let (seed, count) = seed_and_count(seed, count)?;
             return compare_texts(&*program()?, seed, count, &mut io::stdout())
+                .map_err(Wrong::Found);
+        }
+        "smoothing" => {
+            let (seed, count) = (seed_of(seed)?, count_of(count, FIELDS)?);
+            return compare_kind::<FieldCase>(&trial()?, seed, count, &mut io::stdout())
                 .map_err(Wrong::Found);
         }
         _ => return Err(no_such_kind(kind)),
@@ -201,30 +216,54 @@ fn unstarted(name: &str, command: &str, why: &str, help: &str) -> Wrong {
 
 /// The bridge that the environment names, with the archive behind it.
 fn bridge() -> Result<Bridge, Wrong> {
-    let name = "SOSNYAVIK_EMPTY";
-    let empty = match var_os(name) {
-        None => Empty::default(),
-        Some(value) if value == "dangling" => Empty::Dangling,
-        Some(value) if value == "null" => Empty::Null,
-        Some(value) => {
-            return Err(Wrong::Asked(format!("{name} is {value:?}; give dangling or null")));
-        }
-    };
-    let Some(command) = var_os(BRIDGE) else {
-        return Err(Wrong::Asked(format!("{BRIDGE} is not set; {BRIDGE_HELP}")));
+    started(Bridge::start, BRIDGE, BRIDGE_HELP)
+}
+
+/// The same for the archive of smoothings.
+fn trial() -> Result<Trial, Wrong> {
+    started(Trial::start, SMOOTHING, SMOOTHING_HELP)
+}
+
+/// What a variable's command starts, for calls of an archive.
+fn started<T>(
+    start: fn(&str, Empty) -> Result<T, String>,
+    name: &str,
+    help: &str,
+) -> Result<T, Wrong> {
+    let empty = empty()?;
+    let Some(command) = var_os(name) else {
+        return Err(Wrong::Asked(format!("{name} is not set; {help}")));
     };
     let command = command.to_string_lossy();
-    Bridge::start(&command, empty).map_err(|why| unstarted(BRIDGE, &command, &why, BRIDGE_HELP))
+    start(&command, empty).map_err(|why| unstarted(name, &command, &why, help))
+}
+
+fn empty() -> Result<Empty, Wrong> {
+    let name = "SOSNYAVIK_EMPTY";
+    match var_os(name) {
+        None => Ok(Empty::default()),
+        Some(value) if value == "dangling" => Ok(Empty::Dangling),
+        Some(value) if value == "null" => Ok(Empty::Null),
+        Some(value) => Err(Wrong::Asked(format!("{name} is {value:?}; give dangling or null"))),
+    }
 }
 
 fn seed_and_count(seed: Option<&str>, count: Option<&str>) -> Result<(u64, u64), Wrong> {
-    let seed = setting("SOSNYAVIK_SEED", seed, SEED)?;
-    let count = setting("SOSNYAVIK_COUNT", count, COUNT)?;
-    if count == 0 {
-        let message = "a run of 0 cases shows nothing; give a count of 1 or more";
-        return Err(Wrong::Asked(message.to_string()));
+    Ok((seed_of(seed)?, count_of(count, COUNT)?))
+}
+
+fn seed_of(seed: Option<&str>) -> Result<u64, Wrong> {
+    setting("SOSNYAVIK_SEED", seed, SEED)
+}
+
+fn count_of(count: Option<&str>, default: u64) -> Result<u64, Wrong> {
+    match setting("SOSNYAVIK_COUNT", count, default)? {
+        0 => {
+            let message = "a run of 0 cases shows nothing; give a count of 1 or more";
+            Err(Wrong::Asked(message.to_string()))
+        }
+        count => Ok(count),
     }
-    Ok((seed, count))
 }
 
 /// The environment's number where it is set, else the argument's, else the

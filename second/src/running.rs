@@ -2,6 +2,7 @@
 //! answering on its standard output. Its first request is a greeting, to see
 //! that it is the program it should be.
 
+use std::cell::RefCell;
 use std::io::{self, BufRead, BufReader, Read, Write};
 use std::process::{Child, ChildStdin, ChildStdout, Command, Stdio};
 use std::thread::{spawn, JoinHandle};
@@ -70,6 +71,44 @@ impl Running {
         match last_words.join() {
             Ok(line) if !line.is_empty() => format!("{status}, {line}"),
             _ => status,
+        }
+    }
+}
+
+/// A program that runs over all requests, and is started anew after one in
+/// which it died.
+pub struct Lasting {
+    command: String,
+    greeting: &'static Greeting,
+    running: RefCell<Option<Running>>,
+}
+
+impl Lasting {
+    /// Starts it: a program and its arguments, split on spaces.
+    pub fn start(command: &str, greeting: &'static Greeting) -> Result<Self, String> {
+        let running = RefCell::new(Some(Running::start(command, greeting)?));
+        Ok(Lasting { command: command.to_string(), greeting, running })
+    }
+
+    /// Asks for a call of the archive behind it and reads the answer; a program
+    /// that dies in it is a finding.
+    pub fn ask<T>(
+        &self,
+        request: &[u8],
+        read: impl FnOnce(&mut BufReader<ChildStdout>) -> io::Result<T>,
+    ) -> Result<T, String> {
+        let mut place = self.running.borrow_mut();
+        let mut running = match place.take() {
+            Some(running) => running,
+            None => Running::start(&self.command, self.greeting)
+                .map_err(|why| format!("{} does not start again: {why}", self.greeting.name))?,
+        };
+        match running.ask(request).and_then(read) {
+            Ok(answer) => {
+                *place = Some(running);
+                Ok(answer)
+            }
+            Err(_) => Err(format!("the archive died in this call: {}", running.end())),
         }
     }
 }

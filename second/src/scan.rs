@@ -109,19 +109,31 @@ pub fn correct(
 }
 
 const PATTERN: [[i64; 3]; 3] = [[1, 2, 1], [2, 4, 2], [1, 2, 1]];
-const PATTERN_SUM: i64 = 16;
+pub const PATTERN_SUM: i64 = 16;
+
+/// The sum of nine values under the pattern, by column and row; the point
+/// itself is at (1, 1).
+pub fn pattern_sum(value: impl Fn(usize, usize) -> i32) -> i64 {
+    let mut sum = 0;
+    for (dj, shares) in PATTERN.iter().enumerate() {
+        for (di, share) in shares.iter().enumerate() {
+            sum += share * i64::from(value(di, dj));
+        }
+    }
+    sum
+}
+
+/// That sum at the inner point (i, j) of a field.
+pub fn smoothing_sum(shape: Shape, field: &[i32], i: usize, j: usize) -> i64 {
+    pattern_sum(|di, dj| field[shape.index(i + di - 1, j + dj - 1)])
+}
 
 /// The smoothed field: inner points all at once, border points kept.
 pub fn smoothed(shape: Shape, field: &[i32]) -> Vec<i32> {
     let mut smooth = field.to_vec();
     for j in 1..shape.ny - 1 {
         for i in 1..shape.nx - 1 {
-            let mut sum = 0;
-            for (dj, shares) in PATTERN.iter().enumerate() {
-                for (di, share) in shares.iter().enumerate() {
-                    sum += share * i64::from(field[shape.index(i + di - 1, j + dj - 1)]);
-                }
-            }
+            let sum = smoothing_sum(shape, field, i, j);
             // A mean of nine points lies between them, so i32 holds it.
             smooth[shape.index(i, j)] = rounded(sum, PATTERN_SUM) as i32;
         }

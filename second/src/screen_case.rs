@@ -11,6 +11,7 @@ use crate::post_sorts;
 use crate::screen::{one_after_the_other, points, whole};
 use crate::screen_sorts;
 use crate::shrink_screen;
+use crate::smoothing_sorts;
 use crate::tally::{Floor, Tally};
 use crate::text;
 use crate::weight_sorts;
@@ -81,6 +82,7 @@ impl Case for ScreenCase {
         let scheme = scheme_floors(9_000, 30, &[1, 2, 3, 4, 5, 6, 7, 8]);
         let empty = vec![Floor::times("empty slice", 2, 50)];
         let stations = [post_sorts::screen_floors(), weight_sorts::window_floors()].concat();
-        [scheme, length_floors(), empty, screen_sorts::floors(), stations].concat()
+        let smoothing = smoothing_sorts::window_floors(120);
+        [scheme, length_floors(), empty, screen_sorts::floors(), stations, smoothing].concat()
     }
 }

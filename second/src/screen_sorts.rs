@@ -7,6 +7,7 @@ use crate::call::{Analysis, Call, Refusal, Screen, Window};
 use crate::post_sorts;
 use crate::refusals::{check_request, is_on_grid};
 use crate::screen::{points, OF_THE_COLUMNS};
+use crate::smoothing_sorts;
 use crate::sorts::{self, floors_of, named, Sort};
 use crate::tally::Floor;
 use crate::units::MOST_WINDOWS;
@@ -203,7 +204,8 @@ fn by_themselves(call: &Call, windows: &[Window], verdict: &[u8]) -> Vec<Sort> {
     let each = windows.iter().flat_map(|window| {
         let posts = post_sorts::of_window(call, window, verdict);
         let weights = weight_sorts::of_window(call, window, verdict);
-        [sorts::of_accepted(call, window, verdict), posts, weights].concat()
+        let smoothing = smoothing_sorts::of_window(call, window);
+        [sorts::of_accepted(call, window, verdict), posts, weights, smoothing].concat()
     });
     let mut found: Vec<Sort> = each.collect();
     found.sort_unstable();

@@ -65,20 +65,32 @@ pub fn smaller_calls(call: &Call) -> impl Iterator<Item = Call> + '_ {
         .chain(simpler(call))
 }
 
+fn fewer_points(call: &Call) -> impl Iterator<Item = Call> + '_ {
+    misfits(call.nx, call.ny, &call.first_guess).map(|(nx, ny, first_guess)| Call {
+        nx,
+        ny,
+        first_guess,
+        ..call.clone()
+    })
+}
+
 /// Where the sides do not fit the number of points: fewer points, or sides
 /// nearer to the least.
-fn fewer_points(call: &Call) -> impl Iterator<Item = Call> + '_ {
-    let points = call.first_guess.len();
-    let misfit = u64::from(call.nx) * u64::from(call.ny) != points as u64;
-    let sides = move |side: u32| closer(side.into(), 2).map(|side| side as u32);
-    let fewer = chunks(points).map(|range| {
-        let mut call = call.clone();
-        drop_range(&mut call.first_guess, &range);
-        call
+pub fn misfits(
+    nx: u32,
+    ny: u32,
+    points: &[i32],
+) -> impl Iterator<Item = (u32, u32, Vec<i32>)> + '_ {
+    let misfit = u64::from(nx) * u64::from(ny) != points.len() as u64;
+    let sides = |side: u32| closer(side.into(), 2).map(|side| side as u32);
+    let fewer = chunks(points.len()).map(move |range| {
+        let mut points = points.to_vec();
+        drop_range(&mut points, &range);
+        (nx, ny, points)
     });
     fewer
-        .chain(sides(call.nx).map(|nx| Call { nx, ..call.clone() }))
-        .chain(sides(call.ny).map(|ny| Call { ny, ..call.clone() }))
+        .chain(sides(nx).map(move |nx| (nx, ny, points.to_vec())))
+        .chain(sides(ny).map(move |ny| (nx, ny, points.to_vec())))
         .filter(move |_| misfit)
 }
 
@@ -210,7 +222,7 @@ pub fn trimmed(call: &Call, part: &Window) -> Call {
     }
 }
 
-fn picked<T: Copy>(points: &[T], nx: u32, part: &Window) -> Vec<T> {
+pub fn picked<T: Copy>(points: &[T], nx: u32, part: &Window) -> Vec<T> {
     let rows = points.chunks(nx as usize);
     let rows = rows.skip(part.top as usize).take((part.bottom - part.top) as usize + 1);
     rows.flat_map(|row| &row[part.left as usize..=part.right as usize]).copied().collect()
@@ -282,6 +294,17 @@ pub fn closer(number: i64, target: i64) -> impl Iterator<Item = i64> {
     eighths.map(move |left| target + away * left / 8)
 }
 
+/// The values with one of them at zero, or nearer to it.
+pub fn nearer_to_zero(values: &[i32]) -> impl Iterator<Item = Vec<i32>> + '_ {
+    values.iter().enumerate().flat_map(move |(at, value)| {
+        closer((*value).into(), 0).map(move |nearer| {
+            let mut values = values.to_vec();
+            values[at] = nearer as i32;
+            values
+        })
+    })
+}
+
 /// Readings and summaries with a smaller grid or simpler numbers.
 pub fn smaller_queries(query: &Query) -> impl Iterator<Item = Query> + '_ {
     let equal = query.field.len() == query.support.len();
@@ -301,13 +324,7 @@ fn simpler_queries(query: &Query) -> impl Iterator<Item = Query> + '_ {
     let xs = closer(query.x.into(), 0).map(|x| (x as i32, query.y));
     let ys = closer(query.y.into(), 0).map(|y| (query.x, y as i32));
     let places = xs.chain(ys).map(|(x, y)| Query { x, y, ..query.clone() });
-    let values = query.field.iter().enumerate().flat_map(move |(at, value)| {
-        closer((*value).into(), 0).map(move |value| {
-            let mut query = query.clone();
-            query.field[at] = value as i32;
-            query
-        })
-    });
+    let values = nearer_to_zero(&query.field).map(|field| Query { field, ..query.clone() });
     let many = query.support.iter().enumerate().filter(|(_, byte)| **byte > 1);
     let supports = many.map(move |(at, _)| {
         let mut query = query.clone();

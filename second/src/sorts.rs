@@ -48,6 +48,11 @@ pub fn floors_of(sorts: &[(&'static str, u32, u64)]) -> Vec<Floor> {
     sorts.iter().flat_map(numbered).collect()
 }
 
+/// Floors of one name, by the least of each number.
+pub fn floors_in_order(name: &'static str, least: &[u64]) -> Vec<Floor> {
+    (0..).zip(least).map(|(number, least)| Floor::times(name, number, *least)).collect()
+}
+
 /// The numbers at which something holds, in order.
 pub fn named(name: &'static str, holds: impl IntoIterator<Item = bool>) -> Vec<Sort> {
     let numbered = (0..).zip(holds).filter(|(_, holds)| *holds);

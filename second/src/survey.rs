@@ -3,6 +3,7 @@
 
 use crate::cases::{AnalysisCase, ReadingCase, SummaryCase, TextCase, WindowCase};
 use crate::compare::{run, run_over, run_two_at_a_time, Case, Run, Shared, Subject};
+use crate::field_case::FieldCase;
 use crate::near::{Edits, PAPER};
 use crate::post_sorts::real_floors;
 use crate::real::{stations, Cases};
@@ -147,10 +148,17 @@ fn real_kind<C: Case>(
     report(run_over(subject, cases), &origin, floors, out)
 }
 
+/// So many requests of each kind, and so many single fields.
+#[derive(Clone, Copy, Debug)]
+pub struct Counts {
+    pub requests: u64,
+    pub fields: u64,
+}
+
 pub fn survey(
     subject: &dyn Subject,
     seed: u64,
-    count: u64,
+    Counts { requests: count, fields }: Counts,
     out: &mut dyn Write,
 ) -> Result<(), String> {
     compare_kind::<AnalysisCase>(subject, seed, count, out)?;
@@ -158,5 +166,6 @@ pub fn survey(
     survey_kind::<ScreenCase>(subject, seed, count, out)?;
     survey_kind::<ReadingCase>(subject, seed, count, out)?;
     survey_kind::<SummaryCase>(subject, seed, count, out)?;
-    survey_kind::<TextCase>(subject, seed, count, out)
+    survey_kind::<TextCase>(subject, seed, count, out)?;
+    survey_kind::<FieldCase>(subject, seed, fields, out)
 }

@@ -1,6 +1,7 @@
 //! What a run has covered, and the floors below which a run fails.
 
 use crate::call::{Analysis, Call, Refusal};
+use crate::field_sorts;
 use crate::query_sorts::NO_POINTS;
 use crate::screen_sorts;
 use crate::sorts::{Sort, SMALL_OF_BIG, WRAPPED};
@@ -11,8 +12,15 @@ use std::fmt::{Display, Formatter};
 /// Floors are given for a run of this many; smaller runs scale them down.
 const FULL_RUN: u64 = 20_000;
 /// The names under which there is one number only, which says nothing.
-const UNNUMBERED: [&str; 6] =
-    ["accepted", "big", SMALL_OF_BIG, WRAPPED, NO_POINTS, screen_sorts::WRAPPED];
+const UNNUMBERED: [&str; 7] = [
+    "accepted",
+    "big",
+    SMALL_OF_BIG,
+    WRAPPED,
+    NO_POINTS,
+    screen_sorts::WRAPPED,
+    field_sorts::WRAPPED,
+];
 
 /// How often something was seen, by its name and number.
 #[derive(Clone, Debug, Default, PartialEq, Eq)]

@@ -23,6 +23,8 @@ pub const HUNDREDTHS: i64 = 100;
 
 pub const SIDE: RangeInclusive<u32> = 2..=64;
 pub const VALUE: RangeInclusive<i32> = -1_000_000..=1_000_000;
+/// What every accepted run stays within, at every point.
+pub const FIELD: RangeInclusive<i32> = -13_000_000..=13_000_000;
 pub const POSITION: RangeInclusive<i32> = -1_000_000..=1_000_000;
 pub const SCANS: RangeInclusive<u32> = 1..=6;
 pub const RADIUS: RangeInclusive<i32> = 1..=1024;

@@ -10,7 +10,7 @@
 use crate::call::{Analysis, Call, Window};
 use crate::scan::{weight, weight_in};
 use crate::scheme::run_in;
-use crate::sorts::{floors_of, named, Sort};
+use crate::sorts::{floors_in_order, floors_of, named, Sort};
 use crate::tally::Floor;
 use crate::units::{HUNDREDTHS, RADIUS, STEP, WEIGHT_SCALE};
 use crate::verdicts::{ACCEPTED, REJECTED};
@@ -56,10 +56,7 @@ fn floors_with(other_verdicts: u64) -> Vec<Floor> {
         (WIDE, &[300, 300, 250]),
         (UNLIKE, &[1_300, 700, other_verdicts]),
     ];
-    let numbered = |(name, least): (&'static str, &[u64])| -> Vec<Floor> {
-        (0..).zip(least).map(|(number, least)| Floor::times(name, number, *least)).collect()
-    };
-    sorts.into_iter().flat_map(numbered).collect()
+    sorts.into_iter().flat_map(|(name, least)| floors_in_order(name, least)).collect()
 }
 
 /// The sorts of an accepted request.

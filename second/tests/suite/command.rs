@@ -2,6 +2,7 @@
 
 use crate::{ANSWER, REQUEST};
 use second::compare::Case;
+use second::field_case::FieldCase;
 use second::screen_case::ScreenCase;
 use std::io::Write;
 use std::process::{Command, Output, Stdio};
@@ -13,6 +14,7 @@ pub fn second(arguments: &[&str], environment: &[(&str, &str)], input: &str) -> 
         .env_remove("SOSNYAVIK_COUNT")
         .env_remove("SOSNYAVIK_EMPTY")
         .env_remove("SOSNYAVIK_BRIDGE")
+        .env_remove("SOSNYAVIK_SMOOTHING")
         .env_remove("SOSNYAVIK_ANALYSE")
         .env_remove("SOSNYAVIK_SERVE")
         .env_remove("SOSNYAVIK_STRIDE")
@@ -52,26 +54,45 @@ fn generate_prints_screens() {
 }
 
 #[test]
+fn generate_prints_fields() {
+    let output = second(&["generate", "smoothing", "3", "2"], &[], "");
+    let first = FieldCase::generate(3, 0).plain();
+    let start = [format!("{}\n", first.len()).as_bytes(), &first].concat();
+    assert!(output.status.success() && output.stdout.starts_with(&start));
+    assert!(first.starts_with(b"nx,ny="));
+}
+
+#[test]
 fn the_environment_overrides_seed_and_count() {
     let environment = [("SOSNYAVIK_SEED", "9"), ("SOSNYAVIK_COUNT", "50")];
     let output = second(&["survey", "1", "20"], &environment, "");
     assert!(output.status.success() && output.stdout.starts_with(b"seed 9, count 50\n"));
+    let said = String::from_utf8_lossy(&output.stdout).into_owned();
+    assert!(said.contains("\nsmoothing, 50 cases\n"), "{said}");
+}
+
+/// What is said where a variable names no program that makes the calls.
+fn says_how_to_get(kind: &str, variable: &str, help: &str, greets: &str) {
+    let asked = |environment: &[(&str, &str)]| {
+        let output = second(&["compare", kind, "3", "20"], environment, "");
+        let message = String::from_utf8_lossy(&output.stderr).into_owned();
+        assert_eq!((output.status.code(), message.lines().count()), (Some(2), 1), "{message}");
+        assert!(message.contains(help), "{message}");
+        message
+    };
+    assert!(asked(&[]).contains(&format!("{variable} is not set")));
+    assert!(asked(&[(variable, " ")]).contains("an empty command"));
+    assert!(asked(&[(variable, "/nowhere/bridge")]).contains("No such file"));
+    assert!(asked(&[(variable, "false")]).contains("exit status: 1"));
+    assert!(asked(&[(variable, "cat")]).contains(&format!("not as {greets} does")));
 }
 
 #[test]
 fn compare_says_how_to_get_a_bridge() {
-    let asked = |environment: &[(&str, &str)]| {
-        let output = second(&["compare", "analysis", "3", "20"], environment, "");
-        let message = String::from_utf8_lossy(&output.stderr).into_owned();
-        assert_eq!((output.status.code(), message.lines().count()), (Some(2), 1), "{message}");
-        assert!(message.contains("run second/bridge/build FOLDER"), "{message}");
-        message
-    };
-    assert!(asked(&[]).contains("SOSNYAVIK_BRIDGE is not set"));
-    assert!(asked(&[("SOSNYAVIK_BRIDGE", " ")]).contains("an empty command"));
-    assert!(asked(&[("SOSNYAVIK_BRIDGE", "/nowhere/bridge")]).contains("No such file"));
-    assert!(asked(&[("SOSNYAVIK_BRIDGE", "false")]).contains("exit status: 1"));
-    assert!(asked(&[("SOSNYAVIK_BRIDGE", "cat")]).contains("not as the bridge does"));
+    let help = "run second/bridge/build FOLDER";
+    says_how_to_get("analysis", "SOSNYAVIK_BRIDGE", help, "the bridge");
+    let help = "run second/bridge/build-smoothing FOLDER";
+    says_how_to_get("smoothing", "SOSNYAVIK_SMOOTHING", help, "the bridge of smoothings");
 }
 
 #[test]
@@ -130,6 +151,9 @@ fn bad_arguments_give_one_line_and_two() {
     wrong(&["compare", "near"], &[("SOSNYAVIK_STRIDE", "all")]);
     wrong(&["compare", "analysis", "1", "0"], &[]);
     wrong(&["compare", "analysis"], &[("SOSNYAVIK_EMPTY", "nil")]);
+    wrong(&["compare", "smoothing"], &[("SOSNYAVIK_EMPTY", "nil")]);
+    wrong(&["compare", "smoothing", "1", "0"], &[]);
+    wrong(&["compare", "smoothing", "1", "2", "3"], &[]);
     wrong(&["survey"], &[("SOSNYAVIK_COUNT", "1e3")]);
     wrong(&["survey"], &[("SOSNYAVIK_SEED", "")]);
 }

@@ -8,6 +8,7 @@ use second::field::Shape;
 use second::scan::{correct, difference, judge, smoothed, sums, Accepted};
 use second::scheme::analyse;
 use second::screen::points;
+use second::slips::{smoothed_with, Slip};
 use second::summary::Summary;
 use second::text;
 use second::units::{rounded, BORDER, MISSING, WEIGHT_SCALE};
@@ -36,6 +37,7 @@ pub enum Fault {
     CornerPostsLeaveTheCut,
     PostsOfTheWindowOnly,
     Weights(WeightFault),
+    Smooths(Slip),
     IdleCornersCount,
     NegativeZero,
     AnyCornerBacks,
@@ -295,6 +297,7 @@ pub fn faulty_run(call: &Call, fault: Fault) -> Analysis {
         if call.smooth {
             grid = match fault {
                 Fault::SmoothsBorder => smoothed_to_the_border(call.shape(), &grid),
+                Fault::Smooths(slip) => smoothed_with(slip, call.shape(), &grid),
                 _ => smoothed(call.shape(), &grid),
             };
         }

@@ -6,9 +6,10 @@ use second::bridge::{Bridge, Empty};
 use second::call::{Analysis, Call, Refusal};
 use second::cases::{AnalysisCase, ReadingCase, SummaryCase, TextCase, WindowCase};
 use second::compare::{run, Case, Failure, Own, Subject};
+use second::field_case::FieldCase;
 use second::screen_case::ScreenCase;
 use second::shrink::smallest;
-use second::survey::survey;
+use second::survey::{survey, Counts};
 use second::tally::{Floor, Tally};
 use second::text::parse;
 use second::write::{printf_form, rerun_form};
@@ -38,14 +39,16 @@ fn the_same_seed_gives_the_same_cases() {
     same_cases::<ReadingCase>();
     same_cases::<SummaryCase>();
     same_cases::<TextCase>();
+    same_cases::<FieldCase>();
 }
 
 fn holds_its_floors(seed: u64, count: u64) {
     let mut out = Vec::new();
-    assert_eq!(survey(&Own, seed, count, &mut out), Ok(()));
+    assert_eq!(survey(&Own, seed, Counts { requests: count, fields: count }, &mut out), Ok(()));
     let out = String::from_utf8(out).expect("plain");
     let opening = format!("seed {seed}, count {count}\nanalysis, {count} cases\n");
     assert!(out.starts_with(&opening), "{out}");
+    assert!(out.contains(&format!("\nsmoothing, {count} cases\n")), "{out}");
 }
 
 #[test]
@@ -62,7 +65,8 @@ fn a_small_survey_holds_its_floors() {
 
 #[test]
 fn a_survey_that_differs_says_how_to_run_it_again() {
-    let said = survey(&Faulty(Fault::SupportOffByOneBit), SEED, 600, &mut Vec::new());
+    let counts = Counts { requests: 600, fields: 600 };
+    let said = survey(&Faulty(Fault::SupportOffByOneBit), SEED, counts, &mut Vec::new());
     let said = said.expect_err("it differs");
     assert!(said.contains("of seed 7: support[0] is 2, not 1\n"), "{said}");
     assert!(said.contains("\nsmallest failing request:\ngrid=2,2\n"), "{said}");
@@ -93,6 +97,7 @@ fn a_call_that_is_not_offered_is_a_difference() {
     assert!(run::<AnalysisCase>(&Nothing, SEED, 1).failure.is_some());
     assert!(run::<ScreenCase>(&Nothing, SEED, 1).failure.is_some());
     assert!(run::<ReadingCase>(&Nothing, SEED, 1).failure.is_some());
+    assert!(run::<FieldCase>(&Nothing, SEED, 1).failure.is_some());
 }
 
 #[test]
