@@ -123,9 +123,30 @@ static _Noreturn void no_thread(void) {
     exit(2);
 }
 
+/* The address sanitizer takes stack of its own. */
+#if defined(__SANITIZE_ADDRESS__)
+enum { OF_THE_SANITIZER = 1 << 20 };
+#else
+enum { OF_THE_SANITIZER = 0 };
+#endif
+
+/* A thread on the stack that the header promises to be enough for its calls, and what a thread itself may take of one.
+ * Below lies a page that stops whoever takes more. It answers the bytes above that page. */
+static size_t start_on(size_t promised, pthread_t *thread, void *(*run)(void *), void *argument) {
+    size_t page = (size_t)sysconf(_SC_PAGESIZE), size = promised + PTHREAD_STACK_MIN + OF_THE_SANITIZER;
+    pthread_attr_t attributes;
+    size = (size + page - 1) / page * page;
+    if (pthread_attr_init(&attributes) != 0 || pthread_attr_setstacksize(&attributes, size + page) != 0 ||
+        pthread_attr_setguardsize(&attributes, page) != 0 || pthread_create(thread, &attributes, run, argument) != 0)
+        no_thread();
+    pthread_attr_destroy(&attributes);
+    return size;
+}
+
+/* A screen asks for more stack than any other call. */
 void try_threads(void) {
     pthread_t threads[THREADS];
-    size_t first[THREADS];
+    size_t first[THREADS], size = 0;
     for (size_t e = 0; e < EVENINGS; e++)
         make_known(&known[e], 40 * (int32_t)e);
     must(!same_answer(&known[0].whole, &known[1].whole), "the answer of a warmer evening");
@@ -133,13 +154,14 @@ void try_threads(void) {
         no_thread();
     for (size_t i = 0; i < THREADS; i++) {
         first[i] = i % EVENINGS;
-        if (pthread_create(&threads[i], NULL, run_rounds, &first[i]) != 0)
-            no_thread();
+        size = start_on(SOSNYAVIK_STACK_WINDOWS, &threads[i], run_rounds, &first[i]);
     }
     for (size_t i = 0; i < THREADS; i++)
         pthread_join(threads[i], NULL);
     pthread_barrier_destroy(&at_once);
-    printf("host: %d threads at once on two evenings, %d rounds each, the same answers bit for bit\n", THREADS, ROUNDS);
+    printf("host: %d threads at once on two evenings, %d rounds each, on stacks of %zu bytes, the same answers bit for "
+           "bit\n",
+           THREADS, ROUNDS, size);
     for (size_t e = 0; e < EVENINGS; e++)
         free_known(&known[e]);
 }
@@ -175,25 +197,11 @@ static void *sum_up_small(void *unused) {
     return unused;
 }
 
-/* The address sanitizer takes stack of its own. */
-#if defined(__SANITIZE_ADDRESS__)
-enum { OF_THE_SANITIZER = 1 << 20 };
-#else
-enum { OF_THE_SANITIZER = 0 };
-#endif
-
-/* What the header promises for the call, and what a thread itself may take of its stack. Below lies a page that stops
- * whoever takes more. */
+/* One thread, from its start to its end. */
 static size_t run_on(size_t promised, void *(*run)(void *)) {
-    size_t page = (size_t)sysconf(_SC_PAGESIZE), size = promised + PTHREAD_STACK_MIN + OF_THE_SANITIZER;
-    pthread_attr_t attributes;
     pthread_t thread;
-    size = (size + page - 1) / page * page;
-    if (pthread_attr_init(&attributes) != 0 || pthread_attr_setstacksize(&attributes, size + page) != 0 ||
-        pthread_attr_setguardsize(&attributes, page) != 0 || pthread_create(&thread, &attributes, run, NULL) != 0)
-        no_thread();
+    size_t size = start_on(promised, &thread, run, NULL);
     pthread_join(thread, NULL);
-    pthread_attr_destroy(&attributes);
     return size;
 }
 

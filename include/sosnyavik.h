@@ -34,7 +34,7 @@ extern "C" {
 ** when a call takes other arguments than before, and a program must be compiled
 ** anew. The second rises with a new call, the third with anything else.
 */
-#define SOSNYAVIK_VERSION "0.2.1" /* 2026-11-16 */
+#define SOSNYAVIK_VERSION "0.2.2" /* 2026-11-16 */
 
 /*
 ** MARKS
@@ -303,13 +303,15 @@ extern "C" {
 **     state. Any number of threads may call at once, each with results of
 **     its own; they may share inputs.
 **   - A call touches at most so many bytes of stack, its arguments included.
-**     This is measured, by make bench, and not proved.
+**     This is measured, by make bench, and not proved. A thread that makes
+**     several kinds of calls needs the largest of their numbers, and what its
+**     own frames and the system take.
 */
-#define SOSNYAVIK_STACK_ANALYSE 65536
-#define SOSNYAVIK_STACK_WINDOW 131072
-#define SOSNYAVIK_STACK_WINDOWS 131072
-#define SOSNYAVIK_STACK_READING 4096
-#define SOSNYAVIK_STACK_SUMMARISE 4096
+#define SOSNYAVIK_STACK_ANALYSE 32768
+#define SOSNYAVIK_STACK_WINDOW 98304
+#define SOSNYAVIK_STACK_WINDOWS 98304
+#define SOSNYAVIK_STACK_READING 1024
+#define SOSNYAVIK_STACK_SUMMARISE 1024
 
 /*
 ** THE WHOLE ANALYSIS
