@@ -11,14 +11,14 @@ use lib.ListN.{length, getD, set, replicate, length-replicate}
 use lib.IntN.{ℤ, pos, natAbs, _+ℤ_}
 use Rattle.lists.specs.Tests.{lt-or-le, true-or-false}
 use Rattle.lists.specs.Tab.{is-tab}
-use Rattle.lists.specs.Filled.{Filled, filled-none, filled-set}
+use Rattle.lists.specs.Filled.{Filled, filled-set}
 use Rattle.scheme.specs.Units.{fieldOf, stored, mostSide}
 use Rattle.scheme.specs.Rounding.{rounded}
 use Rattle.scheme.specs.Smoothing.{inner, smoothed}
 use Rattle.scheme.specs.Most.{mostPoints, mostField}
 use Rattle.scheme.specs.Accepted.{Shaped}
 use Rattle.scheme.specs.Bounds.{Small}
-use Rattle.scan_smoothing.specs.Pattern.{SmallFrom, rowAt, nine, newAt, row-same, pattern-is, inner-means, inner-is, border-point, inner-point}
+use Rattle.scan_smoothing.specs.Pattern.{rowAt, nine, newAt, row-same, pattern-is, inner-means, inner-is, border-point, inner-point}
 
 -- ---- where the rows stand
 

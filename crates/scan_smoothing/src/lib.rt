@@ -1,4 +1,4 @@
-// Smoothing of the whole field, in place (document 01, "One scan", Smoothing; document 02, Item 4).
+// Smoothing of the whole field, in place (document 01, "One scan", Smoothing; document 02, request 4).
 ghost use mathlib.Core.Path.{_≡_};
 ghost use Prim.Native.Nat.{_+_, _-_, _*_, _≤_, _<_};
 ghost use lib.ListN.{length, getD};
@@ -29,8 +29,8 @@ fn row_sum(z: &[i32], p: usize, b: usize) -> i32
     s
 }
 
-// A sixteenth, to the nearest whole number, halves away from zero. The shift takes the next lower number, so that below zero a half has one
-// less to be lifted by. With no division, and nothing behind the branch but what is added, the compiler makes four at a time.
+// A sixteenth, to the nearest whole number, halves away from zero. The shift goes to the lower number, so that less is added below zero. The
+// branch decides that alone: then the machine has none, and makes four points at a time.
 fn sixteenth(n: i32) -> i32
     requires { ⌜ natAbs n ≤ 1000000000 ⌝ }
     ensures { λ r. ⌜ r ≡ rounded n 16 ⌝ }
@@ -51,8 +51,8 @@ fn keep_row(row: &mut [i32; 64], z: &[i32], base: usize, nx: usize)
     }
 }
 
-// The inner points of the row that begins at base: each is made from the old values above and beside it, which are kept, and below it, where
-// the grid still has them.
+// The inner points of the row that begins at base, from the rows that are kept, above it and its own as it was, and from the row below in the
+// grid.
 fn smooth_row(z: &mut [i32], base: usize, nx: usize, above: &[i32; 64], here: &[i32; 64])
     requires { ⌜ (2 ≤ nx) × (nx ≤ mostSide) × (base + nx + nx ≤ length (now z)) × (length (now z) ≤ mostPoints) × SmallFrom (base + nx) (now z) × (length (now above) ≡ mostSide) × Small (now above) × (length (now here) ≡ mostSide) × Small (now here) ⌝ }
     ensures { λ u. ⌜ Filled (pos 0) (λ k. newAt (now (above .entry)) (now (here .entry)) (now (z .entry)) (base + nx) (k - (base + 1))) (base + 1) (base + 1 + (nx - 2)) (now (z .entry)) (now (z .exit)) ⌝ }
@@ -65,8 +65,8 @@ fn smooth_row(z: &mut [i32], base: usize, nx: usize, above: &[i32; 64], here: &[
     }
 }
 
-// All points at once: a row is made from old rows alone. The grid has the old ones from the row below on; of those that are made anew by then,
-// and of the row at hand, a copy is kept. The first row and the last are border.
+// All points at once: each row is made from old rows alone. From the row below on the grid still has them; of the row above and of the row at
+// hand a copy is kept. The first row and the last are border.
 pub fn smooth(z: &mut [i32], nx: usize, ny: usize)
     requires { ⌜ Shaped nx ny (length (now z)) × Small (now z) ⌝ }
     ensures { λ u. ⌜ now (z .exit) ≡ stored nx ny (smoothed nx ny (fieldOf (pos 0) nx (now (z .entry)))) ⌝ }

@@ -1,8 +1,8 @@
 -- `scan_smoothing::smooth` meets its contract. The loop's invariant: rows 0 to j are new, those from j + 1 on are old, and the row that is kept is
 -- the old row j. Assumes nothing.
-use Prim.Native.Nat.{ℕ, _+_, _-_, _*_, _≤_, _<_}
+use Prim.Native.Nat.{ℕ, _+_, _-_, _*_, _≤_}
 use native.Mathlib.Omega.{arith}
-use mathlib.Core.Path.{_≡_, refl, _∙_}
+use mathlib.Core.Path.{_≡_, refl}
 use mathlib.Core.List.{List}
 use lib.ListN.{length, getD, replicate}
 use lib.IntN.{ℤ, pos}

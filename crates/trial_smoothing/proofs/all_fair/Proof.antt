@@ -9,7 +9,6 @@ use mathlib.Core.Bool.{true}
 use mathlib.Core.List.{List}
 use lib.ListN.{length, getD}
 use lib.IntN.{ℤ, pos}
-use mir.Syntax.{w32}
 use mir.Facts.{toZ-ofZ}
 use Rattle.lists.specs.Tests.{lt-or-le}
 use Rattle.trial_smoothing.specs.Trial.{fair, every-is, every-not}
