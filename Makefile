@@ -33,6 +33,7 @@ soak:
 	@scripts/tools rt cargo $(X86_TOOLS)
 	@mkdir -p build/soak
 	@rt staticlib clause > build/soak/staticlib.log 2>&1 || { echo "make soak: rt staticlib clause failed: see build/soak/staticlib.log" >&2; exit 1; }
+	@rt staticlib trial_smoothing > build/soak/trial.log 2>&1 || { echo "make soak: rt staticlib trial_smoothing failed: see build/soak/trial.log" >&2; exit 1; }
 	@rt check analyse > build/soak/check.log 2>&1 || { echo "make soak: rt check analyse failed: see build/soak/check.log" >&2; exit 1; }
 	@scripts/soak target/staticlib target/obj/analyse.o
 
