@@ -29,7 +29,7 @@ term l p b a = pos (patternAt a b) *ℤ getD l (p + a) (pos 0)
 unfoldable pub rowAt : List ℤ → (p b : ℕ) → ℤ
 rowAt l p b = upTo (pos 0) _+ℤ_ 3 (term l p b)
 
--- the new value of column i + 1, from three rows: the one above, its own, and the one below, which begins at place q of z
+-- the pattern over column i + 1 of three rows, the one above, its own, and the one below, which begins at place q of z; and the new value there
 unfoldable pub nine : (above here z : List ℤ) (q i : ℕ) → ℤ
 nine above here z q i = rowAt above i 0 +ℤ rowAt here i 1 +ℤ rowAt z (q + i) 2
 

@@ -4,11 +4,12 @@ use native.Mathlib.Omega.{arith}
 use mathlib.Core.Path.{_≡_, refl}
 use mathlib.Core.Bool.{Bool, true, false, not, cond, _&&_}
 use mathlib.Core.List.{List, [], _∷_}
-use borrow.Author.Tests.{leb-true}
+use borrow.Author.Tests.{leb-true, not-true, not-false}
 use lib.Dec.{leb}
 use lib.ListN.{length, getD}
 use lib.IntN.{ℤ, pos, negsuc, natAbs}
 use Rattle.lists.specs.Tests.{and-true}
+use Rattle.lists.specs.First.{Good}
 use Rattle.lists.specs.Members.{every, every-at}
 use Rattle.scheme.specs.Units.{amongℤ, stored, fieldOf}
 use Rattle.scheme.specs.Smoothing.{smoothed}
@@ -32,16 +33,19 @@ pub record Smooths (nx ny : ℕ) (l : List ℤ) (r : Bool) (l' : List ℤ) : Typ
 
 -- a test of each place is one of the whole list
 module _ {A : Type 0} (p : A → Bool) (o : A) where
-  pub every-is : (l : List A) → ((k : ℕ) → k < length l → p (getD l k o) ≡ true) → every p l ≡ true
-  unfolding every
-  every-is [] h = refl
-  every-is (a ∷ l) h = rw (h 0 (omega arith), every-is l (λ k e. h (suc k) (omega arith)))
+  abbrev pub badAt : List A → ℕ → Bool
+  badAt l k = not (p (getD l k o))
 
-  pub every-not : (l : List A) (k : ℕ) → k < length l → p (getD l k o) ≡ false → every p l ≡ false
+  pub every-good : (l : List A) → Good (length l) (badAt l) → every p l ≡ true
   unfolding every
-  every-not [] k h e = absurd (omega arith)
-  every-not (a ∷ l) zero h e = rw e
-  every-not (a ∷ l) (suc k) h e = rest (p a) (every-not l k (omega arith) e)
+  every-good [] h = refl
+  every-good (a ∷ l) h = rw (not-false (p a) (h 0 (omega arith)), every-good l (λ k e. h (suc k) (omega arith)))
+
+  pub every-bad : (l : List A) (k : ℕ) → k < length l → badAt l k ≡ true → every p l ≡ false
+  unfolding every
+  every-bad [] k h e = absurd (omega arith)
+  every-bad (a ∷ l) zero h e = rw (not-true (p a) e)
+  every-bad (a ∷ l) (suc k) h e = rest (p a) (every-bad l k (omega arith) e)
     where
       rest : (b : Bool) → every p l ≡ false → b && every p l ≡ false
       rest true g = g

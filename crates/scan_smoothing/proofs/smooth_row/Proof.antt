@@ -28,56 +28,84 @@ Inv-loop z₀ base nx above here i₀ z i =
 abbrev μ-loop : tie.MeasureT-loop
 μ-loop z₀ base nx above here i₀ z i = nx - i
 
--- the three sums of a point, on plain values: r₀ and r₁ are those of the kept rows, r₂ that of the row below
-module _ (above here z : List ℤ) (q i : ℕ) (small-above : SmallFrom i above) (small-here : SmallFrom i here) (r₀ r₁ : ℤ) (e₀ : r₀ ≡ rowAt above i 0) (e₁ : r₁ ≡ rowAt here i 1) where
-  size₀ : natAbs r₀ ≤ 12 * mostField
-  size₀ = rw e₀ (row-whole above i small-above 0)
+-- the three sums of a point added up, on plain values: r₀ and r₁ are those of the kept rows, r₂ that of the row below
+abbrev two : (r₀ r₁ : ℤ) → ℤ
+two r₀ r₁ = toZ w32 (ofZ w32 r₀) +ℤ toZ w32 (ofZ w32 r₁)
 
-  size₁ : natAbs r₁ ≤ 12 * mostField
-  size₁ = rw e₁ (row-whole here i small-here 1)
+abbrev all : (r₀ r₁ r₂ : ℤ) → ℤ
+all r₀ r₁ r₂ = toZ w32 (ofZ w32 (two r₀ r₁)) +ℤ toZ w32 (ofZ w32 r₂)
 
-  abbrev two : ℤ
-  two = toZ w32 (ofZ w32 r₀) +ℤ toZ w32 (ofZ w32 r₁)
+record Added (r₀ r₁ r₂ n : ℤ) : Type 0 where
+  fits : SFits w32 (all r₀ r₁ r₂)
+  fair : natAbs (toZ w32 (ofZ w32 (all r₀ r₁ r₂))) ≤ 1000000000
+  is : toZ w32 (ofZ w32 (all r₀ r₁ r₂)) ≡ n
 
-  two-is : two ≡ r₀ +ℤ r₁
+module _ (r₀ r₁ : ℤ) (size₀ : natAbs r₀ ≤ 12 * mostField) (size₁ : natAbs r₁ ≤ 12 * mostField) where
+  two-is : two r₀ r₁ ≡ r₀ +ℤ r₁
   two-is = rw (bits-back w32 r₀ (omega (arith, size₀)), bits-back w32 r₁ (omega (arith, size₁)))
 
   two-small : natAbs (r₀ +ℤ r₁) ≤ 24 * mostField
   two-small = omega (arith, size₀, size₁, size-add r₀ r₁)
 
-  two-fits : SFits w32 two
+  two-fits : SFits w32 (two r₀ r₁)
   two-fits = rw two-is (fits-size w32 (r₀ +ℤ r₁) (omega (arith, two-small)))
 
-  module _ (small-below : SmallFrom (q + i) z) (r₂ : ℤ) (e₂ : r₂ ≡ rowAt z (q + i) 2) where
-    size₂ : natAbs r₂ ≤ 12 * mostField
-    size₂ = rw e₂ (row-whole z (q + i) small-below 2)
+  added : (r₂ : ℤ) → natAbs r₂ ≤ 12 * mostField → Added r₀ r₁ r₂ (r₀ +ℤ r₁ +ℤ r₂)
+  added r₂ size₂ =
+      record {
+        fits = rw all-is (fits-size w32 (r₀ +ℤ r₁ +ℤ r₂) (omega (arith, all-small)));
+        fair = rw (all-is, back) (omega (arith, all-small));
+        is = rw all-is back;
+      }
+    where
+      all-is : all r₀ r₁ r₂ ≡ r₀ +ℤ r₁ +ℤ r₂
+      all-is = rw (two-is, bits-back w32 (r₀ +ℤ r₁) (omega (arith, two-small)), bits-back w32 r₂ (omega (arith, size₂)))
 
-    abbrev all : ℤ
-    all = toZ w32 (ofZ w32 two) +ℤ toZ w32 (ofZ w32 r₂)
+      all-small : natAbs (r₀ +ℤ r₁ +ℤ r₂) ≤ 36 * mostField
+      all-small = omega (arith, two-small, size₂, size-add (r₀ +ℤ r₁) r₂)
 
-    all-is : all ≡ r₀ +ℤ r₁ +ℤ r₂
-    all-is = rw (two-is, bits-back w32 (r₀ +ℤ r₁) (omega (arith, two-small)), bits-back w32 r₂ (omega (arith, size₂)))
+      back : toZ w32 (ofZ w32 (r₀ +ℤ r₁ +ℤ r₂)) ≡ r₀ +ℤ r₁ +ℤ r₂
+      back = bits-back w32 (r₀ +ℤ r₁ +ℤ r₂) (omega (arith, all-small))
 
-    all-small : natAbs (r₀ +ℤ r₁ +ℤ r₂) ≤ 36 * mostField
-    all-small = omega (arith, two-small, size₂, size-add (r₀ +ℤ r₁) r₂)
+nine-of : (above here z : List ℤ) (q i : ℕ) (r₀ r₁ r₂ : ℤ) → r₀ ≡ rowAt above i 0 → r₁ ≡ rowAt here i 1 → r₂ ≡ rowAt z (q + i) 2
+    → r₀ +ℤ r₁ +ℤ r₂ ≡ nine above here z q i
+unfolding nine
+nine-of above here z q i r₀ r₁ r₂ e₀ e₁ e₂ = rw (e₀, e₁, e₂)
 
-    all-fits : SFits w32 all
-    all-fits = rw all-is (fits-size w32 (r₀ +ℤ r₁ +ℤ r₂) (omega (arith, all-small)))
+-- the same in a turn
+module _ (t : lts.After-row-sum2 (row-sum-reads.Asked, row-sum-reads.Learnt, sixteenth-reads.Asked, sixteenth-reads.Learnt) reads.Pre reads.Post Inv-loop μ-loop) where
+  size₀ : natAbs (t .before .before .row-sum .result) ≤ 12 * mostField
+  size₀ =
+      let o = t .before .before .before .before .before in
+      rw (t .before .before .row-sum .ensures) (row-whole (o .before .args .above .now) (o .loop .i) (λ k h. o .before .pre .6 k) 0)
 
-    all-back : toZ w32 (ofZ w32 all) ≡ r₀ +ℤ r₁ +ℤ r₂
-    all-back = rw all-is (bits-back w32 (r₀ +ℤ r₁ +ℤ r₂) (omega (arith, all-small)))
+  size₁ : natAbs (t .row-sum2 .result) ≤ 12 * mostField
+  size₁ =
+      let o = t .before .before .before .before .before in
+      rw (t .row-sum2 .ensures) (row-whole (o .before .args .here .now) (o .loop .i) (λ k h. o .before .pre .8 k) 1)
 
-    all-fair : natAbs (toZ w32 (ofZ w32 all)) ≤ 1000000000
-    all-fair = rw all-back (omega (arith, all-small))
-
-    all-nine : toZ w32 (ofZ w32 all) ≡ nine above here z q i
-    unfolding nine
-    all-nine = all-back ∙ rw (e₀, e₁, e₂)
-
--- in a turn, the row below is as it was
+-- the row below is as it was
 still-small : (o : lts.At-loop (row-sum-reads.Asked, row-sum-reads.Learnt, sixteenth-reads.Asked, sixteenth-reads.Learnt) reads.Pre reads.Post Inv-loop μ-loop)
     → SmallFrom (o .before .args .base + o .before .args .nx + o .loop .i) (o .loop .z)
 still-small o k h = rw (o .loop .inv .1 .rest k (omega arith)) (o .before .pre .4 k (omega arith))
+
+module _ (t : lts.After-row-sum3 (row-sum-reads.Asked, row-sum-reads.Learnt, sixteenth-reads.Asked, sixteenth-reads.Learnt) reads.Pre reads.Post Inv-loop μ-loop) where
+  -- the results of the three calls, and what they add up to
+  abbrev first : ℤ
+  first = t .before .before .before .before .row-sum .result
+
+  abbrev second : ℤ
+  second = t .before .before .row-sum2 .result
+
+  abbrev third : ℤ
+  third = t .row-sum3 .result
+
+  in-turn : Added first second third (first +ℤ second +ℤ third)
+  in-turn =
+      let o = t .before .before .before .before .before .before .before in
+      let a = o .before .args in
+      added first second (size₀ (t .before .before)) (size₁ (t .before .before)) third
+      (rw (t .row-sum3 .ensures) (row-whole (o .loop .z) (a .base + a .nx + o .loop .i) (still-small o) 2))
 
 loop-holds : tie.Need-loop-holds Inv-loop μ-loop
 loop-holds c =
@@ -102,12 +130,7 @@ row-sum-requires-2 c κs =
     (omega arith, omega (arith, p .7), omega (arith, p .7), λ k h. p .8 k)
 
 add-n : tie.Need-add-n Inv-loop μ-loop
-add-n c =
-    let o = c .before .before .before .before .before in
-    let s = o .before in
-    let a = s .args in
-    two-fits (a .above .now) (a .here .now) (o .loop .z) (a .base + a .nx) (o .loop .i) (λ k h. s .pre .6 k) (λ k h. s .pre .8 k)
-    (c .before .before .row-sum .result) (c .row-sum2 .result) (c .before .before .row-sum .ensures) (c .row-sum2 .ensures)
+add-n c = two-fits (c .before .before .row-sum .result) (c .row-sum2 .result) (size₀ c) (size₁ c)
 
 add-row-sum : tie.Need-add-row-sum Inv-loop μ-loop
 add-row-sum c = omega arith
@@ -122,22 +145,10 @@ row-sum-requires-3 c κs =
     (omega arith, omega (arith, o .loop .inv .1 .same-length), omega (arith, o .loop .inv .1 .same-length), still-small o)
 
 add-n-2 : tie.Need-add-n-2 Inv-loop μ-loop
-add-n-2 c =
-    let o = c .before .before .before .before .before .before .before in
-    let s = o .before in
-    let a = s .args in
-    all-fits (a .above .now) (a .here .now) (o .loop .z) (a .base + a .nx) (o .loop .i) (λ k h. s .pre .6 k) (λ k h. s .pre .8 k)
-    (c .before .before .before .before .row-sum .result) (c .before .before .row-sum2 .result) (c .before .before .before .before .row-sum .ensures) (c .before .before .row-sum2 .ensures)
-    (still-small o) (c .row-sum3 .result) (c .row-sum3 .ensures)
+add-n-2 c = in-turn c .fits
 
 sixteenth-requires : tie.Need-sixteenth-requires Inv-loop μ-loop
-sixteenth-requires c κs =
-    let o = c .before .before .before .before .before .before .before in
-    let s = o .before in
-    let a = s .args in
-    all-fair (a .above .now) (a .here .now) (o .loop .z) (a .base + a .nx) (o .loop .i) (λ k h. s .pre .6 k) (λ k h. s .pre .8 k)
-    (c .before .before .before .before .row-sum .result) (c .before .before .row-sum2 .result) (c .before .before .before .before .row-sum .ensures) (c .before .before .row-sum2 .ensures)
-    (still-small o) (c .row-sum3 .result) (c .row-sum3 .ensures)
+sixteenth-requires c κs = in-turn c .fair
 
 add-t20 : tie.Need-add-t20 Inv-loop μ-loop
 add-t20 c = omega arith
@@ -161,14 +172,12 @@ loop-again : tie.Need-loop-again Inv-loop μ-loop
 loop-again c =
     let t = c .before in
     let o = t .before .before .before .before .before .before .before in
-    let s = o .before in
-    let a = s .args in (
+    let a = o .before .args in (
       omega arith,
       column-next (a .above .now) (a .here .now) (a .z .now) (o .loop .z) (a .base + 1) (a .base + a .nx) (o .loop .i) _ (toZ w32 (ofZ w32 (c .sixteenth .result)))
           (omega arith) (omega (arith, o .loop .inv .1 .same-length))
-          (all-nine (a .above .now) (a .here .now) (o .loop .z) (a .base + a .nx) (o .loop .i) (λ k h. s .pre .6 k) (λ k h. s .pre .8 k)
-          (t .before .before .before .before .row-sum .result) (t .before .before .row-sum2 .result) (t .before .before .before .before .row-sum .ensures) (t .before .before .row-sum2 .ensures)
-          (still-small o) (t .row-sum3 .result) (t .row-sum3 .ensures))
+          (in-turn t .is ∙ nine-of (a .above .now) (a .here .now) (o .loop .z) (a .base + a .nx) (o .loop .i) (first t) (second t) (third t)
+          (t .before .before .before .before .row-sum .ensures) (t .before .before .row-sum2 .ensures) (t .row-sum3 .ensures))
           (toZ-ofZ {z = c .sixteenth .result} (record { sfits = c .sixteenth .ok }) ∙ c .sixteenth .ensures) (o .loop .inv .1),
     )
 

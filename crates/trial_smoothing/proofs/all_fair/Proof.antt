@@ -1,17 +1,14 @@
 -- `trial_smoothing::all_fair` meets its contract. The loop's invariant: the values passed are fair. Assumes nothing.
-use Prim.Native.Nat.{ℕ, _+_, _-_, _≤_, _<_}
+use Prim.Native.Nat.{_+_, _-_, _≤_}
 use native.Mathlib.Omega.{arith}
 use borrow.Author.Needs.{needs, sfits-of}
-use borrow.Author.Tests.{not-true, not-false}
-use mathlib.Core.Path.{_≡_, sym, _∙_}
-use mathlib.Core.Logic.{_⊎_, inl, inr}
-use mathlib.Core.Bool.{true}
-use mathlib.Core.List.{List}
+use mathlib.Core.Path.{_≡_, refl, sym, ap, _∙_}
+use mathlib.Core.Bool.{not}
 use lib.ListN.{length, getD}
-use lib.IntN.{ℤ, pos}
+use lib.IntN.{pos}
 use mir.Facts.{toZ-ofZ}
-use Rattle.lists.specs.Tests.{lt-or-le}
-use Rattle.trial_smoothing.specs.Trial.{fair, every-is, every-not}
+use Rattle.lists.specs.First.{Good, good-more}
+use Rattle.trial_smoothing.specs.Trial.{fair, badAt, every-good, every-bad}
 use Rattle.trial_smoothing.proofs.all_fair.Statement.{statement}
 use Rattle.trial_smoothing.proofs.all_fair.Tie as tie
 use Rattle.trial_smoothing.proofs.all_fair.Reads as reads
@@ -19,18 +16,10 @@ use Rattle.trial_smoothing.proofs.all_fair.Lts as lts
 use Rattle.trial_smoothing.proofs.is_fair.Reads as is-fair-reads
 
 abbrev Inv-loop : tie.InvT-loop
-Inv-loop field k₀ k = (k ≤ length field) × ((m : ℕ) → m < k → fair (getD field m (pos 0)) ≡ true)
+Inv-loop field k₀ k = (k ≤ length field) × Good k (badAt fair (pos 0) field)
 
 abbrev μ-loop : tie.MeasureT-loop
 μ-loop field k₀ k = length field - k
-
-one-more : (l : List ℤ) (k : ℕ) → ((m : ℕ) → m < k → fair (getD l m (pos 0)) ≡ true) → fair (getD l k (pos 0)) ≡ true
-    → (m : ℕ) → m < k + 1 → fair (getD l m (pos 0)) ≡ true
-one-more l k so-far here m h = go (lt-or-le m k)
-  where
-    go : (m < k) ⊎ (k ≤ m) → fair (getD l m (pos 0)) ≡ true
-    go (inl b) = so-far m b
-    go (inr b) = let e : m ≡ k = omega arith in rw e here
 
 -- what the test of the value at k found
 tested : (t : lts.After-is-fair (is-fair-reads.Asked, is-fair-reads.Learnt) reads.Pre reads.Post Inv-loop μ-loop)
@@ -56,7 +45,7 @@ returns : tie.Need-returns Inv-loop μ-loop
 returns c =
     let t = c .before .before .before in
     let o = t .before in
-    sym (every-not fair (pos 0) (o .before .args .field .now) (o .loop .k) (t .loop-test .taken) (sym (tested (c .before)) ∙ not-true _ (c .if1 .taken)))
+    sym (every-bad fair (pos 0) (o .before .args .field .now) (o .loop .k) (t .loop-test .taken) (ap not (sym (tested (c .before))) ∙ c .if1 .taken))
 
 add-k : tie.Need-add-k Inv-loop μ-loop
 add-k c = omega arith
@@ -67,12 +56,12 @@ loop-less c = omega arith
 loop-again : tie.Need-loop-again Inv-loop μ-loop
 loop-again c =
     let o = c .before .before .before .before in
-    (omega arith, one-more (o .before .args .field .now) (o .loop .k) (o .loop .inv .1) (sym (tested (c .before)) ∙ not-false _ (c .if1 .left)))
+    (omega arith, good-more (o .loop .k) (o .loop .k + 1) _ refl (o .loop .inv .1) (ap not (sym (tested (c .before))) ∙ c .if1 .left))
 
 returns-2 : tie.Need-returns-2 Inv-loop μ-loop
 returns-2 c =
     let o = c .before in
-    sym (every-is fair (pos 0) (o .before .args .field .now) (λ m h. o .loop .inv .1 m (omega arith)))
+    sym (every-good fair (pos 0) (o .before .args .field .now) (λ m h. o .loop .inv .1 m (omega arith)))
 
 pub all-fair-spec : {M : Type 1} → statement M
 all-fair-spec =
