@@ -11,7 +11,7 @@
 ** a screen shows them. Beside them stand a point reading and a summary, which
 ** tell a field in doubles that are exact.
 **
-** What follows: version, marks, units and sizes, posts, weights, windows,
+** What follows: version, marks, units and sizes, posts, weights, wind, windows,
 ** results, verdicts, support, refusals, what the caller owes, what the calls
 ** keep, the calls, and a request by name, which is how a program had best call
 ** them.
@@ -30,18 +30,18 @@ extern "C" {
 /*
 ** VERSION
 **
-** Its first number is that of the shared object, libsosnyavik.so.0: it rises
+** Its first number is that of the shared object, libsosnyavik.so.1: it rises
 ** when a call takes other arguments than before, and a program must be compiled
 ** anew. The second rises with a new call, the third with anything else.
 */
-#define SOSNYAVIK_VERSION "0.2.2" /* 2026-11-16 */
+#define SOSNYAVIK_VERSION "1.0.0" /* 2026-11-16 */
 
 /*
 ** MARKS
 **
 ** SOSNYAVIK_MISSING in the value column: this station has no observation.
 ** No other number marks one; 32767 is a value like any other. A first guess
-** is never missing.
+** is never missing. In both wind columns of a row: this station has no wind.
 **
 ** SOSNYAVIK_NO_END in the until column: in service with no end.
 */
@@ -60,7 +60,7 @@ extern "C" {
 **                 j*nx + i and stands at x = 64*i,
 **                 y = 64*j
 **
-**   The stations are rows 0, 1, .. of six columns of equal length, 0 .. 512:
+**   The stations are rows 0, 1, .. of eight columns of equal length, 0 .. 512:
 **
 **   x, y          position; two may share one, and   -1000000 .. 1000000
 **                 one may lie off the grid: see POSTS
@@ -70,6 +70,8 @@ extern "C" {
 **   from          first minute in service            below until
 **   until         first minute no more in service    above from,
 **                                                    or SOSNYAVIK_NO_END
+**   wind_u,       wind along x and along y, in any   -100 .. 100 each, or
+**   wind_v        unit: see WIND                     both SOSNYAVIK_MISSING
 **
 **   The plan is entries 0 .. scans-1 of two columns. A column may be longer;
 **   entries past the scan count are not read.
@@ -80,6 +82,8 @@ extern "C" {
 **   limit         greatest difference that the scan  0 .. 2000000
 **                 accepts, in 1/64 unit
 **   smooth        smooth the grid after each scan    true or false
+**   mode          what a weight goes by: see WIND    SOSNYAVIK_ROUND or
+**                                                    SOSNYAVIK_ALONG_WIND
 **
 **   time          minute of the analysis             any
 **   age           greatest age of an observation     any
@@ -89,6 +93,9 @@ extern "C" {
 ** text.
 */
 #define SOSNYAVIK_DEFAULT_AGE 120
+
+/* The most rows of the station columns. */
+#define SOSNYAVIK_MOST_STATIONS 512
 
 /*
 ** POSTS
@@ -132,7 +139,43 @@ extern "C" {
 ** Up to a radius of 70 every station inside it has weight. At the rim of a
 ** wider one the fraction may be below 1, and a station inside has weight 0: it
 ** moves nothing, and gives no support.
+**
+** These are the round weights, those of mode SOSNYAVIK_ROUND.
 */
+
+/*
+** WIND
+**
+** On a breezy night warm and cold air lie in streaks. With mode
+** SOSNYAVIK_ALONG_WIND a station counts for more at the points that lie before
+** or behind it along its own wind, and for as much as ever at those beside it.
+**
+** Where dx and dy are the station's offset from the point, d2 = dx*dx + dy*dy,
+** u and v its wind, V = u*u + v*v and q = u*dx + v*dy, a station with
+** d2 < radius*radius has the weight
+**
+**   10000*(P - Q)/(P + Q), without its fraction, where
+**   P = radius*radius*(V*d2 + q*q) and Q = V*d2*d2
+**
+** and any other has none. It is the round weight where V or d2 is 0, and where
+** the station has no wind. It is never below the round one, which it equals
+** where the wind is at right angles to the offset (q = 0). Neither the strength
+** of a wind nor which of its two ways it blows changes anything:
+**
+**   radius   dx, dy     no wind   wind 10,0   20,0   -10,0   10,10   0,10
+**   96       64, 0      3846      6363        6363   6363    5428    3846
+**   96       64, 64     588       2558        2558   2558    3846    2558
+**   96       96, 0      0         0           0      0       0       0
+**
+** No station reaches farther than its radius, in either mode. So a window asks
+** for no more of the grid, and a screen costs as many points. But a station at
+** the rim, which has weight 0 by the round weight, may have one along its wind,
+** and give support.
+**
+** In mode SOSNYAVIK_ROUND the winds are tested, and not used.
+*/
+#define SOSNYAVIK_ROUND 0
+#define SOSNYAVIK_ALONG_WIND 1
 
 /*
 ** WINDOWS
@@ -242,16 +285,19 @@ extern "C" {
 **             query: grid or support is not as long as
 **             the window; on a screen: not as long as
 **             its windows together
-**   4         the six station columns are not equally      0
+**   4         the eight station columns are not equally    0
 **             long, or longer than 512
 **   5         scans is out of 1 .. 6, or radius or limit   0
-**             is shorter than scans
+**             is shorter than scans, or mode is neither
+**             SOSNYAVIK_ROUND nor SOSNYAVIK_ALONG_WIND
 **   6         a radius is out of range or above the one    scan, from 0
 **             before, or a limit is out of range
 **   7         a first-guess value is out of range          point, from 0
 **   8         a station's value is out of range and not    row, from 0
-**             the mark, its position is out of range, or
-**             from is not below until
+**             the mark, its position is out of range,
+**             from is not below until, or its wind is out
+**             of range or missing in one column alone;
+**             in both modes
 **
 ** Only the window query and the screen give 2. Windows are 0 .. 15, so that 16
 ** is none of them. A row with a verdict of 1 .. 5 to come is tested for refusal
@@ -273,9 +319,11 @@ extern "C" {
 **   a station added to the columns, and not to verdict     0x00030000 = 196608
 **   a station added to all columns but y, and to verdict   0x00040000 = 262144
 **   scans = 3, with two radii                              0x00050000 = 327680
+**   mode = 2                                               0x00050000 = 327680
 **   radius = {96, 192}, the narrow scan first: scan 1      0x00060001 = 393217
 **   first_guess[4] = SOSNYAVIK_MISSING: point 4            0x00070004 = 458756
 **   from[2] and until[2] exchanged: row 2                  0x00080002 = 524290
+**   wind_u[1] = SOSNYAVIK_MISSING, wind_v[1] = 0: row 1    0x00080001 = 524289
 **
 ** SOSNYAVIK_REFUSAL and SOSNYAVIK_PLACE take such a number apart.
 */
@@ -314,6 +362,21 @@ extern "C" {
 #define SOSNYAVIK_STACK_SUMMARISE 1024
 
 /*
+** NO WINDS
+**
+** SOSNYAVIK_MISSING, as often as there may be stations: the column to pass for
+** wind_u and for wind_v, with the length of the others, where no station has a
+** wind. A request by name that leaves both out has it passed for it.
+*/
+static inline const int32_t *sosnyavik_no_wind(void) {
+#define SOSNYAVIK_EIGHT(of) of, of, of, of, of, of, of, of
+    static const int32_t marks[SOSNYAVIK_MOST_STATIONS] = {
+        SOSNYAVIK_EIGHT(SOSNYAVIK_EIGHT(SOSNYAVIK_EIGHT(SOSNYAVIK_MISSING)))};
+#undef SOSNYAVIK_EIGHT
+    return marks;
+}
+
+/*
 ** THE WHOLE ANALYSIS
 **
 ** The example of the paper: three by three points at 10 degrees, and three
@@ -327,11 +390,29 @@ extern "C" {
 **   uint8_t support[9], verdict[3];
 **   uint32_t r = sosnyavik_analyse(3, 3, first_guess, 9, x, 3, y, 3, value, 3,
 **                                  observed, 3, from, 3, until, 3,
-**                                  1, radius, 1, limit, 1, false, 1000, 60,
+**                                  sosnyavik_no_wind(), 3,
+**                                  sosnyavik_no_wind(), 3,
+**                                  1, radius, 1, limit, 1, false,
+**                                  SOSNYAVIK_ROUND, 1000, 60,
 **                                  grid, 9, support, 9, verdict, 3);
 **
 ** Now r is 0, grid is 587, 672, 768, 672, 757, 768, 768, 768, 768, each byte
 ** of support is 1, and verdict is 0, 0, 2.
+**
+** The same evening with a wind along the rows at both stations in service:
+**
+**   int32_t wind_u[3] = {10, 10, SOSNYAVIK_MISSING};
+**   int32_t wind_v[3] = {0, 0, SOSNYAVIK_MISSING};
+**   uint32_t r = sosnyavik_analyse(3, 3, first_guess, 9, x, 3, y, 3, value, 3,
+**                                  observed, 3, from, 3, until, 3,
+**                                  wind_u, 3, wind_v, 3,
+**                                  1, radius, 1, limit, 1, false,
+**                                  SOSNYAVIK_ALONG_WIND, 1000, 60,
+**                                  grid, 9, support, 9, verdict, 3);
+**
+** Now r is 0, and grid is 615, 648, 768, 696, 729, 768, 768, 768, 768. The two
+** points beside the first station were alike, 672. Now the one that lies along
+** its wind hears more of it, and the one below hears more of the middle station.
 */
 /* clang-format off */
 uint32_t sosnyavik_analyse(
@@ -343,10 +424,12 @@ uint32_t sosnyavik_analyse(
     const uint32_t *observed, size_t observed_len,
     const uint32_t *from, size_t from_len,
     const uint32_t *until, size_t until_len,
+    const int32_t *wind_u, size_t wind_u_len,
+    const int32_t *wind_v, size_t wind_v_len,
     uint32_t scans,
     const int32_t *radius, size_t radius_len,
     const int32_t *limit, size_t limit_len,
-    bool smooth, uint32_t time, uint32_t age,
+    bool smooth, uint32_t mode, uint32_t time, uint32_t age,
     int32_t *grid, size_t grid_len,
     uint8_t *support, size_t support_len,
     uint8_t *verdict, size_t verdict_len);
@@ -362,7 +445,10 @@ uint32_t sosnyavik_analyse(
 **   uint32_t r = sosnyavik_window(3, 3, first_guess, 9, 0, 1, 1, 1,
 **                                 x, 3, y, 3, value, 3,
 **                                 observed, 3, from, 3, until, 3,
-**                                 1, radius, 1, limit, 1, false, 1000, 60,
+**                                 sosnyavik_no_wind(), 3,
+**                                 sosnyavik_no_wind(), 3,
+**                                 1, radius, 1, limit, 1, false,
+**                                 SOSNYAVIK_ROUND, 1000, 60,
 **                                 part, 2, part_support, 2);
 **
 ** Now r is 0, part is 672, 757, and both bytes of part_support are 1.
@@ -384,10 +470,12 @@ uint32_t sosnyavik_window(
     const uint32_t *observed, size_t observed_len,
     const uint32_t *from, size_t from_len,
     const uint32_t *until, size_t until_len,
+    const int32_t *wind_u, size_t wind_u_len,
+    const int32_t *wind_v, size_t wind_v_len,
     uint32_t scans,
     const int32_t *radius, size_t radius_len,
     const int32_t *limit, size_t limit_len,
-    bool smooth, uint32_t time, uint32_t age,
+    bool smooth, uint32_t mode, uint32_t time, uint32_t age,
     int32_t *grid, size_t grid_len,
     uint8_t *support, size_t support_len);
 /* clang-format on */
@@ -406,7 +494,10 @@ uint32_t sosnyavik_window(
 **   uint32_t r = sosnyavik_windows(3, 3, first_guess, 9, left, 3, right, 3,
 **                                  top, 3, bottom, 3, x, 3, y, 3, value, 3,
 **                                  observed, 3, from, 3, until, 3,
-**                                  1, radius, 1, limit, 1, false, 1000, 60,
+**                                  sosnyavik_no_wind(), 3,
+**                                  sosnyavik_no_wind(), 3,
+**                                  1, radius, 1, limit, 1, false,
+**                                  SOSNYAVIK_ROUND, 1000, 60,
 **                                  blocks, 7, blocks_support, 7);
 **
 ** Now r is 0, blocks is 672, 757, 672, 768, 757, 768, 587, and each byte of
@@ -438,10 +529,12 @@ uint32_t sosnyavik_windows(
     const uint32_t *observed, size_t observed_len,
     const uint32_t *from, size_t from_len,
     const uint32_t *until, size_t until_len,
+    const int32_t *wind_u, size_t wind_u_len,
+    const int32_t *wind_v, size_t wind_v_len,
     uint32_t scans,
     const int32_t *radius, size_t radius_len,
     const int32_t *limit, size_t limit_len,
-    bool smooth, uint32_t time, uint32_t age,
+    bool smooth, uint32_t mode, uint32_t time, uint32_t age,
     int32_t *grid, size_t grid_len,
     uint8_t *support, size_t support_len);
 /* clang-format on */
@@ -541,7 +634,8 @@ struct sosnyavik_summary sosnyavik_summarise(
 ** length.
 ** What is said above of an argument holds of the member of its name. For each
 ** call sosnyavik_NAME there is sosnyavik_request_NAME, which hands the members
-** on as they are and adds nothing. The example, its window and its screen once
+** on as they are. It adds one thing: where both wind columns are left out, it
+** passes sosnyavik_no_wind for them. The example, its window and its screen once
 ** more:
 **
 **   struct sosnyavik_request request = SOSNYAVIK_REQUEST(
@@ -633,9 +727,11 @@ struct sosnyavik_request {
     struct sosnyavik_i32_column first_guess SOSNYAVIK_OR({});
     struct sosnyavik_i32_column x SOSNYAVIK_OR({}), y SOSNYAVIK_OR({}), value SOSNYAVIK_OR({});
     struct sosnyavik_u32_column observed SOSNYAVIK_OR({}), from SOSNYAVIK_OR({}), until SOSNYAVIK_OR({});
+    struct sosnyavik_i32_column wind_u SOSNYAVIK_OR({}), wind_v SOSNYAVIK_OR({});
     uint32_t scans SOSNYAVIK_OR(0);
     struct sosnyavik_i32_column radius SOSNYAVIK_OR({}), limit SOSNYAVIK_OR({});
     bool smooth SOSNYAVIK_OR(false);
+    uint32_t mode SOSNYAVIK_OR(SOSNYAVIK_ROUND);
     uint32_t time SOSNYAVIK_OR(0), age SOSNYAVIK_OR(SOSNYAVIK_DEFAULT_AGE);
 };
 
@@ -653,8 +749,19 @@ struct sosnyavik_results {
 #define SOSNYAVIK_REST(of) \
     SOSNYAVIK_SLICE((of)->x), SOSNYAVIK_SLICE((of)->y), SOSNYAVIK_SLICE((of)->value), \
     SOSNYAVIK_SLICE((of)->observed), SOSNYAVIK_SLICE((of)->from), SOSNYAVIK_SLICE((of)->until), \
+    SOSNYAVIK_SLICE(sosnyavik_wind_or_none((of), (of)->wind_u)), \
+    SOSNYAVIK_SLICE(sosnyavik_wind_or_none((of), (of)->wind_v)), \
     (of)->scans, SOSNYAVIK_SLICE((of)->radius), SOSNYAVIK_SLICE((of)->limit), \
-    (of)->smooth, (of)->time, (of)->age
+    (of)->smooth, (of)->mode, (of)->time, (of)->age
+
+/* A wind column of a request; where both are left out, one of marks. More rows than there are marks are refused either way. */
+static inline struct sosnyavik_i32_column sosnyavik_wind_or_none(
+    const struct sosnyavik_request *request, struct sosnyavik_i32_column wind) {
+    size_t rows = request->x.count;
+    struct sosnyavik_i32_column none = {
+        sosnyavik_no_wind(), rows < SOSNYAVIK_MOST_STATIONS ? rows : SOSNYAVIK_MOST_STATIONS};
+    return request->wind_u.at == NULL && request->wind_v.at == NULL ? none : wind;
+}
 
 static inline uint32_t sosnyavik_request_analyse(
     const struct sosnyavik_request *request,
