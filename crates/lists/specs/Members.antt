@@ -5,7 +5,7 @@ use mathlib.Core.Path.{_≡_}
 use mathlib.Core.Logic.{_⊎_, inl, inr}
 use mathlib.Core.Bool.{Bool, true, _&&_}
 use mathlib.Core.List.{List, [], _∷_, map}
-use lib.ListN.{take, drop, getD}
+use lib.ListN.{length, take, drop, getD}
 use Rattle.lists.specs.Tests.{lt-or-le, and-true}
 use Rattle.lists.specs.Tab.{tab}
 use Rattle.lists.specs.Sums.{total}
@@ -47,6 +47,11 @@ all-of P f [] = none
 all-of P f (a ∷ xs) = more (f a) (all-of P f xs)
 
 -- of a part, and of a table
+-- by the index
+pub all-getD : {A : Type 0} (P : A → Type 0) (o : A) (xs : List A) → ((k : ℕ) → k < length xs → P (getD xs k o)) → All P xs
+all-getD P o [] h = none
+all-getD P o (x ∷ xs) h = more (h 0 (omega arith)) (all-getD P o xs (λ k l. h (suc k) (omega arith)))
+
 pub all-take : {A : Type 0} (P : A → Type 0) (n : ℕ) {xs : List A} → All P xs → All P (take n xs)
 all-take P zero r = none
 all-take P (suc n) none = none

@@ -14,8 +14,9 @@ use Rattle.lists.specs.Tests.{and-true, or-false, not-both}
 use Rattle.lists.specs.First.{Found, nowhere, at, first, firstIn, first-good, good-first, none-bad, all-fine}
 use Rattle.lists.specs.Members.{All, none, more}
 use Rattle.lists.specs.Tab.{length-tab}
-use Rattle.scheme.specs.Units.{among, within, mostValue, isMissing, leastSide, mostSide, mostStations, Station, mostPosition, Columns, stationAt, stationsOf, mostScans, mostRadius, mostLimit, Plan, R, E, Request, Call, asked}
-use Rattle.scheme.specs.Refusals.{Refusal, accepted, refused, inOrder, refusedIf, refusedWith, refusedAt, badShape, Span, Window, badSpan, badWindow, mostWindows, Screen, badScreen, pointsAlong, pointsOf, pointsOfAll, badLengths, badColumns, badScans, rising, badScan, badGuess, badStation, fromFive, analysisRefusal}
+use Rattle.scheme.specs.Units.{among, within, mostValue, isMissing, leastSide, mostSide, mostStations, mostWind, isNoWind, Wind, Station, mostPosition, Columns, stationAt, stationsOf, mostScans, mostRadius, mostLimit, roundMode, windMode, Plan, R, E, Request, Call, asked}
+use Rattle.scheme.specs.Streaks.{Fair}
+use Rattle.scheme.specs.Refusals.{Refusal, accepted, refused, inOrder, refusedIf, refusedWith, refusedAt, badShape, Span, Window, badSpan, badWindow, mostWindows, Screen, badScreen, pointsAlong, pointsOf, pointsOfAll, badLengths, badColumns, badScans, rising, badScan, badGuess, badWind, badStation, fromFive, analysisRefusal}
 
 -- ---- lists of tests
 
@@ -69,6 +70,8 @@ pub record Equal (c : Columns) : Type 0 where
   pub observed : length (c .observed) ≡ length (c .x)
   pub from : length (c .from) ≡ length (c .x)
   pub until : length (c .until) ≡ length (c .x)
+  pub windU : length (c .windU) ≡ length (c .x)
+  pub windV : length (c .windV) ≡ length (c .x)
   pub few : length (c .x) ≤ mostStations
 
 same : (a b : ℕ) → not (eqb a b) ≡ false → a ≡ b
@@ -78,27 +81,33 @@ pub equal : (c : Columns) → badColumns c ≡ false → Equal c
 unfolding badColumns
 equal c e =
     let (e1, few) = or-false _ _ e in
-    let (e2, until) = or-false _ _ e1 in
-    let (e3, from) = or-false _ _ e2 in
-    let (e4, observed) = or-false _ _ e3 in
-    let (y, value) = or-false _ _ e4 in
+    let (e2, v) = or-false _ _ e1 in
+    let (e3, u) = or-false _ _ e2 in
+    let (e4, until) = or-false _ _ e3 in
+    let (e5, from) = or-false _ _ e4 in
+    let (e6, observed) = or-false _ _ e5 in
+    let (y, value) = or-false _ _ e6 in
     record {
       y = same _ _ y;
       value = same _ _ value;
       observed = same _ _ observed;
       from = same _ _ from;
       until = same _ _ until;
+      windU = same _ _ u;
+      windV = same _ _ v;
       few = ltb-false mostStations (length (c .x)) few;
     }
 
 -- ---- 5 and 6: the plan
 
-pub scans-fit : (s r l : ℕ) → not (among 1 mostScans s) || ltb r s || ltb l s ≡ false → (1 ≤ s) × (s ≤ mostScans) × (s ≤ r) × (s ≤ l)
-scans-fit s r l e =
-    let (f, limits) = or-false _ _ e in
+pub scans-fit : (s r l mode : ℕ) → not (among 1 mostScans s) || ltb r s || ltb l s || not (among roundMode windMode mode) ≡ false
+    → (1 ≤ s) × (s ≤ mostScans) × (s ≤ r) × (s ≤ l) × (mode ≤ windMode)
+scans-fit s r l mode e =
+    let (g, known) = or-false _ _ e in
+    let (f, limits) = or-false _ _ g in
     let (count, radii) = or-false _ _ f in
     let (some, few) = and-true (leb 1 s) (leb s mostScans) (not-false _ count) in
-    (leb-true 1 s some, leb-true s mostScans few, ltb-false r s radii, ltb-false l s limits)
+    (leb-true 1 s some, leb-true s mostScans few, ltb-false r s radii, ltb-false l s limits, leb-true mode windMode (and-true (leb roundMode mode) (leb mode windMode) (not-false _ known) .1))
 
 -- a number in low..high, as the natural that it is
 natural : (low high : ℕ) (z : ℤ) → not (leZ (pos low) z && leZ z (pos high)) ≡ false → (z ≡ pos (natAbs z)) × (low ≤ natAbs z) × (natAbs z ≤ high)
@@ -134,16 +143,33 @@ fallen p m e f = go (scanned p m e .radius-is) (scanned p (suc m) f .radius-is) 
 
 -- ---- 8: a station
 
+-- both parts in range, where it is not missing
+pub winded : (w : Wind) → badWind w ≡ false → isNoWind w ≡ false → Fair w
+unfolding badWind
+winded w e there =
+    let (u, v) = and-true _ _ (not-false _ (rw there at e)) in
+    (leb-true _ _ u, leb-true _ _ v)
+
+wind-good : (w : Wind) → (isNoWind w ≡ false → Fair w) → badWind w ≡ false
+unfolding badWind
+wind-good w f = go (isNoWind w) f
+  where
+    go : (none : Bool) → (none ≡ false → Fair w) → not none && not (within mostWind (w .u) && within mostWind (w .v)) ≡ false
+    go true g = refl
+    go false g = rw (le-leb (natAbs (w .u)) mostWind (g refl .0), le-leb (natAbs (w .v)) mostWind (g refl .1))
+
 pub record Stationed (s : Station) : Type 0 where
   pub value : isMissing (s .value) ≡ false → natAbs (s .value) ≤ mostValue
   pub x : natAbs (s .x) ≤ mostPosition
   pub y : natAbs (s .y) ≤ mostPosition
   pub served : s .from < s .until
+  pub wind : isNoWind (s .wind) ≡ false → Fair (s .wind)
 
 pub stationed : (s : Station) → badStation s ≡ false → Stationed s
 unfolding badStation
 stationed s e =
-    let (e1, d) = or-false _ _ e in
+    let (e0, w) = or-false _ _ e in
+    let (e1, d) = or-false _ _ e0 in
     let (e2, c) = or-false _ _ e1 in
     let (a, b) = or-false _ _ e2 in
     record {
@@ -151,6 +177,7 @@ stationed s e =
       x = leb-true _ _ (not-false _ b);
       y = leb-true _ _ (not-false _ c);
       served = leb-false (s .until) (s .from) d;
+      wind = winded (s .wind) w;
     }
   where
     there : (m v : Bool) → not m && v ≡ false → m ≡ false → v ≡ false
@@ -164,12 +191,13 @@ pub record Planned (p : Plan) : Type 0 where
   pub scans-few : p .scans ≤ mostScans
   pub radii : p .scans ≤ length (p .radius)
   pub limits : p .scans ≤ length (p .limit)
+  pub known : p .mode ≤ windMode
   pub scan : (m : ℕ) → m < p .scans → Scanned p m
   pub falls : (m : ℕ) → suc m < p .scans → R p (suc m) ≤ R p m
 
 -- where there is no row
 abbrev pub noStation : Station
-noStation = record { x = pos 0; y = pos 0; value = pos 0; observed = 0; from = 0; until = 0 }
+noStation = record { x = pos 0; y = pos 0; value = pos 0; observed = 0; from = 0; until = 0; wind = record { u = pos 0; v = pos 0 } }
 
 pub record Sound (q : Request) : Type 0 where
   pub shape : Shaped (q .nx) (q .ny) (length (q .firstGuess))
@@ -200,6 +228,7 @@ pub record Formed (q : Request) : Type 0 where
   pub scans-few : q .plan .scans ≤ mostScans
   pub radii : q .plan .scans ≤ length (q .plan .radius)
   pub limits : q .plan .scans ≤ length (q .plan .limit)
+  pub known : q .plan .mode ≤ windMode
 
 formed-all : (q : Request) → Formed q → All (λ r. r ≡ accepted) (fromSix q) → Sound q
 unfolding badGuess
@@ -214,6 +243,7 @@ formed-all q f (more six (more seven (more eight none))) =
             scans-few = f .scans-few;
             radii = f .radii;
             limits = f .limits;
+            known = f .known;
             scan = λ m h. scanned (q .plan) m (scan m h);
             falls = λ m h. fallen (q .plan) m (scan m (omega arith)) (scan (suc m) h);
           };
@@ -257,7 +287,7 @@ analysis-sound c grid support verdict e = go (all-accepted _ e)
         ∷ fromFive (asked c))
         → Sound (asked c)
     go (more one (more three (more four (more five rest)))) =
-        let (some, few, radii, limits) = scans-fit _ _ _ (not-refused 5 _ _ five) in
+        let (some, few, radii, limits, known) = scans-fit _ _ _ _ (not-refused 5 _ _ five) in
         formed-all (asked c)
         (record {
           shape = shaped _ _ _ (not-refused 1 _ _ one);
@@ -266,6 +296,7 @@ analysis-sound c grid support verdict e = go (all-accepted _ e)
           scans-few = few;
           radii = radii;
           limits = limits;
+          known = known;
         })
         rest
 
@@ -341,6 +372,8 @@ columns-good c e =
       eq-eqb _ _ (e .observed),
       eq-eqb _ _ (e .from),
       eq-eqb _ _ (e .until),
+      eq-eqb _ _ (e .windU),
+      eq-eqb _ _ (e .windV),
       le-ltb mostStations (length (c .x)) (e .few),
     )
 
@@ -356,10 +389,10 @@ scan-good p m s =
 station-good : (s : Station) → Stationed s → badStation s ≡ false
 unfolding badStation
 station-good s t =
-    rw (le-leb (natAbs (s .x)) mostPosition (t .x), le-leb (natAbs (s .y)) mostPosition (t .y), lt-leb (s .until) (s .from) (t .served))
+    rw (le-leb (natAbs (s .x)) mostPosition (t .x), le-leb (natAbs (s .y)) mostPosition (t .y), lt-leb (s .until) (s .from) (t .served), wind-good (s .wind) (t .wind))
     (go (isMissing (s .value)) (t .value))
   where
-    go : (m : Bool) → (m ≡ false → natAbs (s .value) ≤ mostValue) → (not m && not (within mostValue (s .value))) || false || false || false ≡ false
+    go : (m : Bool) → (m ≡ false → natAbs (s .value) ≤ mostValue) → (not m && not (within mostValue (s .value))) || false || false || false || false ≡ false
     go true f = refl
     go false f = rw (le-leb (natAbs (s .value)) mostValue (f refl))
 
@@ -371,6 +404,8 @@ request-good q s =
       le-leb (q .plan .scans) mostScans (s .plan .scans-few),
       le-ltb (length (q .plan .radius)) (q .plan .scans) (s .plan .radii),
       le-ltb (length (q .plan .limit)) (q .plan .scans) (s .plan .limits),
+      le-leb roundMode (q .plan .mode) (omega arith),
+      le-leb (q .plan .mode) windMode (s .plan .known),
       good-first (q .plan .scans) (badScan (q .plan)) (λ m h. scan-good (q .plan) m (s .plan .scan m h)),
       all-fine badGuess (pos 0) (q .firstGuess) (λ k h. unfold badGuess in rw (le-leb _ mostValue (s .first-guess k h))),
       all-fine badStation noStation (q .stations) (λ k h. station-good _ (s .stations k h)),

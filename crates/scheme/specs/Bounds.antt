@@ -68,23 +68,23 @@ all-passed q m found =
 
 -- ---- so the sum of weight·D is at most E times the sum of weights, and their quotient at most E
 
-share-size : (radius limit : ℕ) (D : Station → ℤ) (i j : ℕ) (r : Row) → Passed limit D r
-    → natAbs (share radius D i j r .pulls) ≤ limit * share radius D i j r .weights
+share-size : (mode radius limit : ℕ) (D : Station → ℤ) (i j : ℕ) (r : Row) → Passed limit D r
+    → natAbs (share mode radius D i j r .pulls) ≤ limit * share mode radius D i j r .weights
 unfolding share
-share-size radius limit D i j r h =
+share-size mode radius limit D i j r h =
     cond-both (λ (s : Sums). natAbs (s .pulls) ≤ limit * s .weights) (isAccepted (r .verdict)) _ nothing
-    (λ e. gift-size (radius * radius) limit (D (r .station)) _ _ (h e)) (λ e. omega arith)
+    (λ e. gift-size mode (radius * radius) (r .station .wind) (D (r .station)) _ _ limit (h e)) (λ e. omega arith)
 
-sums-size : (radius limit : ℕ) (D : Station → ℤ) (i j : ℕ) {rows : List Row} → All (Passed limit D) rows
-    → natAbs (sums radius D rows i j .pulls) ≤ limit * sums radius D rows i j .weights
+sums-size : (mode radius limit : ℕ) (D : Station → ℤ) (i j : ℕ) {rows : List Row} → All (Passed limit D) rows
+    → natAbs (sums mode radius D rows i j .pulls) ≤ limit * sums mode radius D rows i j .weights
 unfolding total
-sums-size radius limit D i j none = omega arith
-sums-size radius limit D i j (more {a = r} {xs = rows} h rest) =
+sums-size mode radius limit D i j none = omega arith
+sums-size mode radius limit D i j (more {a = r} {xs = rows} h rest) =
     omega (
       arith,
-      size-add (share radius D i j r .pulls) (sums radius D rows i j .pulls),
-      share-size radius limit D i j r h,
-      sums-size radius limit D i j rest,
+      size-add (share mode radius D i j r .pulls) (sums mode radius D rows i j .pulls),
+      share-size mode radius limit D i j r h,
+      sums-size mode radius limit D i j rest,
     )
 
 pub correction-size : (limit : ℕ) (s : Sums) → natAbs (s .pulls) ≤ limit * s .weights → natAbs (correction s) ≤ limit
@@ -97,7 +97,7 @@ correction-size limit s h =
 pub correction-at-most-E : (q : Request) (m : ℕ) (found : State) (i j : ℕ) → natAbs (correction (sumsAt q m found i j)) ≤ E (q .plan) m
 unfolding sumsAt
 correction-at-most-E q m found i j =
-    correction-size (E (q .plan) m) _ (sums-size (R (q .plan) m) (E (q .plan) m) (differences q found) i j (all-passed q m found))
+    correction-size (E (q .plan) m) _ (sums-size (q .plan .mode) (R (q .plan) m) (E (q .plan) m) (differences q found) i j (all-passed q m found))
 
 -- ---- smoothing makes nothing larger
 

@@ -19,6 +19,8 @@ columnsOf ss =
       observed = map (λ s. s .observed) ss;
       from = map (λ s. s .from) ss;
       until = map (λ s. s .until) ss;
+      windU = map (λ s. s .wind .u) ss;
+      windV = map (λ s. s .wind .v) ss;
     }
 
 abbrev pub callFor : Request → Call
@@ -50,6 +52,8 @@ equal-columns ss few =
       observed = one (λ s. s .observed);
       from = one (λ s. s .from);
       until = one (λ s. s .until);
+      windU = one (λ s. s .wind .u);
+      windV = one (λ s. s .wind .v);
       few = omega (arith, length-map ss (λ (s : Station). s .x));
     }
   where

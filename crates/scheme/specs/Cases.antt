@@ -12,16 +12,16 @@ use Rattle.lists.specs.Tab.{tab}
 use Rattle.lists.specs.Sums.{total}
 use Rattle.lists.specs.First.{first, firstFrom, orNext}
 use Rattle.scheme.specs.declared.Reading.the-variants.{Backed, FirstGuess, OffGrid, Refused}
-use Rattle.scheme.specs.Units.{isMissing, missingMark, Field, stored, fieldOf, mostStations, Station, noEnd, Columns, stationAt, stationsOf, mostBeyond, R, E, Request, Call, guess, asking}
-use Rattle.scheme.specs.Refusals.{Refusal, accepted, refused, asOne, inOrder, refusedWith, refusedAt, badShape, Span, Window, badWindow, windowAt, Screen, windowsOf, badScreen, badLengths, badColumns, badScans, rising, badScan, badGuess, badStation, fromFive, analysisRefusal, windowRefusal, screenRefusal, summaryRefusal, readingRefusal}
+use Rattle.scheme.specs.Units.{isMissing, missingMark, Field, stored, fieldOf, mostStations, Wind, noWind, isNoWind, Station, noEnd, Columns, stationAt, stationsOf, mostBeyond, roundMode, windMode, R, E, Request, Call, guess, asking}
+use Rattle.scheme.specs.Refusals.{Refusal, accepted, refused, asOne, inOrder, refusedWith, refusedAt, badShape, Span, Window, badWindow, windowAt, Screen, windowsOf, badScreen, badLengths, badColumns, badScans, rising, badScan, badGuess, badWind, badStation, fromFive, analysisRefusal, windowRefusal, screenRefusal, summaryRefusal, readingRefusal}
 use Rattle.scheme.specs.Verdicts.{serves, outOfService, nearAxis, offGrid, firstThatFits, beforeScans}
 use Rattle.scheme.specs.Rounding.{rounded}
 use Rattle.scheme.specs.Value.{place, cell, corners, sumAt, valueAt}
 use Rattle.scheme.specs.Difference.{difference, afterTest, judged}
-use Rattle.scheme.specs.Weight.{weight}
+use Rattle.scheme.specs.Weight.{weight, stretched, blows, weightAt}
 use Rattle.scheme.specs.Correction.{gift, share, correction, backedBy}
 use Rattle.scheme.specs.Smoothing.{inner, smoothed}
-use Rattle.scheme.specs.Scan.{start, rowsJudged, sumsAt, corrected, scan, afterWithin, analysis}
+use Rattle.scheme.specs.Scan.{start, rowsJudged, sumsAt, corrected, scan, afterWithin, Analysis, analysis}
 use Rattle.scheme.specs.Reach.{onSpan}
 use Rattle.scheme.specs.Readings.{double, positiveZero, isBacked, readingIn, reading, numbersOf, lowest, highest, unitsOf, summary}
 use Rattle.scheme.specs.Text.{requestLines, firstTwo, analysisText, replyText, inForm, answerText}
@@ -37,7 +37,11 @@ use Rattle.scheme.specs.Most.{mostField, mostDifference, mostWeights, mo
 -- ---- a call on a grid of two by two, to be damaged
 
 abbrev mast : (x y value : ℤ) (observed from until : ℕ) → Station
-mast x y value observed from until = record { x = x; y = y; value = value; observed = observed; from = from; until = until }
+mast x y value observed from until = record { x = x; y = y; value = value; observed = observed; from = from; until = until; wind = noWind }
+
+-- a mast with a wind
+abbrev blowing : (u v : ℤ) → Station
+blowing u v = record { x = pos 0; y = pos 0; value = pos 0; observed = 1000; from = 0; until = noEnd; wind = record { u = u; v = v } }
 
 abbrev good : Station
 good = mast (pos 0) (pos 0) (pos 0) 1000 0 noEnd
@@ -56,13 +60,16 @@ at0 = pos 0 ∷ pos 0 ∷ []
 
 -- of that shape and first guess, with these stations, and with this plan
 abbrev shapedSo : (nx ny : ℕ) → List ℤ → Call
-shapedSo nx ny z = asking nx ny z (two good) 2 at64 at0 false 1000 60
+shapedSo nx ny z = asking nx ny z (two good) 2 at64 at0 false roundMode 1000 60
+
+abbrev stationedIn : (mode : ℕ) → Columns → Call
+stationedIn mode c = asking 2 2 level c 2 at64 at0 false mode 1000 60
 
 abbrev stationed : Columns → Call
-stationed c = asking 2 2 level c 2 at64 at0 false 1000 60
+stationed = stationedIn roundMode
 
 abbrev planned : ℕ → (radius limit : List ℤ) → Call
-planned scans radius limit = asking 2 2 level (two good) scans radius limit false 1000 60
+planned scans radius limit = asking 2 2 level (two good) scans radius limit false roundMode 1000 60
 
 -- the whole window
 abbrev all : Window
@@ -126,7 +133,9 @@ pub record Refusals : Type 0 where
   pub short-tile : windowRefusal (shapedSo 2 2 level) (windowAt 0 0 0 1) 1 2 ≡ refused 3 0
   pub short-tile-support : windowRefusal (shapedSo 2 2 level) (windowAt 0 0 0 1) 2 1 ≡ refused 3 0
   -- 4: unequal columns, and more than 512
-  pub unequal : EachRefuses (stationed (record { x = at0; y = at0; value = at0; observed = 0 ∷ 0 ∷ []; from = 0 ∷ 0 ∷ []; until = 1 ∷ [] })) (refused 4 0)
+  pub unequal : EachRefuses (stationed (record { x = at0; y = at0; value = at0; observed = 0 ∷ 0 ∷ []; from = 0 ∷ 0 ∷ []; until = 1 ∷ []; windU = at0; windV = at0 })) (refused 4 0)
+  pub short-winds : EachRefuses (stationed (record { x = at0; y = at0; value = at0; observed = 0 ∷ 0 ∷ []; from = 0 ∷ 0 ∷ []; until = 1 ∷ 1 ∷ []; windU = []; windV = at0 })) (refused 4 0)
+  pub long-winds : EachRefuses (stationed (record { x = at0; y = at0; value = at0; observed = 0 ∷ 0 ∷ []; from = 0 ∷ 0 ∷ []; until = 1 ∷ 1 ∷ []; windU = at0; windV = pos 0 ∷ at0 })) (refused 4 0)
   pub many : (ss : List Station) → length ss ≡ 513 → badColumns (columnsOf ss) ≡ true
   pub most : (ss : List Station) → length ss ≡ 512 → badColumns (columnsOf ss) ≡ false
   -- 5: the count, and the columns of the plan
@@ -135,6 +144,11 @@ pub record Refusals : Type 0 where
   pub six-scans : EachRefuses (planned 6 (tab 6 (λ m. pos 64)) (tab 6 (λ m. pos 0))) accepted
   pub short-radii : EachRefuses (planned 3 at64 (pos 0 ∷ at0)) (refused 5 0)
   pub short-limits : EachRefuses (planned 3 (pos 64 ∷ at64) at0) (refused 5 0)
+  -- and another mode, before 6 and 8
+  pub third-mode : EachRefuses (stationedIn 2 (two good)) (refused 5 0)
+  pub mode-before-radius : EachRefuses (asking 2 2 level (two good) 2 at0 at0 false 2 1000 60) (refused 5 0)
+  pub mode-before-wind : EachRefuses (stationedIn 2 (two (blowing (pos 101) (pos 0)))) (refused 5 0)
+  pub columns-before-mode : EachRefuses (stationedIn 2 (record { x = at0; y = at0; value = at0; observed = 0 ∷ 0 ∷ []; from = 0 ∷ 0 ∷ []; until = 1 ∷ 1 ∷ []; windU = []; windV = [] })) (refused 4 0)
   -- 6: R and E, at their scan
   pub no-radius : EachRefuses (planned 2 (pos 64 ∷ pos 0 ∷ []) at0) (refused 6 1)
   pub wide-radius : EachRefuses (planned 2 (pos 1025 ∷ pos 64 ∷ []) at0) (refused 6 0)
@@ -159,6 +173,13 @@ pub record Refusals : Type 0 where
   pub edge-place : EachRefuses (stationed (two (mast (negsuc 999999) (pos 1000000) (pos 0) 0 0 1))) accepted
   pub no-service : EachRefuses (stationed (two (mast (pos 0) (pos 0) (pos 0) 0 noEnd noEnd))) (refused 8 1)
   pub first-of-two-rows : EachRefuses (stationed (columnsOf (mast (pos 0) (pos 0) (pos 0) 0 1 1 ∷ mast (pos 0) (pos 0) (pos 0) 0 1 1 ∷ []))) (refused 8 0)
+  -- its wind, in both modes
+  pub u-past-100 : EachRefuses (stationed (two (blowing (pos 101) (pos 0)))) (refused 8 1)
+  pub v-past-100 : EachRefuses (stationedIn windMode (two (blowing (pos 0) (negsuc 100)))) (refused 8 1)
+  pub u-missing : EachRefuses (stationedIn windMode (two (blowing missingMark (pos 0)))) (refused 8 1)
+  pub v-missing : EachRefuses (stationed (two (blowing (pos 0) missingMark))) (refused 8 1)
+  pub both-missing : EachRefuses (stationedIn windMode (two good)) accepted
+  pub strongest-wind : EachRefuses (stationedIn windMode (two (blowing (negsuc 99) (pos 100)))) accepted
 
 -- more rows than 512, in equal columns
 too-many : (ss : List Station) → mostStations < length ss → badColumns (columnsOf ss) ≡ true
@@ -171,12 +192,14 @@ too-many ss h =
       length-map ss (λ (s : Station). s .observed),
       length-map ss (λ (s : Station). s .from),
       length-map ss (λ (s : Station). s .until),
+      length-map ss (λ (s : Station). s .wind .u),
+      length-map ss (λ (s : Station). s .wind .v),
       eq-eqb (length ss) (length ss) refl,
       lt-ltb mostStations (length ss) h,
     )
 
 refusals : Refusals
-unfolding analysisRefusal windowRefusal screenRefusal fromFive inOrder refusedWith refusedAt first firstFrom orNext badShape badWindow windowsOf badScreen total badLengths badColumns badScans badScan rising badGuess badStation stationsOf stationAt isMissing tab
+unfolding analysisRefusal windowRefusal screenRefusal fromFive inOrder refusedWith refusedAt first firstFrom orNext badShape badWindow windowsOf badScreen total badLengths badColumns badScans badScan rising badGuess badStation badWind isNoWind stationsOf stationAt isMissing tab
 refusals =
     record {
       not-refused = (refl, refl, refl, refl);
@@ -210,6 +233,8 @@ refusals =
       short-tile = refl;
       short-tile-support = refl;
       unequal = (refl, refl, refl, refl);
+      short-winds = (refl, refl, refl, refl);
+      long-winds = (refl, refl, refl, refl);
       many = λ ss e. too-many ss (omega arith);
       most = λ ss e. columns-good (columnsOf ss) (equal-columns ss (omega arith));
       no-scans = (refl, refl, refl, refl);
@@ -217,6 +242,10 @@ refusals =
       six-scans = (refl, refl, refl, refl);
       short-radii = (refl, refl, refl, refl);
       short-limits = (refl, refl, refl, refl);
+      third-mode = (refl, refl, refl, refl);
+      mode-before-radius = (refl, refl, refl, refl);
+      mode-before-wind = (refl, refl, refl, refl);
+      columns-before-mode = (refl, refl, refl, refl);
       no-radius = (refl, refl, refl, refl);
       wide-radius = (refl, refl, refl, refl);
       widest-radius = (refl, refl, refl, refl);
@@ -238,6 +267,12 @@ refusals =
       edge-place = (refl, refl, refl, refl);
       no-service = (refl, refl, refl, refl);
       first-of-two-rows = (refl, refl, refl, refl);
+      u-past-100 = (refl, refl, refl, refl);
+      v-past-100 = (refl, refl, refl, refl);
+      u-missing = (refl, refl, refl, refl);
+      v-missing = (refl, refl, refl, refl);
+      both-missing = (refl, refl, refl, refl);
+      strongest-wind = (refl, refl, refl, refl);
     }
 
 -- ---- verdicts before the first scan, on a grid of two by two at minute 1000, with readings of up to 60 minutes
@@ -408,7 +443,7 @@ pub record Texts : Type 0 where
       ≡ ascii "refusal=0\nplace=0\nrow=0,0\nrow=0,0\nsup=1,0\nsup=0,0\nver=0,4,1,1\n"
 
 texts : Texts
-unfolding answerText replyText requestLines lines rows flatten nothingAfter gridLine scanLine rowLine stationLine number observation end word digits positive natural between count unsigned negative signed values fromFive inOrder refusedWith refusedAt first firstFrom orNext badScans badScan rising badGuess badStation isMissing analysisText firstTwo gridLines keyed cells integer decimal spelled analysis stored tab afterWithin scan start rowsJudged sumsAt corrected guess fieldOf R E beforeScans firstThatFits outOfService serves offGrid nearAxis judged afterTest difference valueAt place sumAt cell corners rounded total share gift weight correction backedBy
+unfolding answerText replyText requestLines lines rows flatten nothingAfter gridLine scanLine rowLine stationLine number observation end word digits positive natural between count unsigned negative signed values fromFive inOrder refusedWith refusedAt first firstFrom orNext badScans badScan rising badGuess badStation badWind isNoWind isMissing analysisText firstTwo gridLines keyed cells integer decimal spelled analysis stored tab afterWithin scan start rowsJudged sumsAt corrected guess fieldOf R E beforeScans firstThatFits outOfService serves offGrid nearAxis judged afterTest difference valueAt place sumAt cell corners rounded total share gift weightAt blows weight correction backedBy
 texts =
     record {
       longest = λ text e. rw (le-ltb 65536 (length text) (omega arith));
@@ -448,7 +483,7 @@ borders = record { border-keeps = λ z. (refl, refl, refl, refl) }
 -- a grid of two by two, level at 640, so many scans of one radius and limit 64, and one mast, at (x, y), that reads 704
 abbrev asksOf : (scans radius : ℕ) (x y : ℤ) → Request
 asksOf scans radius x y =
-    asking 2 2 (tab 4 (λ p. pos 640)) (mast x y (pos 704) 1000 0 noEnd ∷ []) scans (tab scans (λ m. pos radius)) (tab scans (λ m. pos 64)) false 1000 60
+    asking 2 2 (tab 4 (λ p. pos 640)) (mast x y (pos 704) 1000 0 noEnd ∷ []) scans (tab scans (λ m. pos radius)) (tab scans (λ m. pos 64)) false roundMode 1000 60
 
 abbrev fromTo : ℕ → ℕ → Span
 fromTo first last = record { first = first; last = last }
@@ -470,7 +505,7 @@ pub record Posts : Type 0 where
   pub not-past-the-other-border : (onSpan 3 (fromTo 0 1) (pos 384) ≡ false) × (onSpan 3 (fromTo 1 2) (negsuc 255) ≡ false)
 
 posts : Posts
-unfolding analysis stored tab afterWithin scan start rowsJudged sumsAt corrected guess fieldOf R E beforeScans firstThatFits isMissing outOfService serves offGrid nearAxis judged afterTest difference valueAt place sumAt cell corners rounded total share gift weight correction backedBy onSpan
+unfolding analysis stored tab afterWithin scan start rowsJudged sumsAt corrected guess fieldOf R E beforeScans firstThatFits isMissing outOfService serves offGrid nearAxis judged afterTest difference valueAt place sumAt cell corners rounded total share gift weightAt blows weight correction backedBy onSpan
 posts =
     record {
       west-of-the-grid = refl;
@@ -494,8 +529,57 @@ pub record Rims : Type 0 where
       ≡ record { grid = pos 640 ∷ pos 640 ∷ pos 704 ∷ pos 704 ∷ []; support = 0 ∷ 0 ∷ 1 ∷ 1 ∷ []; verdict = 0 ∷ [] }
 
 rims : Rims
-unfolding analysis stored tab afterWithin scan start rowsJudged sumsAt corrected guess fieldOf R E beforeScans firstThatFits isMissing outOfService serves offGrid nearAxis judged afterTest difference valueAt place sumAt cell corners rounded total share gift weight correction backedBy
+unfolding analysis stored tab afterWithin scan start rowsJudged sumsAt corrected guess fieldOf R E beforeScans firstThatFits isMissing outOfService serves offGrid nearAxis judged afterTest difference valueAt place sumAt cell corners rounded total share gift weightAt blows weight correction backedBy
 rims = record { weighed-by-ten-thousandths = refl; inside-without-weight = refl }
+
+-- ---- streaks along the wind
+
+abbrev wind : (u v : ℤ) → Wind
+wind u v = record { u = u; v = v }
+
+-- a mast of that wind
+abbrev windMast : Wind → (x y value : ℤ) → Station
+windMast w x y value = record { x = x; y = y; value = value; observed = 1000; from = 0; until = noEnd; wind = w }
+
+-- a grid of two by two, level at 640, one scan, limit 64
+abbrev breezy : (mode radius : ℕ) → List Station → Request
+breezy mode radius masts = asking 2 2 (tab 4 (λ p. pos 640)) masts 1 (pos radius ∷ []) (pos 64 ∷ []) false mode 1000 60
+
+-- two masts, on the first point and on the last, in a wind along the rows
+abbrev twoMasts : List Station
+twoMasts = windMast (wind (pos 10) (pos 0)) (pos 0) (pos 0) (pos 704) ∷ windMast (wind (pos 10) (pos 0)) (pos 64) (pos 64) (pos 576) ∷ []
+
+abbrev levelled : List ℤ → List ℕ → (verdict : List ℕ) → Analysis
+levelled grid support verdict = record { grid = grid; support = support; verdict = verdict }
+
+pub record Streaks : Type 0 where
+  -- R = 96, 64 off along the rows: no wind, along, stronger, turned about, askew, across
+  pub along-the-rows : (weightAt windMode 9216 noWind (pos 64) (pos 0) ≡ 3846) × (weightAt windMode 9216 (wind (pos 10) (pos 0)) (pos 64) (pos 0) ≡ 6363)
+      × (weightAt windMode 9216 (wind (pos 20) (pos 0)) (pos 64) (pos 0) ≡ 6363) × (weightAt windMode 9216 (wind (negsuc 9) (pos 0)) (pos 64) (pos 0) ≡ 6363)
+      × (weightAt windMode 9216 (wind (pos 10) (pos 10)) (pos 64) (pos 0) ≡ 5428) × (weightAt windMode 9216 (wind (pos 0) (pos 10)) (pos 64) (pos 0) ≡ 3846)
+  -- calm, at the station itself, at the radius, and in mode 0
+  pub round-elsewhere : (weightAt windMode 9216 (wind (pos 0) (pos 0)) (pos 64) (pos 0) ≡ 3846) × (weightAt windMode 9216 (wind (pos 10) (pos 0)) (pos 0) (pos 0) ≡ 10000)
+      × (weightAt windMode 9216 (wind (pos 10) (pos 0)) (pos 96) (pos 0) ≡ 0) × (weightAt roundMode 9216 (wind (pos 10) (pos 0)) (pos 64) (pos 0) ≡ 3846)
+  -- 10,000(P - Q) past 64 bits, and a fraction that two cuts would make smaller
+  pub past-64-bits : (weightAt windMode 1048576 (wind (pos 100) (pos 100)) (pos 700) (pos 700) ≡ 3630)
+      × (weightAt windMode 1048576 (wind (negsuc 99) (pos 100)) (pos 723) (negsuc 723) ≡ 3340) × (weightAt windMode 1048576 (wind (pos 100) (pos 99)) (negsuc 1022) (pos 1) ≡ 2022)
+  -- each of the other two points hears more of the mast along its row
+  pub two-masts : (analysis (breezy roundMode 96 twoMasts) ≡ levelled (pos 697 ∷ pos 640 ∷ pos 640 ∷ pos 583 ∷ []) (1 ∷ 1 ∷ 1 ∷ 1 ∷ []) (0 ∷ 0 ∷ []))
+      × (analysis (breezy windMode 96 twoMasts) ≡ levelled (pos 678 ∷ pos 656 ∷ pos 624 ∷ pos 602 ∷ []) (1 ∷ 1 ∷ 1 ∷ 1 ∷ []) (0 ∷ 0 ∷ []))
+  -- inside the radius and without weight, as above: along its wind it has some, and supports
+  pub rim-along-the-wind : analysis (breezy windMode 73 (windMast (wind (pos 1) (pos 6)) (pos 12) (pos 72) (pos 704) ∷ []))
+      ≡ levelled (pos 704 ∷ pos 640 ∷ pos 704 ∷ pos 704 ∷ []) (1 ∷ 0 ∷ 1 ∷ 1 ∷ []) (0 ∷ [])
+
+streaks : Streaks
+unfolding analysis stored tab afterWithin scan start rowsJudged sumsAt corrected guess fieldOf R E beforeScans firstThatFits isMissing isNoWind outOfService serves offGrid nearAxis judged afterTest difference valueAt place sumAt cell corners rounded total share gift weightAt blows stretched weight correction backedBy
+streaks =
+    record {
+      along-the-rows = (refl, refl, refl, refl, refl, refl);
+      round-elsewhere = (refl, refl, refl, refl);
+      past-64-bits = (refl, refl, refl);
+      two-masts = (refl, refl);
+      rim-along-the-wind = refl;
+    }
 
 -- ---- the numbers that the names of Most stand for
 
@@ -516,6 +600,7 @@ pub record Cases : Type 0 where
   pub smoothed-so : Borders
   pub heard-so : Posts
   pub weighed-so : Rims
+  pub streaked-so : Streaks
   pub numbers : Numbers
 
 pub cases : Cases
@@ -528,5 +613,6 @@ cases =
       smoothed-so = borders;
       heard-so = posts;
       weighed-so = rims;
+      streaked-so = streaks;
       numbers = record { most-field = refl; most-difference = refl; most-weights = refl; most-pulls = refl; most-reach = refl };
     }

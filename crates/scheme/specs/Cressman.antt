@@ -44,7 +44,7 @@ module _ (q : Request) where
         nil = nothing;
         plus = plus;
         range = R (q .plan);
-        give = λ m s D dx dy. gift (R (q .plan) m * R (q .plan) m) D dx dy;
+        give = λ m s D dx dy. gift (q .plan .mode) (R (q .plan) m * R (q .plan) m) (s .wind) D dx dy;
       }
 
   abbrev pub cressman : Scheme
@@ -134,8 +134,8 @@ module _ (q : Request) where
   pull-ranged =
       record {
         nil-plus = nothing-plus;
-        far = λ m s D dx dy h. gift-far (R (q .plan) m) D dx dy h;
-        give-counted = λ a b m s d dx dy. refl;
+        far = λ m s D dx dy h. gift-far (q .plan .mode) (R (q .plan) m) (s .wind) D dx dy h;
+        give-counted = λ a b m s d dx dy. unfold counted in refl;
       }
 
   alone-ranged : Ranged (cressman q) alone

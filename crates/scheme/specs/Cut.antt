@@ -109,6 +109,7 @@ counted-stationed nx ny w s e t =
       x = counted-small mostPosition nx (w .columns) (s .x) x (t .x);
       y = counted-small mostPosition ny (w .rows) (s .y) y (t .y);
       served = t .served;
+      wind = t .wind;
     }
 
 module _ (q : Request) (w : Window) (sound : Sound q) (on : OnGrid (q .nx) (q .ny) w) where

@@ -36,7 +36,7 @@ rowAfter q m n = getD (after q m .rows) n noRow
 
 -- its weight at point (i, j) in scan number m + 1
 abbrev pub weightIn : Request → (m n i j : ℕ) → ℕ
-weightIn q m n i j = share (R (q .plan) m) (differences q (after q m)) i j (getD (rowsJudged q m (after q m)) n noRow) .weights
+weightIn q m n i j = share (q .plan .mode) (R (q .plan) m) (differences q (after q m)) i j (getD (rowsJudged q m (after q m)) n noRow) .weights
 
 -- how scan number m + 1 judges a row
 abbrev pub judgedIn : Request → ℕ → Row → Row
@@ -73,7 +73,7 @@ rejected-has-no-weight q k n t i j e =
     let same : getD (rowsJudged q (k + t) (after q (k + t))) n noRow ≡ rowAfter q (suc k) n =
     row-judged q (k + t) n ∙ ap (λ (m : ℕ). rowAfter q m n) s ∙ rejected-for-good q (suc k) n t e in
     let gone : isAccepted (getD (rowsJudged q (k + t) (after q (k + t))) n noRow .verdict) ≡ false = rw same e in
-    rw (rejected-gives-nothing (R (q .plan) (k + t)) (differences q (after q (k + t))) i j (getD (rowsJudged q (k + t) (after q (k + t))) n noRow) gone, weightIn)
+    rw (rejected-gives-nothing (q .plan .mode) (R (q .plan) (k + t)) (differences q (after q (k + t))) i j (getD (rowsJudged q (k + t) (after q (k + t))) n noRow) gone, weightIn)
 
 -- ---- a mast that is dead before the first scan: verdicts 1 to 5
 
@@ -150,17 +150,17 @@ module _ (q : Request) where
         stays : (r : Row) → Dead r → Dead (judgedIn q m r)
         stays r d = unfold judged in (λ e. ap (λ (s : Row). isAccepted (s .verdict)) (stays-in q m r (d e)) ∙ d e)
 
-    gone : (i j : ℕ) → All (λ r. aliveRow r ≡ false → share (R (q .plan) m) (differences q (after q m)) i j r ≡ nothing) (rowsJudged q m (after q m))
+    gone : (i j : ℕ) → All (λ r. aliveRow r ≡ false → share (q .plan .mode) (R (q .plan) m) (differences q (after q m)) i j r ≡ nothing) (rowsJudged q m (after q m))
     gone i j =
-        all-also Dead (λ r. aliveRow r ≡ false → share (R (q .plan) m) (differences q (after q m)) i j r ≡ nothing)
-        (λ r d e. rejected-gives-nothing (R (q .plan) m) (differences q (after q m)) i j r (d e)) judged-dead
+        all-also Dead (λ r. aliveRow r ≡ false → share (q .plan .mode) (R (q .plan) m) (differences q (after q m)) i j r ≡ nothing)
+        (λ r d e. rejected-gives-nothing (q .plan .mode) (R (q .plan) m) (differences q (after q m)) i j r (d e)) judged-dead
 
     same-sums-at : (i j : ℕ) → sumsAt withoutDeadMasts m (after withoutDeadMasts m) i j ≡ sumsAt q m (after q m) i j
     unfolding sumsAt
     same-sums-at i j =
-        ap (λ (D : Station → ℤ). sums (R (q .plan) m) D (rowsJudged withoutDeadMasts m (after withoutDeadMasts m)) i j) same-D
-        ∙ ap (λ (rows : List Row). sums (R (q .plan) m) (differences q (after q m)) rows i j) judged-rows
-        ∙ total-keep nothing plus nothing-plus (share (R (q .plan) m) (differences q (after q m)) i j) aliveRow (gone i j)
+        ap (λ (D : Station → ℤ). sums (q .plan .mode) (R (q .plan) m) D (rowsJudged withoutDeadMasts m (after withoutDeadMasts m)) i j) same-D
+        ∙ ap (λ (rows : List Row). sums (q .plan .mode) (R (q .plan) m) (differences q (after q m)) rows i j) judged-rows
+        ∙ total-keep nothing plus nothing-plus (share (q .plan .mode) (R (q .plan) m) (differences q (after q m)) i j) aliveRow (gone i j)
 
     same-sums : sumsAt withoutDeadMasts m (after withoutDeadMasts m) ≡ sumsAt q m (after q m)
     same-sums = fun-ext (λ i. fun-ext (same-sums-at i))

@@ -20,12 +20,13 @@ use Rattle.scheme.specs.Accepted.{fromSix}
 
 -- the same request with another plan
 abbrev pub withPlan : Request → Plan → Request
-withPlan q p = asking (q .nx) (q .ny) (q .firstGuess) (q .stations) (p .scans) (p .radius) (p .limit) (p .smooth) (q .T) (q .A)
+withPlan q p = asking (q .nx) (q .ny) (q .firstGuess) (q .stations) (p .scans) (p .radius) (p .limit) (p .smooth) (p .mode) (q .T) (q .A)
 
 -- equal up to the count
 pub record UpToCount (p p' : Plan) : Type 0 where
   pub scans : p' .scans ≡ p .scans
   pub smooth : p' .smooth ≡ p .smooth
+  pub mode : p' .mode ≡ p .mode
   pub radii : (m : ℕ) → m < p .scans → getD (p' .radius) m (pos 0) ≡ getD (p .radius) m (pos 0)
   pub limits : (m : ℕ) → m < p .scans → getD (p' .limit) m (pos 0) ≡ getD (p .limit) m (pos 0)
 
@@ -38,13 +39,13 @@ module _ (q : Request) (p' : Plan) (same : UpToCount (q .plan) p') where
   unfolding E
   same-E m h = ap natAbs (same .limits m h)
 
-  -- a scan that is made: it takes R, E and the switch of the plan
-  module _ (m : ℕ) (found : State) (radius limit : ℕ) (smooth : Bool) where
+  -- a scan that is made: it takes R, E, the switch and the mode of the plan
+  module _ (m : ℕ) (found : State) (radius limit : ℕ) (smooth : Bool) (mode : ℕ) where
     abbrev rowsBy : List Row
     rowsBy = map (judged (m + 1) limit (differences q found)) (found .rows)
 
     abbrev sumsBy : Field Sums
-    sumsBy i j = total nothing plus (share radius (differences q found) i j) rowsBy
+    sumsBy i j = total nothing plus (share mode radius (differences q found) i j) rowsBy
 
     abbrev correctedBy : Field ℤ
     correctedBy i j = found .field i j +ℤ correction (sumsBy i j)
@@ -60,9 +61,10 @@ module _ (q : Request) (p' : Plan) (same : UpToCount (q .plan) p') where
   scan-same : (m : ℕ) → m < q .plan .scans → (found : State) → scan (withPlan q p') m found ≡ scan q m found
   unfolding scan corrected sumsAt rowsJudged guess
   scan-same m h found =
-      ap (λ (r : ℕ). scanBy m found r (E p' m) (p' .smooth)) (same-R m h)
-      ∙ ap (λ (e : ℕ). scanBy m found (R (q .plan) m) e (p' .smooth)) (same-E m h)
-      ∙ ap (λ (b : Bool). scanBy m found (R (q .plan) m) (E (q .plan) m) b) (same .smooth)
+      ap (λ (r : ℕ). scanBy m found r (E p' m) (p' .smooth) (p' .mode)) (same-R m h)
+      ∙ ap (λ (e : ℕ). scanBy m found (R (q .plan) m) e (p' .smooth) (p' .mode)) (same-E m h)
+      ∙ ap (λ (b : Bool). scanBy m found (R (q .plan) m) (E (q .plan) m) b (p' .mode)) (same .smooth)
+      ∙ ap (scanBy m found (R (q .plan) m) (E (q .plan) m) (q .plan .smooth)) (same .mode)
 
   after-same : (m : ℕ) → m ≤ q .plan .scans → after (withPlan q p') m ≡ after q m
   unfolding afterWithin
@@ -116,6 +118,7 @@ module _ (q : Request) (p' : Plan) (same : UpToCount (q .plan) p') where
     same-count =
         rw (
           same .scans,
+          same .mode,
           le-ltb (length (p' .radius)) (q .plan .scans) r',
           le-ltb (length (p' .limit)) (q .plan .scans) l',
           le-ltb (length (q .plan .radius)) (q .plan .scans) r,

@@ -7,13 +7,13 @@ use lib.IntN.{ℤ, pos}
 use Rattle.lists.specs.Tab.{tab}
 use Rattle.lists.specs.Sums.{total, upTo}
 use Rattle.lists.specs.First.{first, firstFrom, orNext}
-use Rattle.scheme.specs.Units.{isMissing, Field, stored, fieldOf, Station, stationAt, stationsOf, R, E, Request, guess, asking}
-use Rattle.scheme.specs.Refusals.{accepted, inOrder, refusedWith, refusedAt, badShape, Window, badWindow, windowAt, Screen, windowsOf, badScreen, badLengths, badColumns, badScans, rising, badScan, badGuess, badStation, fromFive, analysisRefusal, windowRefusal, screenRefusal}
+use Rattle.scheme.specs.Units.{isMissing, Field, stored, fieldOf, noWind, isNoWind, Station, stationAt, stationsOf, roundMode, R, E, Request, guess, asking}
+use Rattle.scheme.specs.Refusals.{accepted, inOrder, refusedWith, refusedAt, badShape, Window, badWindow, windowAt, Screen, windowsOf, badScreen, badLengths, badColumns, badScans, rising, badScan, badGuess, badWind, badStation, fromFive, analysisRefusal, windowRefusal, screenRefusal}
 use Rattle.scheme.specs.Verdicts.{serves, outOfService, nearAxis, offGrid, firstThatFits, beforeScans}
 use Rattle.scheme.specs.Rounding.{rounded}
 use Rattle.scheme.specs.Value.{place, cell, corners, sumAt, valueAt}
 use Rattle.scheme.specs.Difference.{difference, afterTest, judged}
-use Rattle.scheme.specs.Weight.{weight}
+use Rattle.scheme.specs.Weight.{weight, blows, weightAt}
 use Rattle.scheme.specs.Correction.{gift, share, correction, backedBy}
 use Rattle.scheme.specs.Smoothing.{patternRow, patternSum, inner, smoothed}
 use Rattle.scheme.specs.Scan.{start, rowsJudged, sumsAt, corrected, scan, afterWithin, after, atEnd, Analysis, analysis}
@@ -29,13 +29,13 @@ use Rattle.scheme.specs.Text.Printed.{spelled, decimal, integer, cells, 
 -- ---- the request
 
 abbrev corner-mast : Station
-corner-mast = record { x = pos 0; y = pos 0; value = pos 576; observed = 1000; from = 0; until = 4294967295 }
+corner-mast = record { x = pos 0; y = pos 0; value = pos 576; observed = 1000; from = 0; until = 4294967295; wind = noWind }
 
 abbrev masts : List Station
 masts =
-    record { x = pos 64; y = pos 64; value = pos 768; observed = 990; from = 0; until = 4294967295 }
+    record { x = pos 64; y = pos 64; value = pos 768; observed = 990; from = 0; until = 4294967295; wind = noWind }
     ∷ corner-mast
-    ∷ record { x = pos 128; y = pos 128; value = pos 700; observed = 990; from = 0; until = 995 }
+    ∷ record { x = pos 128; y = pos 128; value = pos 700; observed = 990; from = 0; until = 995; wind = noWind }
     ∷ []
 
 abbrev pub level : List ℤ
@@ -43,7 +43,7 @@ level = tab 9 (λ p. pos 640)
 
 abbrev asked-of : List Station → (scans radius : ℕ) → Bool → Request
 asked-of stations scans radius smooth =
-    asking 3 3 level stations scans (tab scans (λ m. pos radius)) (tab scans (λ m. pos 200)) smooth 1000 60
+    asking 3 3 level stations scans (tab scans (λ m. pos radius)) (tab scans (λ m. pos 200)) smooth roundMode 1000 60
 
 abbrev pub example : (scans : ℕ) → Bool → Request
 example scans smooth = asked-of masts scans 96 smooth
@@ -141,40 +141,40 @@ abbrev BothAccept : Request → Type 0
 BothAccept q = (analysisRefusal (callFor q) 9 9 3 ≡ accepted) × (windowRefusal (callFor q) corner 4 4 ≡ accepted)
 
 pub example-accepted : BothAccept (example 1 false) × BothAccept (example 2 false) × BothAccept (example 2 true)
-unfolding analysisRefusal windowRefusal fromFive inOrder refusedWith refusedAt first firstFrom orNext badShape badWindow badLengths badColumns badScans badScan rising badGuess badStation stationsOf stationAt isMissing tab
+unfolding analysisRefusal windowRefusal fromFive inOrder refusedWith refusedAt first firstFrom orNext badShape badWindow badLengths badColumns badScans badScan rising badGuess badStation badWind isNoWind stationsOf stationAt isMissing tab
 example-accepted = ((refl, refl), (refl, refl), (refl, refl))
 
 pub example-analysis : (analysis (example 1 false) ≡ once) × (analysis (example 2 false) ≡ twice) × (analysis (example 2 true) ≡ smooth)
-unfolding analysis stored tab afterWithin scan start rowsJudged sumsAt corrected smoothed patternSum patternRow inner upTo guess fieldOf R E beforeScans firstThatFits isMissing outOfService serves offGrid nearAxis judged afterTest difference valueAt place sumAt cell corners rounded total share gift weight correction backedBy
+unfolding analysis stored tab afterWithin scan start rowsJudged sumsAt corrected smoothed patternSum patternRow inner upTo guess fieldOf R E beforeScans firstThatFits isMissing outOfService serves offGrid nearAxis judged afterTest difference valueAt place sumAt cell corners rounded total share gift weightAt blows weight correction backedBy
 example-analysis = (refl, refl, refl)
 
 pub example-window : (wholeAt (example 1 false) corner ≡ cornerOnce) × (wholeAt (example 2 false) corner ≡ cornerTwice) × (wholeAt (example 2 true) corner ≡ cornerSmooth)
-unfolding wholeAt windowOf stored tab afterWithin scan start rowsJudged sumsAt corrected smoothed patternSum patternRow inner upTo guess fieldOf R E beforeScans firstThatFits isMissing outOfService serves offGrid nearAxis judged afterTest difference valueAt place sumAt cell corners rounded total share gift weight correction backedBy
+unfolding wholeAt windowOf stored tab afterWithin scan start rowsJudged sumsAt corrected smoothed patternSum patternRow inner upTo guess fieldOf R E beforeScans firstThatFits isMissing outOfService serves offGrid nearAxis judged afterTest difference valueAt place sumAt cell corners rounded total share gift weightAt blows weight correction backedBy
 example-window = (refl, refl, refl)
 
 pub example-screen : (screenRefusal (callFor (example 1 false)) blocks 7 7 ≡ accepted) × (wholeAtEach (example 1 false) (windowsOf blocks) ≡ blocksOnce)
-unfolding screenRefusal fromFive inOrder refusedWith refusedAt first firstFrom orNext badShape badWindow badScreen badLengths badColumns badScans badScan rising badGuess badStation stationsOf stationAt windowsOf total wholeAt windowOf stored tab afterWithin scan start rowsJudged sumsAt corrected smoothed patternSum patternRow inner upTo guess fieldOf R E beforeScans firstThatFits isMissing outOfService serves offGrid nearAxis judged afterTest difference valueAt place sumAt cell corners rounded share gift weight correction backedBy
+unfolding screenRefusal fromFive inOrder refusedWith refusedAt first firstFrom orNext badShape badWindow badScreen badLengths badColumns badScans badScan rising badGuess badStation badWind isNoWind stationsOf stationAt windowsOf total wholeAt windowOf stored tab afterWithin scan start rowsJudged sumsAt corrected smoothed patternSum patternRow inner upTo guess fieldOf R E beforeScans firstThatFits isMissing outOfService serves offGrid nearAxis judged afterTest difference valueAt place sumAt cell corners rounded share gift weightAt blows weight correction backedBy
 example-screen = (refl, refl)
 
 -- what the cheats would leave
 pub example-first-scan : stored 3 3 (after (example 2 false) 1 .field) ≡ once .grid
-unfolding stored tab afterWithin scan start rowsJudged sumsAt corrected smoothed patternSum patternRow inner upTo guess fieldOf R E beforeScans firstThatFits isMissing outOfService serves offGrid nearAxis judged afterTest difference valueAt place sumAt cell corners rounded total share gift weight correction backedBy
+unfolding stored tab afterWithin scan start rowsJudged sumsAt corrected smoothed patternSum patternRow inner upTo guess fieldOf R E beforeScans firstThatFits isMissing outOfService serves offGrid nearAxis judged afterTest difference valueAt place sumAt cell corners rounded total share gift weightAt blows weight correction backedBy
 example-first-scan = refl
 
 pub example-first-scan-corner : windowOf corner (after (example 2 false) 1 .field) ≡ cornerOnce .grid
-unfolding windowOf stored tab afterWithin scan start rowsJudged sumsAt corrected smoothed patternSum patternRow inner upTo guess fieldOf R E beforeScans firstThatFits isMissing outOfService serves offGrid nearAxis judged afterTest difference valueAt place sumAt cell corners rounded total share gift weight correction backedBy
+unfolding windowOf stored tab afterWithin scan start rowsJudged sumsAt corrected smoothed patternSum patternRow inner upTo guess fieldOf R E beforeScans firstThatFits isMissing outOfService serves offGrid nearAxis judged afterTest difference valueAt place sumAt cell corners rounded total share gift weightAt blows weight correction backedBy
 example-first-scan-corner = refl
 
 pub example-only-smoothed : stored 3 3 onlySmoothed ≡ onlySmoothedGrid
-unfolding stored tab afterWithin scan start rowsJudged sumsAt corrected smoothed patternSum patternRow inner upTo guess fieldOf R E beforeScans firstThatFits isMissing outOfService serves offGrid nearAxis judged afterTest difference valueAt place sumAt cell corners rounded total share gift weight correction backedBy
+unfolding stored tab afterWithin scan start rowsJudged sumsAt corrected smoothed patternSum patternRow inner upTo guess fieldOf R E beforeScans firstThatFits isMissing outOfService serves offGrid nearAxis judged afterTest difference valueAt place sumAt cell corners rounded total share gift weightAt blows weight correction backedBy
 example-only-smoothed = refl
 
 pub example-only-smoothed-corner : windowOf corner onlySmoothed ≡ pos 587 ∷ pos 672 ∷ pos 672 ∷ pos 723 ∷ []
-unfolding windowOf stored tab afterWithin scan start rowsJudged sumsAt corrected smoothed patternSum patternRow inner upTo guess fieldOf R E beforeScans firstThatFits isMissing outOfService serves offGrid nearAxis judged afterTest difference valueAt place sumAt cell corners rounded total share gift weight correction backedBy
+unfolding windowOf stored tab afterWithin scan start rowsJudged sumsAt corrected smoothed patternSum patternRow inner upTo guess fieldOf R E beforeScans firstThatFits isMissing outOfService serves offGrid nearAxis judged afterTest difference valueAt place sumAt cell corners rounded total share gift weightAt blows weight correction backedBy
 example-only-smoothed-corner = refl
 
 pub example-text : (answerText onceText ≡ onceAnswer) × (answerText twiceText ≡ twiceAnswer) × (answerText smoothText ≡ smoothAnswer)
-unfolding answerText replyText requestLines lines rows flatten nothingAfter gridLine scanLine rowLine stationLine number observation end word digits positive natural between count unsigned negative signed values fromFive inOrder refusedWith refusedAt first firstFrom orNext badScans badScan rising badGuess badStation isMissing analysisText firstTwo gridLines keyed cells integer decimal spelled analysis stored tab afterWithin scan start rowsJudged sumsAt corrected smoothed patternSum patternRow inner upTo guess fieldOf R E beforeScans firstThatFits outOfService serves offGrid nearAxis judged afterTest difference valueAt place sumAt cell corners rounded total share gift weight correction backedBy
+unfolding answerText replyText requestLines lines rows flatten nothingAfter gridLine scanLine rowLine stationLine number observation end word digits positive natural between count unsigned negative signed values fromFive inOrder refusedWith refusedAt first firstFrom orNext badScans badScan rising badGuess badStation badWind isNoWind isMissing analysisText firstTwo gridLines keyed cells integer decimal spelled analysis stored tab afterWithin scan start rowsJudged sumsAt corrected smoothed patternSum patternRow inner upTo guess fieldOf R E beforeScans firstThatFits outOfService serves offGrid nearAxis judged afterTest difference valueAt place sumAt cell corners rounded total share gift weightAt blows weight correction backedBy
 example-text = (refl, refl, refl)
 
 -- ---- So with smoothing a point without support may change: with one mast in the corner, whose radius reaches no other point, the middle does
@@ -183,5 +183,5 @@ abbrev pub lone : Request
 lone = asked-of (corner-mast ∷ []) 1 64 true
 
 pub smoothing-may-move-an-unsupported-point : (atEnd lone .support 1 1 ≡ 0) × (guess lone 1 1 ≡ pos 640) × (atEnd lone .field 1 1 ≡ pos 636)
-unfolding afterWithin scan start rowsJudged sumsAt corrected smoothed patternSum patternRow inner upTo guess fieldOf tab R E beforeScans firstThatFits isMissing outOfService serves offGrid nearAxis judged afterTest difference valueAt place sumAt cell corners rounded total share gift weight correction backedBy
+unfolding afterWithin scan start rowsJudged sumsAt corrected smoothed patternSum patternRow inner upTo guess fieldOf tab R E beforeScans firstThatFits isMissing outOfService serves offGrid nearAxis judged afterTest difference valueAt place sumAt cell corners rounded total share gift weightAt blows weight correction backedBy
 smoothing-may-move-an-unsupported-point = (refl, refl, refl)

@@ -8,9 +8,10 @@ use lib.IntN.{pos, _-ℤ_}
 use Rattle.lists.specs.Members.{Some, some-also}
 use Rattle.scheme.specs.Units.{step, R, Request}
 use Rattle.scheme.specs.Verdicts.{isAccepted}
-use Rattle.scheme.specs.Weight.{weight, square}
+use Rattle.scheme.specs.Weight.{weight, squares}
 use Rattle.scheme.specs.Difference.{Row}
 use Rattle.scheme.specs.Scan.{rowsJudged, after}
+use Rattle.scheme.specs.Streaks.{wind-never-weakens}
 use Rattle.scheme.specs.Support.{bit, Weighs, supported-exactly-where-a-mast-weighs}
 
 -- ---- the whole part of the weight over 100 is the weight in hundredths
@@ -42,13 +43,19 @@ weighed-in-hundredths-weighs r2 d2 h = omega (arith, weight-over-100-is-in-hundr
 -- the row is accepted, and has a nonzero weight at point (i, j) in hundredths
 abbrev WeighsInHundredths : (radius i j : ℕ) → Row → Type 0
 WeighsInHundredths radius i j r =
-    (isAccepted (r .verdict) ≡ true) × (0 < hundredths (radius * radius) (square (r .station .x -ℤ pos (step * i)) + square (r .station .y -ℤ pos (step * j))))
+    (isAccepted (r .verdict) ≡ true) × (0 < hundredths (radius * radius) (squares (r .station .x -ℤ pos (step * i)) (r .station .y -ℤ pos (step * j))))
 
 pub supported-in-hundredths-is-supported : (q : Request) (m k i j : ℕ) → k < m
     → Some (WeighsInHundredths (R (q .plan) k) i j) (rowsJudged q k (after q k)) → bit k (after q m .support i j) ≡ true
 supported-in-hundredths-is-supported q m k i j h some =
     supported-exactly-where-a-mast-weighs q m k i j h .1
-    (some-also (WeighsInHundredths (R (q .plan) k) i j) (Weighs (R (q .plan) k) i j) (λ r w. (w .0, weighed-in-hundredths-weighs _ _ (w .1))) some)
+    (some-also (WeighsInHundredths (R (q .plan) k) i j) (Weighs (q .plan .mode) (R (q .plan) k) i j) weighs-also some)
+  where
+    -- a wind takes nothing away
+    weighs-also : (r : Row) → WeighsInHundredths (R (q .plan) k) i j r → Weighs (q .plan .mode) (R (q .plan) k) i j r
+    weighs-also r w =
+        let s = r .station in
+        (w .0, omega (arith, weighed-in-hundredths-weighs _ _ (w .1), wind-never-weakens (q .plan .mode) (R (q .plan) k * R (q .plan) k) (s .wind) (s .x -ℤ pos (step * i)) (s .y -ℤ pos (step * j))))
 
 -- ---- the rim of a radius
 

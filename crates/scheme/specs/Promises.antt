@@ -14,9 +14,10 @@ use Rattle.scheme.specs.Reach.{Tile, wholeAt, wholeAtEach}
 use Rattle.scheme.specs.Readings.{reading, numbersOf, kindOf, valueOf, summary}
 use Rattle.scheme.specs.Text.{answerText}
 
--- the six columns, from the arguments of a call
-abbrev pub sixColumns : (x y value : List ℤ) (observed from until : List ℕ) → Columns
-sixColumns x y value observed from until = record { x = x; y = y; value = value; observed = observed; from = from; until = until }
+-- the eight columns, from the arguments of a call
+abbrev pub eightColumns : (x y value : List ℤ) (observed from until : List ℕ) (windU windV : List ℤ) → Columns
+eightColumns x y value observed from until windU windV =
+    record { x = x; y = y; value = value; observed = observed; from = from; until = until; windU = windU; windV = windV }
 
 -- ---- the shape of every promise: the outcome of the call is the one that documents 01 and 02 give
 

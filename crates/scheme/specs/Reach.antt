@@ -37,7 +37,7 @@ unfoldable pub counted : Window → Station → Station
 counted w s =
     let x = s .x -ℤ pos (step * w .columns .first) in
     let y = s .y -ℤ pos (step * w .rows .first) in
-    record { x = x; y = y; value = s .value; observed = s .observed; from = s .from; until = s .until }
+    record { x = x; y = y; value = s .value; observed = s .observed; from = s .from; until = s .until; wind = s .wind }
 
 -- the window's points of a field, row by row, top row first
 unfoldable pub windowOf : {A : Type 0} → Window → Field A → List A

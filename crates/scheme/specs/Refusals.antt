@@ -10,7 +10,7 @@ use lib.Signed.{ltZ}
 use Rattle.lists.specs.Tab.{tab}
 use Rattle.lists.specs.Sums.{total}
 use Rattle.lists.specs.First.{Found, nowhere, at, first, firstIn}
-use Rattle.scheme.specs.Units.{among, amongℤ, within, mostValue, isMissing, leastSide, mostSide, mostStations, Station, mostPosition, Columns, mostScans, mostRadius, mostLimit, Plan, Request, Call, asked}
+use Rattle.scheme.specs.Units.{among, amongℤ, within, mostValue, isMissing, leastSide, mostSide, mostStations, Wind, mostWind, isNoWind, Station, mostPosition, Columns, mostScans, mostRadius, mostLimit, roundMode, windMode, Plan, Request, Call, asked}
 
 pub data Refusal : Type 0 where
   accepted : Refusal
@@ -118,11 +118,15 @@ unfoldable pub badColumns : Columns → Bool
 badColumns c =
     let n = length (c .x) in
     not (eqb (length (c .y)) n) || not (eqb (length (c .value)) n) || not (eqb (length (c .observed)) n)
-    || not (eqb (length (c .from)) n) || not (eqb (length (c .until)) n) || ltb mostStations n
+    || not (eqb (length (c .from)) n) || not (eqb (length (c .until)) n) || not (eqb (length (c .windU)) n)
+    || not (eqb (length (c .windV)) n)
+    || ltb mostStations n
 
--- 5: scan count out of 1..6, or in C a plan column shorter than it
+-- 5: scan count out of 1..6, or in C a plan column shorter than it; another mode, after the scan count (document 02, 5)
 unfoldable pub badScans : Plan → Bool
-badScans p = not (among 1 mostScans (p .scans)) || ltb (length (p .radius)) (p .scans) || ltb (length (p .limit)) (p .scans)
+badScans p =
+    not (among 1 mostScans (p .scans)) || ltb (length (p .radius)) (p .scans) || ltb (length (p .limit)) (p .scans)
+    || not (among roundMode windMode (p .mode))
 
 -- 6: R out of range or rising, or E out of range, at scan m
 unfoldable pub rising : Plan → ℕ → Bool
@@ -138,12 +142,17 @@ badScan p m =
 unfoldable pub badGuess : ℤ → Bool
 badGuess v = not (within mostValue v)
 
--- 8: station value (not the mark) out of range, position out of range, or from not below until
+-- a wind out of range, or half missing (document 02, 5)
+unfoldable pub badWind : Wind → Bool
+badWind w = not (isNoWind w) && not (within mostWind (w .u) && within mostWind (w .v))
+
+-- 8: station value (not the mark) out of range, position out of range, or from not below until; its wind, after the row's other tests
 unfoldable pub badStation : Station → Bool
 badStation s =
     (not (isMissing (s .value)) && not (within mostValue (s .value))) || not (within mostPosition (s .x))
     || not (within mostPosition (s .y))
     || leb (s .until) (s .from)
+    || badWind (s .wind)
 
 -- ---- the rows from 5 on, of the request itself
 

@@ -13,7 +13,7 @@ use lib.Signed.{mag}
 use Rattle.lists.specs.Tests.{cond-both}
 use Rattle.lists.specs.Members.{All, none, more, all-take, all-drop}
 use Rattle.lists.specs.Tab.{tab, map-tab, tab-getD, length-tab}
-use Rattle.scheme.specs.Units.{among, Station, Plan, Request, mostScans, mostStations}
+use Rattle.scheme.specs.Units.{among, noWind, Station, roundMode, Plan, Request, mostScans, mostStations}
 use Rattle.scheme.specs.Text.{requestLines}
 use Rattle.scheme.specs.Text.Reader.{Result, fails, reads, onward, gives, _or_}
 use Rattle.scheme.specs.Text.Pieces.{ascii, Piece, word, digits, positive, natural, between, count, unsigned, negative, signed, mark, values}
@@ -52,7 +52,7 @@ requestText q =
     ++ (keyed (ascii "stations=") decimal (length (q .stations) ∷ [])
     ++ (linesText stationText (q .stations) ++ []))))))))
 
--- ---- a request whose numbers are those of a text
+-- ---- a request whose numbers are those of a text: its weights are round, and it has no winds
 
 -- an i32
 abbrev pub Signed : ℤ → Type 0
@@ -68,6 +68,7 @@ pub record StationInRange (s : Station) : Type 0 where
   pub observed : Unsigned (s .observed)
   pub from : Unsigned (s .from)
   pub until : Unsigned (s .until)
+  pub wind : s .wind ≡ noWind
 
 pub record EntryInRange (t : Entry) : Type 0 where
   pub radius : Signed (t .radius)
@@ -84,6 +85,7 @@ pub record InRange (q : Request) : Type 0 where
   pub few-scans : q .plan .scans ≤ mostScans
   pub radii : length (q .plan .radius) ≡ q .plan .scans
   pub limits : length (q .plan .limit) ≡ q .plan .scans
+  pub mode : q .plan .mode ≡ roundMode
   pub entries : All EntryInRange (entries (q .plan))
   pub whole : length (q .firstGuess) ≡ q .ny * q .nx
   pub first-guess : All Signed (q .firstGuess)
@@ -282,6 +284,7 @@ station-keyed s rest r =
       count-decimal 0 (2 ^ 32 - 1) (s .observed) after-observed (omega arith) (r .observed) refl,
       count-decimal 0 (2 ^ 32 - 1) (s .from) after-from (omega arith) (r .from) refl,
       end-decimal (s .until) (10 ∷ rest) (r .until) refl,
+      r .wind,
     ))
 
 -- lines of a kind
@@ -449,6 +452,7 @@ module _ (q : Request) (r : InRange q) where
         radius-back,
         limit-back,
         smooth-back,
+        r .mode,
       )
 
 -- no two requests print alike

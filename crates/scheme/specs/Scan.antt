@@ -35,7 +35,7 @@ module _ (q : Request) (m : ℕ) (found : State) where
   rowsJudged = map (judged (m + 1) (E (q .plan) m) (differences q found)) (found .rows)
 
   unfoldable pub sumsAt : Field Sums
-  sumsAt i j = total nothing plus (share (R (q .plan) m) (differences q found) i j) rowsJudged
+  sumsAt i j = total nothing plus (share (q .plan .mode) (R (q .plan) m) (differences q found) i j) rowsJudged
 
   -- All points change together
   unfoldable pub corrected : Field ℤ

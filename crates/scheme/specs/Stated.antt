@@ -7,7 +7,7 @@ use mathlib.Core.Bool.{Bool, true, false, cond, _&&_}
 use mathlib.Core.List.{List, [], _∷_, _++_, map}
 use lib.Dec.{eqb}
 use lib.ListN.{length, getD}
-use lib.IntN.{ℤ, pos, natAbs, _-ℤ_, _*ℤ_}
+use lib.IntN.{ℤ, pos, negℤ, natAbs, _+ℤ_, _-ℤ_, _*ℤ_}
 use lib.Signed.{leZ}
 use lib.Ieee.{Float}
 use lib.Ieee.Exact.{HasValue}
@@ -21,16 +21,16 @@ use Rattle.lists.specs.Parted.{rank}
 use Rattle.lists.specs.Sums.{upTo}
 use Rattle.scheme.specs.declared.Reading.{Reading}
 use Rattle.scheme.specs.declared.Summary.{Summary}
-use Rattle.scheme.specs.Units.{isMissing, stored, fieldOf, step, Station, mostBeyond, Plan, R, E, Request, guess, Call, asked, withStations, asking}
+use Rattle.scheme.specs.Units.{isMissing, stored, fieldOf, step, Wind, noWind, isNoWind, Station, mostBeyond, Plan, R, E, Request, guess, Call, asked, withStations, asking}
 use Rattle.scheme.specs.Refusals.{Refusal, accepted, refused, numberOf, placeOf, asOne, inOrder, refusedAt, badShape, Window, badWindow, Screen, windowAt, windowOn, windowsOf, badScreen, pointsOf, pointsOfAll, fromFive, analysisRefusal, windowRefusal, screenRefusal}
 use Rattle.scheme.specs.Verdicts.{serves, onGrid, offGrid, isAccepted, beforeScans}
 use Rattle.scheme.specs.Rounding.{rounded}
 use Rattle.scheme.specs.Value.{place, sumAt, valueAt}
 use Rattle.scheme.specs.Difference.{Row}
-use Rattle.scheme.specs.Weight.{scale, weight, square}
+use Rattle.scheme.specs.Weight.{scale, weight, square, weightAt}
 use Rattle.scheme.specs.Correction.{nothing, gift, share, correction}
 use Rattle.scheme.specs.Scan.{State, differences, rowsJudged, sumsAt, afterWithin, after, atEnd, Analysis, analysis}
-use Rattle.scheme.specs.Reach.{reach, cutOf, onWindow, counted, cut, Tile, windowOf}
+use Rattle.scheme.specs.Reach.{reach, cutOf, onWindow, counted, cut, Tile, windowOf, wholeAt}
 use Rattle.scheme.specs.Readings.{double, positiveZero, reading, valueOf, lowest, highest, summary}
 use Rattle.scheme.specs.Text.{requestLines, analysisText}
 use Rattle.scheme.specs.Text.Reader.{reads}
@@ -43,6 +43,7 @@ use Rattle.scheme.specs.Places as places
 use Rattle.scheme.specs.Nearest as nearest
 use Rattle.scheme.specs.Nearest.{Nearest}
 use Rattle.scheme.specs.Weights as weights
+use Rattle.scheme.specs.Streaks as streaks
 use Rattle.scheme.specs.Finer as fineness
 use Rattle.scheme.specs.Gifts as gifts
 use Rattle.scheme.specs.Bounds as bounds
@@ -51,6 +52,7 @@ use Rattle.scheme.specs.Support.{bit}
 use Rattle.scheme.specs.DeadMasts as dead
 use Rattle.scheme.specs.DeadMasts.{noRow}
 use Rattle.scheme.specs.Posts as posts
+use Rattle.scheme.specs.Winds as winds
 use Rattle.scheme.specs.Entries as entries
 use Rattle.scheme.specs.Laws.{Scheme}
 use Rattle.scheme.specs.Near.{Side}
@@ -125,7 +127,7 @@ abbrev rowAfter : Request → (m n : ℕ) → Row
 rowAfter q m n = getD (after q m .rows) n noRow
 
 abbrev weightIn : Request → (m n i j : ℕ) → ℕ
-weightIn q m n i j = share (R (q .plan) m) (differences q (after q m)) i j (getD (rowsJudged q m (after q m)) n noRow) .weights
+weightIn q m n i j = share (q .plan .mode) (R (q .plan) m) (differences q (after q m)) i j (getD (rowsJudged q m (after q m)) n noRow) .weights
 
 pub rejected-for-good : (q : Request) (m n t : ℕ) → isAccepted (rowAfter q m n .verdict) ≡ false → rowAfter q (m + t) n ≡ rowAfter q m n
 rejected-for-good = dead.rejected-for-good
@@ -317,7 +319,56 @@ pub rim-of-64-is-told-apart : (100 * (64 * 64 - 3969) / (64 * 64 + 3969) ≡ 100
     × (weight (64 * 64) 3985 < weight (64 * 64) 3969)
 rim-of-64-is-told-apart = fineness.rim-of-64-is-told-apart
 
-pub gift-far : (radius : ℕ) (D dx dy : ℤ) → (radius ≤ natAbs dx) ⊎ (radius ≤ natAbs dy) → gift (radius * radius) D dx dy ≡ nothing
+-- along the wind, in either mode: w a station's wind, dx and dy its offset from the point
+module _ (mode r2 : ℕ) (w : Wind) (dx dy : ℤ) where
+  pub weight-lies-in-the-scale : weightAt mode r2 w dx dy ≤ scale
+  weight-lies-in-the-scale = streaks.weight-lies-in-the-scale mode r2 w dx dy
+
+  pub wind-never-weakens : weight r2 (square dx + square dy) ≤ weightAt mode r2 w dx dy
+  wind-never-weakens = streaks.wind-never-weakens mode r2 w dx dy
+
+  pub across-the-wind-is-round : w .u *ℤ dx +ℤ w .v *ℤ dy ≡ pos 0 → weightAt mode r2 w dx dy ≡ weight r2 (square dx + square dy)
+  across-the-wind-is-round = streaks.across-the-wind-is-round mode r2 w dx dy
+
+  pub turned-wind-weighs-alike : natAbs (w .u) ≤ 100 → natAbs (w .v) ≤ 100
+      → weightAt mode r2 (record { u = negℤ (w .u); v = negℤ (w .v) }) dx dy ≡ weightAt mode r2 w dx dy
+  turned-wind-weighs-alike u v = streaks.turned-wind-weighs-alike mode r2 w dx dy (u, v)
+
+  pub stronger-wind-weighs-alike : (k : ℤ) → 0 < natAbs k → natAbs (w .u) ≤ 100 → natAbs (w .v) ≤ 100
+      → natAbs (k *ℤ w .u) ≤ 100 → natAbs (k *ℤ w .v) ≤ 100
+      → weightAt mode r2 (record { u = k *ℤ w .u; v = k *ℤ w .v }) dx dy ≡ weightAt mode r2 w dx dy
+  stronger-wind-weighs-alike k some u v ku kv = streaks.stronger-wind-weighs-alike k some w dx dy mode r2 (u, v) (ku, kv)
+
+-- the request with a wind for each wind, and with that mode
+abbrev withWinds : (mode : ℕ) → (Wind → Wind) → Request → Request
+withWinds mode f q =
+    asking (q .nx) (q .ny) (q .firstGuess)
+    (map (λ s. record { x = s .x; y = s .y; value = s .value; observed = s .observed; from = s .from; until = s .until; wind = f (s .wind) }) (q .stations))
+    (q .plan .scans) (q .plan .radius) (q .plan .limit) (q .plan .smooth) mode (q .T) (q .A)
+
+-- two requests in mode 0 that are unlike in their winds alone
+module _ (p q : Request) (round : p .plan .mode ≡ 0) (round' : q .plan .mode ≡ 0) (same : withWinds 0 (λ w. noWind) p ≡ withWinds 0 (λ w. noWind) q) where
+  pub in-mode-0-no-wind-changes-any-analysis : analysis p ≡ analysis q
+  in-mode-0-no-wind-changes-any-analysis = winds.in-mode-0-no-wind-changes-any-analysis p q round round' same
+
+  pub in-mode-0-no-wind-changes-any-window : (w : Window) → wholeAt p w ≡ wholeAt q w
+  in-mode-0-no-wind-changes-any-window = winds.in-mode-0-no-wind-changes-any-window p q round round' same
+
+pub without-winds-every-mode-is-round : (q : Request) (mode : ℕ) → All (λ s. isNoWind (s .wind) ≡ true) (q .stations)
+    → analysis (withWinds mode (λ w. w) q) ≡ analysis q
+without-winds-every-mode-is-round = winds.without-winds-every-mode-is-round
+
+pub stronger-winds-change-no-answer : (q : Request) (k : ℤ) → 0 < natAbs k
+    → All (λ s. isNoWind (s .wind) ≡ false → ((natAbs (s .wind .u) ≤ 100) × (natAbs (s .wind .v) ≤ 100)) × ((natAbs (k *ℤ s .wind .u) ≤ 100) × (natAbs (k *ℤ s .wind .v) ≤ 100))) (q .stations)
+    → analysis (withWinds (q .plan .mode) (λ w. cond (isNoWind w) w (record { u = k *ℤ w .u; v = k *ℤ w .v })) q) ≡ analysis q
+stronger-winds-change-no-answer = winds.stronger-winds-change-no-answer
+
+pub turned-winds-change-no-answer : (c : Call) (grid support verdict : ℕ) → analysisRefusal c grid support verdict ≡ accepted
+    → analysis (withWinds (c .plan .mode) (λ w. cond (isNoWind w) w (record { u = negℤ (w .u); v = negℤ (w .v) })) (asked c)) ≡ analysis (asked c)
+turned-winds-change-no-answer = winds.turned-winds-change-no-answer
+
+pub gift-far : (mode radius : ℕ) (wind : Wind) (D dx dy : ℤ) → (radius ≤ natAbs dx) ⊎ (radius ≤ natAbs dy)
+    → gift mode (radius * radius) wind D dx dy ≡ nothing
 gift-far = gifts.gift-far
 
 pub correction-at-most-E : (q : Request) (m : ℕ) (found : State) (i j : ℕ) → natAbs (correction (sumsAt q m found i j)) ≤ E (q .plan) m
@@ -333,7 +384,7 @@ accepted-run-stays-within = bounds.accepted-run-stays-within
 
 pub supported-exactly-where-a-mast-weighs : (q : Request) (m k i j : ℕ) → k < m
     → (eqb (after q m .support i j / 2 ^ k % 2) 1 ≡ true)
-    ↔ Some (λ r. (isAccepted (r .verdict) ≡ true) × (0 < weight (R (q .plan) k * R (q .plan) k) (square (r .station .x -ℤ pos (step * i)) + square (r .station .y -ℤ pos (step * j)))))
+    ↔ Some (λ r. (isAccepted (r .verdict) ≡ true) × (0 < weightAt (q .plan .mode) (R (q .plan) k * R (q .plan) k) (r .station .wind) (r .station .x -ℤ pos (step * i)) (r .station .y -ℤ pos (step * j))))
     (rowsJudged q k (after q k))
 unfolding bit
 supported-exactly-where-a-mast-weighs = support.supported-exactly-where-a-mast-weighs
@@ -354,13 +405,14 @@ smoothing-may-move-an-unsupported-point = examples.smoothing-may-move-an-unsuppo
 
 -- entries past the scan count: two plans that count as many scans and are equal up to there
 module _ (q : Request) (p' : Plan) (scans : p' .scans ≡ q .plan .scans) (smooth : p' .smooth ≡ q .plan .smooth)
+    (mode : p' .mode ≡ q .plan .mode)
     (radii : (m : ℕ) → m < q .plan .scans → getD (p' .radius) m (pos 0) ≡ getD (q .plan .radius) m (pos 0))
     (limits : (m : ℕ) → m < q .plan .scans → getD (p' .limit) m (pos 0) ≡ getD (q .plan .limit) m (pos 0)) where
   abbrev other : Request
-  other = asking (q .nx) (q .ny) (q .firstGuess) (q .stations) (p' .scans) (p' .radius) (p' .limit) (p' .smooth) (q .T) (q .A)
+  other = asking (q .nx) (q .ny) (q .firstGuess) (q .stations) (p' .scans) (p' .radius) (p' .limit) (p' .smooth) (p' .mode) (q .T) (q .A)
 
   abbrev same : entries.UpToCount (q .plan) p'
-  same = record { scans = scans; smooth = smooth; radii = radii; limits = limits }
+  same = record { scans = scans; smooth = smooth; mode = mode; radii = radii; limits = limits }
 
   pub entries-past-the-count-change-no-analysis : analysis other ≡ analysis q
   entries-past-the-count-change-no-analysis = entries.entries-past-the-count-change-no-analysis q p' same

@@ -10,16 +10,15 @@ use mathlib.Core.List.{List, [], _∷_, map}
 use borrow.Author.Tests.{ltb-true, ltb-false, lt-ltb, eq-eqb}
 use lib.Dec.{ltb, eqb}
 use lib.Pow.{pow-pos, pow-add}
-use lib.IntN.{ℤ, pos, _+ℤ_, _-ℤ_, +ℤ-idr}
+use lib.IntN.{ℤ, pos, _+ℤ_, +ℤ-idr}
 use Rattle.lists.specs.Tests.{lt-or-le, true-or-false}
 use Rattle.lists.specs.Sums.{total}
 use Rattle.lists.specs.Members.{Some, some-also, some-share, share-some}
-use Rattle.scheme.specs.Units.{step, Station, R, E, Request, guess}
+use Rattle.scheme.specs.Units.{Station, R, E, Request, guess}
 use Rattle.scheme.specs.Verdicts.{isAccepted}
 use Rattle.scheme.specs.Difference.{Row, judged}
-use Rattle.scheme.specs.Weight.{weight, square}
 use Rattle.scheme.specs.Correction.{Sums, share, correction, backedBy}
-use Rattle.scheme.specs.Gifts.{sums, accepted-weight, rejected-gives-nothing}
+use Rattle.scheme.specs.Gifts.{sums, weightThere, accepted-weight, rejected-gives-nothing}
 use Rattle.scheme.specs.Scan.{differences, start, rowsJudged, sumsAt, corrected, scan, afterWithin, after}
 
 -- bit k of a number
@@ -84,47 +83,46 @@ module _ (q : Request) (i j : ℕ) where
 -- ---- a sum of weights is above 0 exactly where some accepted row has a nonzero weight
 
 -- the row is accepted, and has a nonzero weight at point (i, j)
-abbrev pub Weighs : (radius i j : ℕ) → Row → Type 0
-Weighs radius i j r =
-    (isAccepted (r .verdict) ≡ true) × (0 < weight (radius * radius) (square (r .station .x -ℤ pos (step * i)) + square (r .station .y -ℤ pos (step * j))))
+abbrev pub Weighs : (mode radius i j : ℕ) → Row → Type 0
+Weighs mode radius i j r = (isAccepted (r .verdict) ≡ true) × (0 < weightThere mode radius i j r)
 
-module _ (radius : ℕ) (D : Station → ℤ) (i j : ℕ) where
+module _ (mode radius : ℕ) (D : Station → ℤ) (i j : ℕ) where
   -- the weight of a row at the point
   abbrev weightOf : Row → ℕ
-  weightOf r = share radius D i j r .weights
+  weightOf r = share mode radius D i j r .weights
 
-  weighs : (r : Row) → 0 < weightOf r → Weighs radius i j r
+  weighs : (r : Row) → 0 < weightOf r → Weighs mode radius i j r
   weighs r h = go (true-or-false (isAccepted (r .verdict)))
     where
-      go : (isAccepted (r .verdict) ≡ true) ⊎ (isAccepted (r .verdict) ≡ false) → Weighs radius i j r
-      go (inl e) = (e, rw (← accepted-weight radius D i j r e) h)
-      go (inr e) = absurd (let l : weightOf r ≡ 0 = rw (rejected-gives-nothing radius D i j r e, weightOf) in omega arith)
+      go : (isAccepted (r .verdict) ≡ true) ⊎ (isAccepted (r .verdict) ≡ false) → Weighs mode radius i j r
+      go (inl e) = (e, rw (← accepted-weight mode radius D i j r e) h)
+      go (inr e) = absurd (let l : weightOf r ≡ 0 = rw (rejected-gives-nothing mode radius D i j r e, weightOf) in omega arith)
 
-  weighed : (r : Row) → Weighs radius i j r → 0 < weightOf r
-  weighed r w = rw (accepted-weight radius D i j r (w .0)) (w .1)
+  weighed : (r : Row) → Weighs mode radius i j r → 0 < weightOf r
+  weighed r w = rw (accepted-weight mode radius D i j r (w .0)) (w .1)
 
-  weights-total : (rows : List Row) → sums radius D rows i j .weights ≡ total 0 _+_ weightOf rows
+  weights-total : (rows : List Row) → sums mode radius D rows i j .weights ≡ total 0 _+_ weightOf rows
   unfolding total
   weights-total [] = refl
   weights-total (r ∷ rows) = ap (λ (t : ℕ). weightOf r + t) (weights-total rows)
 
 -- bit k, of a scan that has been made, is set exactly where some accepted row has a nonzero weight in that scan
 pub supported-exactly-where-a-mast-weighs : (q : Request) (m k i j : ℕ) → k < m
-    → (bit k (after q m .support i j) ≡ true) ↔ Some (Weighs (R (q .plan) k) i j) (rowsJudged q k (after q k))
+    → (bit k (after q m .support i j) ≡ true) ↔ Some (Weighs (q .plan .mode) (R (q .plan) k) i j) (rowsJudged q k (after q k))
 supported-exactly-where-a-mast-weighs q m k i j h = (there, back)
   where
-    same : weightsIn q i j k ≡ total 0 _+_ (weightOf (R (q .plan) k) (differences q (after q k)) i j) (rowsJudged q k (after q k))
-    same = unfold sumsAt in weights-total (R (q .plan) k) (differences q (after q k)) i j (rowsJudged q k (after q k))
+    same : weightsIn q i j k ≡ total 0 _+_ (weightOf (q .plan .mode) (R (q .plan) k) (differences q (after q k)) i j) (rowsJudged q k (after q k))
+    same = unfold sumsAt in weights-total (q .plan .mode) (R (q .plan) k) (differences q (after q k)) i j (rowsJudged q k (after q k))
 
-    there : bit k (after q m .support i j) ≡ true → Some (Weighs (R (q .plan) k) i j) (rowsJudged q k (after q k))
+    there : bit k (after q m .support i j) ≡ true → Some (Weighs (q .plan .mode) (R (q .plan) k) i j) (rowsJudged q k (after q k))
     there e =
         let l = ltb-true 0 (weightsIn q i j k) (sym (support-bit q i j m k h) ∙ e) in
-        some-also (λ r. 0 < weightOf (R (q .plan) k) (differences q (after q k)) i j r) (Weighs (R (q .plan) k) i j) (weighs (R (q .plan) k) (differences q (after q k)) i j)
-        (some-share (weightOf (R (q .plan) k) (differences q (after q k)) i j) (rowsJudged q k (after q k)) (rw same at l))
+        some-also (λ r. 0 < weightOf (q .plan .mode) (R (q .plan) k) (differences q (after q k)) i j r) (Weighs (q .plan .mode) (R (q .plan) k) i j) (weighs (q .plan .mode) (R (q .plan) k) (differences q (after q k)) i j)
+        (some-share (weightOf (q .plan .mode) (R (q .plan) k) (differences q (after q k)) i j) (rowsJudged q k (after q k)) (rw same at l))
 
-    back : Some (Weighs (R (q .plan) k) i j) (rowsJudged q k (after q k)) → bit k (after q m .support i j) ≡ true
+    back : Some (Weighs (q .plan .mode) (R (q .plan) k) i j) (rowsJudged q k (after q k)) → bit k (after q m .support i j) ≡ true
     back s =
-        let l = share-some (weightOf (R (q .plan) k) (differences q (after q k)) i j) (some-also (Weighs (R (q .plan) k) i j) (λ r. 0 < weightOf (R (q .plan) k) (differences q (after q k)) i j r) (weighed (R (q .plan) k) (differences q (after q k)) i j) s) in
+        let l = share-some (weightOf (q .plan .mode) (R (q .plan) k) (differences q (after q k)) i j) (some-also (Weighs (q .plan .mode) (R (q .plan) k) i j) (λ r. 0 < weightOf (q .plan .mode) (R (q .plan) k) (differences q (after q k)) i j r) (weighed (q .plan .mode) (R (q .plan) k) (differences q (after q k)) i j) s) in
         support-bit q i j m k h ∙ lt-ltb 0 (weightsIn q i j k) (rw same l)
 
 -- ---- without smoothing, a point with no support keeps its first guess
@@ -168,7 +166,7 @@ module _ (q : Request) (empty : q .stations ≡ []) where
   no-weights : (m i j : ℕ) → weightsIn q i j m ≡ 0
   unfolding sumsAt total rowsJudged
   no-weights m i j =
-      ap (λ (rows : List Row). sums (R (q .plan) m) (differences q (after q m)) (map (judged (m + 1) (E (q .plan) m) (differences q (after q m))) rows) i j .weights)
+      ap (λ (rows : List Row). sums (q .plan .mode) (R (q .plan) m) (differences q (after q m)) (map (judged (m + 1) (E (q .plan) m) (differences q (after q m))) rows) i j .weights)
       (no-rows m)
 
   pub no-stations-no-support : (m i j : ℕ) → after q m .support i j ≡ 0

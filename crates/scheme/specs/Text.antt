@@ -14,7 +14,7 @@ use Pieces.{ascii, count, unsigned}
 use Lines.{number, gridLine, scanLine, rowLine, stationLine}
 use Order.{Text, line, lines, rows, nothingAfter}
 use Printed.{decimal, integer, keyed, gridLines}
-use Rattle.scheme.specs.Units.{mostScans, mostStations, asking, Request}
+use Rattle.scheme.specs.Units.{mostScans, mostStations, roundMode, asking, Request}
 use Rattle.scheme.specs.Refusals.{numberOf, placeOf, unlessRefused, inOrder, fromFive}
 use Rattle.scheme.specs.Scan.{Analysis, analysis}
 
@@ -25,7 +25,7 @@ defaultAge = 120
 abbrev pub mostBytes : ℕ
 mostBytes = 65536
 
--- ---- the request: its lines, in this order, and nothing after
+-- ---- the request: its lines, in this order, and nothing after. The text program stays with the round mode (document 02, 5)
 
 unfoldable pub requestLines : Text Request
 requestLines = do
@@ -39,7 +39,7 @@ requestLines = do
   many ← line (number (ascii "stations=") (count 0 mostStations))
   stations ← lines many stationLine
   nothingAfter
-  gives (asking (size .nx) (size .ny) guess stations scans (map (λ t. t .radius) plan) (map (λ t. t .limit) plan) (eqb smooth 1) time age)
+  gives (asking (size .nx) (size .ny) guess stations scans (map (λ t. t .radius) plan) (map (λ t. t .limit) plan) (eqb smooth 1) roundMode time age)
 
 -- ---- the answer
 

@@ -63,6 +63,20 @@ step = 64
 abbrev pub mostStations : ℕ
 mostStations = 512
 
+-- Each station brings a wind (u, v), each -100..100 or both the missing mark (document 02, 5)
+pub record Wind : Type 0 where
+  pub u : ℤ
+  pub v : ℤ
+
+abbrev pub mostWind : ℕ
+mostWind = 100
+
+abbrev pub noWind : Wind
+noWind = record { u = missingMark; v = missingMark }
+
+unfoldable pub isNoWind : Wind → Bool
+isNoWind w = isMissing (w .u) && isMissing (w .v)
+
 pub record Station : Type 0 where
   pub x : ℤ
   pub y : ℤ
@@ -70,6 +84,7 @@ pub record Station : Type 0 where
   pub observed : ℕ
   pub from : ℕ
   pub until : ℕ
+  pub wind : Wind
 
 -- x, y: -1,000,000..1,000,000
 abbrev pub mostPosition : ℕ
@@ -83,7 +98,7 @@ mostBeyond = 256
 abbrev pub noEnd : ℕ
 noEnd = 4294967295
 
--- given as six equal columns
+-- given as six equal columns, and its wind in two more (document 02, 5)
 pub record Columns : Type 0 where
   pub x : List ℤ
   pub y : List ℤ
@@ -91,6 +106,8 @@ pub record Columns : Type 0 where
   pub observed : List ℕ
   pub from : List ℕ
   pub until : List ℕ
+  pub windU : List ℤ
+  pub windV : List ℤ
 
 -- row k of them, and all rows
 unfoldable pub stationAt : Columns → ℕ → Station
@@ -102,6 +119,7 @@ stationAt c k =
       observed = getD (c .observed) k 0;
       from = getD (c .from) k 0;
       until = getD (c .until) k 0;
+      wind = record { u = getD (c .windU) k (pos 0); v = getD (c .windV) k (pos 0) };
     }
 
 unfoldable pub stationsOf : Columns → List Station
@@ -118,11 +136,19 @@ mostRadius = 1024
 abbrev pub mostLimit : ℕ
 mostLimit = 2000000
 
+-- The round weight is mode 0, and the wind-modified weight mode 1 (document 02, 5)
+abbrev pub roundMode : ℕ
+roundMode = 0
+
+abbrev pub windMode : ℕ
+windMode = 1
+
 pub record Plan : Type 0 where
   pub scans : ℕ
   pub radius : List ℤ
   pub limit : List ℤ
   pub smooth : Bool
+  pub mode : ℕ
 
 -- R and E of scan m, counted from 0. In an accepted plan neither is negative
 unfoldable pub R : Plan → ℕ → ℕ
@@ -150,9 +176,9 @@ abbrev pub Call : Type 0
 Call = Asking Columns
 
 -- what is asked, from its parts: as a text says them, or a call is handed them
-abbrev pub asking : {S : Type 0} (nx ny : ℕ) (firstGuess : List ℤ) → S → (scans : ℕ) (radius limit : List ℤ) → Bool → (T A : ℕ) → Asking S
-asking nx ny firstGuess stations scans radius limit smooth T A =
-    let plan : Plan = record { scans = scans; radius = radius; limit = limit; smooth = smooth } in
+abbrev pub asking : {S : Type 0} (nx ny : ℕ) (firstGuess : List ℤ) → S → (scans : ℕ) (radius limit : List ℤ) → Bool → (mode T A : ℕ) → Asking S
+asking nx ny firstGuess stations scans radius limit smooth mode T A =
+    let plan : Plan = record { scans = scans; radius = radius; limit = limit; smooth = smooth; mode = mode } in
     record { nx = nx; ny = ny; firstGuess = firstGuess; stations = stations; plan = plan; T = T; A = A }
 
 -- the same, of other stations

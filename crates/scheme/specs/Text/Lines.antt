@@ -2,7 +2,7 @@
 use Prim.Native.Nat.{ℕ}
 use mathlib.Core.List.{List}
 use lib.IntN.{ℤ}
-use Rattle.scheme.specs.Units.{leastSide, mostSide, Station, missingMark, noEnd}
+use Rattle.scheme.specs.Units.{leastSide, mostSide, noWind, Station, missingMark, noEnd}
 use Rattle.scheme.specs.Text.Reader.{_>>=_, _>>_, gives, _or_, _before_}
 use Rattle.scheme.specs.Text.Pieces.{ascii, Piece, word, comma, lineFeed, count, unsigned, signed, values}
 
@@ -45,7 +45,7 @@ observation = (word (ascii "M") >> gives missingMark) or signed
 unfoldable pub end : Piece ℕ
 end = (word (ascii "open") >> gives noEnd) or unsigned
 
--- `st` is x,y,value,observed,from,until
+-- `st` is x,y,value,observed,from,until. A text has no winds (document 02, 5)
 unfoldable pub stationLine : Piece Station
 stationLine = do
   word (ascii "st=")
@@ -55,4 +55,4 @@ stationLine = do
   observed ← unsigned before comma
   from ← unsigned before comma
   until ← end before lineFeed
-  gives (record { x = x; y = y; value = value; observed = observed; from = from; until = until })
+  gives (record { x = x; y = y; value = value; observed = observed; from = from; until = until; wind = noWind })
