@@ -543,8 +543,8 @@ static Request along(int32_t u, int32_t v) {
     return q;
 }
 
-// The columns of the header's table, and a mast at the rim: along its wind it has weight and gives support, and with
-// the wind at right angles it has none.
+// The columns of the header's table; a mast at the rim, which along its wind has weight and gives support, and has none
+// with the wind at right angles; and one whose 10000*(P - Q) is past 64 bits.
 static void stretched_weights(Call *call) {
     static const int32_t table[][4] = {{10, 0, 6363, 2558},  {20, 0, 6363, 2558}, {-10, 0, 6363, 2558},
                                        {10, 10, 5428, 3846}, {0, 10, 3846, 2558}, {0, -100, 3846, 2558}};
@@ -553,8 +553,9 @@ static void stretched_weights(Call *call) {
         weighs(call, &q, 96, 64, 0, table[i][2]), weighs(call, &q, 96, 64, 64, table[i][3]);
         weighs(call, &q, 96, 96, 0, 0), weighs(call, &q, 96, 0, 0, 10000);
     }
-    const Request at_the_rim = along(12, 72), beside_it = along(72, -12);
+    const Request at_the_rim = along(12, 72), beside_it = along(72, -12), strongest = along(100, 100);
     weighs(call, &at_the_rim, 73, 12, 72, 3334), weighs(call, &beside_it, 73, 12, 72, 0);
+    weighs(call, &strongest, 1024, 384, 384, 7534);
 }
 
 static void weights(Call *call) {
@@ -643,8 +644,9 @@ static void one_wind_left_out(uint32_t mode) {
     must(sosnyavik_request_analyse(&request, whole) == 0x00040000, "winds of no rows");
 }
 
-// As many stations as there may be, and one more: the marks end with the former, and the latter is refused.
-static void most_winds_left_out(uint32_t mode) {
+// As many stations as there may be, and one more, which is refused: with winds left out, where there are no more marks
+// than that, and with winds.
+static void most_stations(uint32_t mode, bool windy) {
     enum { TOO_MANY = SOSNYAVIK_MOST_STATIONS + 1 };
     static int32_t zeros[TOO_MANY];
     static uint32_t minutes[TOO_MANY], ends[TOO_MANY];
@@ -653,11 +655,12 @@ static void most_winds_left_out(uint32_t mode) {
     struct sosnyavik_request request = by_name(&paper);
     struct sosnyavik_results whole = {.grid = {r.grid, POINTS}, .support = {r.support, POINTS}};
     memset(ends, UNTOUCHED, sizeof ends);
-    request.mode = mode, request.wind_u.at = request.wind_v.at = NULL;
+    request.mode = mode;
     for (size_t rows = SOSNYAVIK_MOST_STATIONS; rows <= TOO_MANY; rows++) {
         request.x = request.y = request.value = (struct sosnyavik_i32_column){zeros, rows};
         request.observed = request.from = (struct sosnyavik_u32_column){minutes, rows};
         request.until = (struct sosnyavik_u32_column){ends, rows};
+        request.wind_u = request.wind_v = (struct sosnyavik_i32_column){windy ? zeros : NULL, windy ? rows : 0};
         whole.verdict = (struct sosnyavik_u8_result){verdict, rows};
         must(sosnyavik_request_analyse(&request, whole) == (rows == TOO_MANY ? 0x00040000 : 0), "the most stations");
     }
@@ -673,7 +676,8 @@ static void in_mode(uint32_t mode) {
     same_as_single_queries(mode);
     winds_left_out(mode);
     one_wind_left_out(mode);
-    most_winds_left_out(mode);
+    most_stations(mode, false);
+    most_stations(mode, true);
     left_out(mode);
 }
 
