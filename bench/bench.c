@@ -1,6 +1,7 @@
 /*
  * bench.c: the proved analysis beside the plain one, its window query beside itself, and a screen of windows beside
- * both, on made-up evenings that are the same in every run.
+ * both, on made-up evenings that are the same in every run. A CASE is an evening by its letter, or with a w after that:
+ * then every station has a wind, and the weights go along it.
  *
  *   bench CASE ours|plain REPEAT   call one of them, for a counter of instructions
  *   bench CASE both REPEAT         compare the answers, then print the least wall time of each
@@ -39,6 +40,9 @@ enum { MINUTE = 1000, AGE = 120 };
 /* The widest limit that a plan may have. */
 enum { ANY = 2000000 };
 
+/* The strongest wind along an axis. */
+enum { STRONGEST = 100 };
+
 struct evening {
     const char *name;
     uint32_t nx, ny;
@@ -62,9 +66,11 @@ static const struct evening EVENINGS[] = {
 
 struct input {
     const struct evening *evening;
+    uint32_t mode;
     int32_t first_guess[MOST_POINTS];
     int32_t x[MOST_STATIONS], y[MOST_STATIONS], value[MOST_STATIONS];
     uint32_t observed[MOST_STATIONS], from[MOST_STATIONS], until[MOST_STATIONS];
+    int32_t wind_u[MOST_STATIONS], wind_v[MOST_STATIONS];
 };
 
 struct output {
@@ -107,9 +113,10 @@ static struct sosnyavik_screen screen;
 static void complain(const char *what, const char *word) {
     fprintf(
         stderr,
-        "bench: %s '%s': use bench a|b|c|p|w|s|u ours|plain|both REPEAT, window SIDE, "
+        "bench: %s '%s': use bench CASE ours|plain|both REPEAT, window SIDE, "
         "screen|windows|singles|tests|cuts SCREEN, one reading|summary, text, or stack [SIDE|SCREEN|reading|summary], "
-        "where a SCREEN is spread, corners, middle or none\n",
+        "where a CASE is a, b, c, p, w, s or u, with a w after it along the wind, and a SCREEN is spread, corners, "
+        "middle or none\n",
         what, word);
     exit(2);
 }
@@ -179,30 +186,47 @@ static void make_stations(uint64_t *state) {
     }
 }
 
+/* Light and strong, from all sides, and never calm. Draws of their own, so that the evening is else the same. */
+static void make_winds(void) {
+    uint64_t state = 1992;
+    for (size_t row = 0; row < input.evening->stations; row++) {
+        bool blows = input.mode == SOSNYAVIK_ALONG_WIND;
+        int32_t across = draw(&state, -STRONGEST, STRONGEST), along = draw(&state, 1, STRONGEST);
+        input.wind_u[row] = blows ? across : SOSNYAVIK_MISSING;
+        input.wind_v[row] = !blows ? SOSNYAVIK_MISSING : row % 2 == 0 ? along : -along;
+    }
+}
+
 /* Made before anything is measured: neither counted nor timed, and on no stack. */
 static void make_request(void) {
     const struct evening *evening = input.evening;
     size_t points = (size_t)evening->nx * evening->ny, stations = evening->stations;
-    request = (struct sosnyavik_request)
-        SOSNYAVIK_REQUEST(.nx = evening->nx, .ny = evening->ny, .first_guess = {input.first_guess, points},
-                          .x = {input.x, stations}, .y = {input.y, stations}, .value = {input.value, stations},
-                          .observed = {input.observed, stations}, .from = {input.from, stations},
-                          .until = {input.until, stations}, .scans = evening->scans,
-                          .radius = {evening->radius, evening->scans}, .limit = {evening->limit, evening->scans},
-                          .smooth = evening->smooth, .time = MINUTE);
+    request = (struct sosnyavik_request)SOSNYAVIK_REQUEST(
+            .nx = evening->nx, .ny = evening->ny, .first_guess = {input.first_guess, points}, .x = {input.x, stations},
+            .y = {input.y, stations}, .value = {input.value, stations}, .observed = {input.observed, stations},
+            .from = {input.from, stations}, .until = {input.until, stations}, .wind_u = {input.wind_u, stations},
+            .wind_v = {input.wind_v, stations}, .scans = evening->scans, .radius = {evening->radius, evening->scans},
+            .limit = {evening->limit, evening->scans}, .smooth = evening->smooth, .mode = input.mode, .time = MINUTE);
     request.age = AGE;
 }
 
-static void make_input(const char *name) {
+static void choose_evening(const char *name) {
+    bool along_wind = *name != '\0' && strcmp(name + 1, "w") == 0;
     for (size_t i = 0; i < sizeof EVENINGS / sizeof *EVENINGS; i++) {
-        if (strcmp(EVENINGS[i].name, name) == 0)
+        if (strcmp(EVENINGS[i].name, name) == 0 || (along_wind && *EVENINGS[i].name == *name))
             input.evening = &EVENINGS[i];
     }
     if (input.evening == NULL)
         complain("unknown case", name);
+    input.mode = along_wind ? SOSNYAVIK_ALONG_WIND : SOSNYAVIK_ROUND;
+}
+
+static void make_input(const char *name) {
+    choose_evening(name);
     uint64_t state = 1955;
     make_first_guess(&state);
     make_stations(&state);
+    make_winds();
     make_request();
 }
 
@@ -331,7 +355,7 @@ static void call_singles(void) {
 /* The tests that a screen saves, those of all single queries but one: every test is run, and the last one refuses. */
 static void call_tests(void) {
     uint32_t row = (uint32_t)input.evening->stations - 1;
-    input.from[row] = input.until[row];
+    input.wind_u[row] = STRONGEST, input.wind_v[row] = STRONGEST + 1;
     for (size_t k = 1; k < screen.left.count; k++) {
         if (run_single(window_of(k), &singles, 0) != 8 * 65536 + row)
             fail("a single query is not refused for its last row");

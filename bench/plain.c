@@ -1,5 +1,5 @@
 /*
- * plain.c: document 01's analysis, as requests 1 and 3 of document 02 changed it, and request 2's screen of windows,
+ * plain.c: document 01's analysis, as requests 1, 3 and 5 of document 02 changed it, and request 2's screen of windows,
  * the way a C programmer would write them first: their loops, their numbers, no tricks. It assumes what
  * include/sosnyavik.h says that the caller owes.
  */
@@ -9,7 +9,7 @@
 
 /*
  * Document 01, "Units and sizes"; and document 02's MOST_BEYOND, how far off the grid a post may stand on each axis,
- * MOST_WINDOWS, how many a screen may have, and SCALE, what a weight is in parts of.
+ * MOST_WINDOWS, how many a screen may have, SCALE, what a weight is in parts of, and GREATEST_WIND, along an axis.
  */
 enum {
     STEP = 64,
@@ -24,23 +24,30 @@ enum {
     GREATEST_NUMBER = 1000000,
     MOST_WINDOWS = 16,
     SCALE = 10000,
+    GREATEST_WIND = 100,
 };
+
+/* Ten thousand times a fraction's numerator along the wind passes 64 bits. */
+__extension__ typedef __int128 wide;
 
 struct request {
     uint32_t nx, ny;
     const int32_t *first_guess;
     const int32_t *x, *y, *value;
     const uint32_t *observed, *from, *until;
+    const int32_t *wind_u, *wind_v;
     size_t stations;
     uint32_t scans;
     const int32_t *radius, *limit;
     bool smooth;
+    uint32_t mode;
     uint32_t time, age;
 };
 
-/* What the points need to know of an accepted station, a post's true position included. */
+/* What the points need to know of an accepted station, a post's true position included; a missing wind is calm. */
 struct accepted {
     int32_t x, y, difference;
+    int32_t u, v;
 };
 
 static uint32_t refusal(uint32_t number, size_t place) { return number * 65536 + (uint32_t)place; }
@@ -57,10 +64,16 @@ static bool is_scan(const struct request *request, uint32_t scan) {
     return within(radius, 1, widest) && within(request->limit[scan], 0, GREATEST_LIMIT);
 }
 
+static bool is_wind(int32_t u, int32_t v) {
+    return (u == SOSNYAVIK_MISSING && v == SOSNYAVIK_MISSING) ||
+           (within(u, -GREATEST_WIND, GREATEST_WIND) && within(v, -GREATEST_WIND, GREATEST_WIND));
+}
+
 static bool is_station(const struct request *request, size_t row) {
     int32_t value = request->value[row];
     return (value == SOSNYAVIK_MISSING || is_number(value)) && is_number(request->x[row]) &&
-           is_number(request->y[row]) && request->from[row] < request->until[row];
+           is_number(request->y[row]) && request->from[row] < request->until[row] &&
+           is_wind(request->wind_u[row], request->wind_v[row]);
 }
 
 /* Refusals 6 to 8, which read the columns; 0 if there is none. */
@@ -139,6 +152,15 @@ static int32_t difference_of(const struct request *request, size_t row, const in
     return request->value[row] - value_at(is_post ? request->first_guess : grid, request->nx, request->ny, x, y);
 }
 
+static struct accepted accept(const struct request *request, size_t row, int32_t difference) {
+    bool blows = request->wind_u[row] != SOSNYAVIK_MISSING;
+    return (struct accepted){.x = request->x[row],
+                             .y = request->y[row],
+                             .difference = difference,
+                             .u = blows ? request->wind_u[row] : 0,
+                             .v = blows ? request->wind_v[row] : 0};
+}
+
 /* The E test of a scan, counted from 0: fills the list of those that stay accepted, and gives its length. */
 static size_t judge(const struct request *request, uint32_t scan, const int32_t *grid, uint8_t *verdict,
                     struct accepted *accepted) {
@@ -149,7 +171,7 @@ static size_t judge(const struct request *request, uint32_t scan, const int32_t 
             continue;
         int32_t difference = difference_of(request, row, grid);
         if (within(difference, -limit, limit))
-            accepted[count++] = (struct accepted){request->x[row], request->y[row], difference};
+            accepted[count++] = accept(request, row, difference);
         else
             verdict[row] = (uint8_t)(11 + scan);
     }
@@ -170,6 +192,41 @@ static void correct(const struct request *request, uint32_t scan, const struct a
                 int32_t d2 = dx * dx + dy * dy;
                 if (d2 < r2) {
                     int32_t weight = (int32_t)((int64_t)SCALE * (r2 - d2) / (r2 + d2));
+                    weights += weight;
+                    sum += (int64_t)weight * accepted[k].difference;
+                }
+            }
+            if (weights > 0) {
+                grid[j * nx + i] += (int32_t)rounded(sum, weights);
+                support[j * nx + i] |= (uint8_t)(1u << scan);
+            }
+        }
+    }
+}
+
+/* The weight along the wind of a station inside the radius: the round one where there is no wind or no distance. */
+static int32_t weight_along_wind(const struct accepted *station, int32_t r2, int32_t dx, int32_t dy) {
+    int64_t u = station->u, v = station->v, d2 = dx * dx + dy * dy;
+    int64_t strength = u * u + v * v, along = u * dx + v * dy;
+    if (strength == 0 || d2 == 0)
+        return (int32_t)(SCALE * (r2 - d2) / (r2 + d2));
+    int64_t p = r2 * (strength * d2 + along * along), q = strength * d2 * d2;
+    return (int32_t)((wide)SCALE * (p - q) / (p + q));
+}
+
+/* As correct, by the weights along the wind. */
+static void correct_along_wind(const struct request *request, uint32_t scan, const struct accepted *accepted,
+                               size_t count, int32_t *grid, uint8_t *support) {
+    int32_t nx = (int32_t)request->nx, ny = (int32_t)request->ny;
+    int32_t r2 = request->radius[scan] * request->radius[scan];
+    for (int32_t j = 0; j < ny; j++) {
+        for (int32_t i = 0; i < nx; i++) {
+            int64_t sum = 0;
+            int32_t weights = 0;
+            for (size_t k = 0; k < count; k++) {
+                int32_t dx = accepted[k].x - STEP * i, dy = accepted[k].y - STEP * j;
+                if (dx * dx + dy * dy < r2) {
+                    int32_t weight = weight_along_wind(&accepted[k], r2, dx, dy);
                     weights += weight;
                     sum += (int64_t)weight * accepted[k].difference;
                 }
@@ -208,7 +265,10 @@ static void analyse(const struct request *request, int32_t *grid, uint8_t *suppo
         verdict[row] = verdict_before(request, row);
     for (uint32_t scan = 0; scan < request->scans; scan++) {
         size_t count = judge(request, scan, grid, verdict, accepted);
-        correct(request, scan, accepted, count, grid, support);
+        if (request->mode == SOSNYAVIK_ALONG_WIND)
+            correct_along_wind(request, scan, accepted, count, grid, support);
+        else
+            correct(request, scan, accepted, count, grid, support);
         if (request->smooth)
             smooth_grid(grid, (int32_t)request->nx, (int32_t)request->ny);
     }
@@ -218,17 +278,29 @@ static bool is_grid(const struct sosnyavik_request *asked) {
     return is_side(asked->nx) && is_side(asked->ny) && asked->first_guess.count == (size_t)asked->nx * asked->ny;
 }
 
+static bool is_table(const struct sosnyavik_request *asked) {
+    size_t rows = asked->x.count;
+    return asked->y.count == rows && asked->value.count == rows && asked->observed.count == rows &&
+           asked->from.count == rows && asked->until.count == rows && asked->wind_u.count == rows &&
+           asked->wind_v.count == rows && rows <= MOST_STATIONS;
+}
+
+static bool is_plan(const struct sosnyavik_request *asked) {
+    size_t scans = asked->scans;
+    return 1 <= scans && scans <= MOST_SCANS && asked->radius.count >= scans && asked->limit.count >= scans &&
+           (asked->mode == SOSNYAVIK_ROUND || asked->mode == SOSNYAVIK_ALONG_WIND);
+}
+
 /* Refusals 1 to 5, which measure; 0 if there is none. */
 static uint32_t check_lengths(const struct sosnyavik_request *asked, const struct sosnyavik_results *results) {
-    size_t points = asked->first_guess.count, rows = asked->x.count, scans = asked->scans;
+    size_t points = asked->first_guess.count, rows = asked->x.count;
     if (!is_grid(asked))
         return refusal(1, 0);
     if (results->grid.count != points || results->support.count != points || results->verdict.count != rows)
         return refusal(3, 0);
-    if (asked->y.count != rows || asked->value.count != rows || asked->observed.count != rows ||
-        asked->from.count != rows || asked->until.count != rows || rows > MOST_STATIONS)
+    if (!is_table(asked))
         return refusal(4, 0);
-    if (scans < 1 || scans > MOST_SCANS || asked->radius.count < scans || asked->limit.count < scans)
+    if (!is_plan(asked))
         return refusal(5, 0);
     return 0;
 }
@@ -245,11 +317,14 @@ uint32_t plain_analyse(const struct sosnyavik_request *asked, struct sosnyavik_r
         .observed = asked->observed.at,
         .from = asked->from.at,
         .until = asked->until.at,
+        .wind_u = asked->wind_u.at,
+        .wind_v = asked->wind_v.at,
         .stations = asked->x.count,
         .scans = asked->scans,
         .radius = asked->radius.at,
         .limit = asked->limit.at,
         .smooth = asked->smooth,
+        .mode = asked->mode,
         .time = asked->time,
         .age = asked->age,
     };

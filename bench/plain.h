@@ -9,7 +9,8 @@ typedef uint32_t Analysis(const struct sosnyavik_request *asked, struct sosnyavi
 typedef uint32_t Screening(const struct sosnyavik_request *asked, struct sosnyavik_screen screen,
                            struct sosnyavik_results results);
 
-/* Arguments and answer are those of sosnyavik_request_analyse, which include/sosnyavik.h documents. */
+/* Arguments and answer are those of sosnyavik_request_analyse, which include/sosnyavik.h documents, but that no wind
+ * column may be left out: as for the plain call, one that is not there is refusal 4. */
 Analysis plain_analyse;
 
 /* And these are those of sosnyavik_request_windows. */

@@ -6,9 +6,9 @@
 enum { MINUTE = 1200, AGE = 120, PLAN = 3 };
 
 static const size_t ENTRY[COLUMNS] = {
-    [FIRST_GUESS] = sizeof(int32_t), [X] = sizeof(int32_t),         [Y] = sizeof(int32_t),
-    [VALUE] = sizeof(int32_t),       [OBSERVED] = sizeof(uint32_t), [FROM] = sizeof(uint32_t),
-    [UNTIL] = sizeof(uint32_t),      [RADIUS] = sizeof(int32_t),    [LIMIT] = sizeof(int32_t),
+    [FIRST_GUESS] = sizeof(int32_t), [X] = sizeof(int32_t),      [Y] = sizeof(int32_t),      [VALUE] = sizeof(int32_t),
+    [OBSERVED] = sizeof(uint32_t),   [FROM] = sizeof(uint32_t),  [UNTIL] = sizeof(uint32_t), [WIND_U] = sizeof(int32_t),
+    [WIND_V] = sizeof(int32_t),      [RADIUS] = sizeof(int32_t), [LIMIT] = sizeof(int32_t),
 };
 
 int32_t *numbers_of(const struct evening *evening, enum column column) { return evening->columns[column].at; }
@@ -34,6 +34,15 @@ static void set_masts(struct evening *evening, uint32_t *state) {
     }
 }
 
+/* Light and strong, from all sides; of four masts one has no wind and one a calm one. */
+static void set_winds(struct evening *evening, uint32_t *state) {
+    int32_t *u = numbers_of(evening, WIND_U), *v = numbers_of(evening, WIND_V);
+    for (size_t row = 0; row < evening->columns[X].length; row++) {
+        u[row] = row % 4 == 0 ? SOSNYAVIK_MISSING : row % 4 == 1 ? 0 : draw(state, 200) - 100;
+        v[row] = row % 4 == 0 ? SOSNYAVIK_MISSING : row % 4 == 1 ? 0 : draw(state, 200) - 100;
+    }
+}
+
 /* The neighbours' masts: beyond two corners and two sides of the grid, and one too far beyond. */
 static void set_posts(struct evening *evening) {
     const int32_t east = 64 * (int32_t)(evening->nx - 1), south = 64 * (int32_t)(evening->ny - 1);
@@ -46,24 +55,35 @@ static void set_posts(struct evening *evening) {
     }
 }
 
-struct evening make_evening(uint32_t nx, uint32_t ny, size_t masts) {
-    static const int32_t radius[PLAN] = {192, 96, 64}, limit[PLAN] = {640, 320, 256};
-    struct evening evening = {.nx = nx, .ny = ny, .scans = PLAN, .time = MINUTE, .age = AGE, .smooth = true};
-    const size_t lengths[COLUMNS] = {(size_t)nx * ny, masts, masts, masts, masts, masts, masts, PLAN, PLAN};
-    uint32_t state = 1955;
+struct evening bare_evening(uint32_t nx, uint32_t ny, size_t masts, uint32_t scans) {
+    struct evening evening = {.nx = nx, .ny = ny, .scans = scans};
     for (size_t c = 0; c < COLUMNS; c++)
-        evening.columns[c] = make_slice(lengths[c], ENTRY[c]);
+        evening.columns[c] = make_slice(c == FIRST_GUESS ? (size_t)nx * ny : c < RADIUS ? masts : scans, ENTRY[c]);
+    return evening;
+}
+
+/* Some masts are not as they should be, if there are enough. */
+static void set_faults(struct evening *evening) {
+    if (evening->columns[X].length >= 4) {
+        minutes_of(evening, UNTIL)[0] = MINUTE;
+        numbers_of(evening, VALUE)[1] = SOSNYAVIK_MISSING;
+        minutes_of(evening, OBSERVED)[2] = MINUTE - AGE - 1;
+        numbers_of(evening, VALUE)[3] += 1280;
+    }
+}
+
+struct evening make_evening(uint32_t nx, uint32_t ny, size_t masts, uint32_t mode) {
+    static const int32_t radius[PLAN] = {192, 96, 64}, limit[PLAN] = {640, 320, 256};
+    struct evening evening = bare_evening(nx, ny, masts, PLAN);
+    uint32_t state = 1955;
+    evening.time = MINUTE, evening.age = AGE, evening.smooth = true, evening.mode = mode;
     for (uint32_t point = 0; point < nx * ny; point++)
         numbers_of(&evening, FIRST_GUESS)[point] = 320 + 3 * (int32_t)(point % nx) - 16 + draw(&state, 32);
     set_masts(&evening, &state);
+    set_winds(&evening, &state);
     memcpy(numbers_of(&evening, RADIUS), radius, sizeof radius);
     memcpy(numbers_of(&evening, LIMIT), limit, sizeof limit);
-    if (masts >= 4) {
-        minutes_of(&evening, UNTIL)[0] = MINUTE;
-        numbers_of(&evening, VALUE)[1] = SOSNYAVIK_MISSING;
-        minutes_of(&evening, OBSERVED)[2] = MINUTE - AGE - 1;
-        numbers_of(&evening, VALUE)[3] += 1280;
-    }
+    set_faults(&evening);
     if (masts > TOO_FAR)
         set_posts(&evening);
     return evening;
@@ -169,8 +189,10 @@ struct sosnyavik_request request_of(const struct evening *evening) {
         SOSNYAVIK_REQUEST(.nx = evening->nx, .ny = evening->ny, .first_guess = i32_column(&in[FIRST_GUESS]),
                           .x = i32_column(&in[X]), .y = i32_column(&in[Y]), .value = i32_column(&in[VALUE]),
                           .observed = u32_column(&in[OBSERVED]), .from = u32_column(&in[FROM]),
-                          .until = u32_column(&in[UNTIL]), .scans = evening->scans, .radius = i32_column(&in[RADIUS]),
-                          .limit = i32_column(&in[LIMIT]), .smooth = evening->smooth, .time = evening->time);
+                          .until = u32_column(&in[UNTIL]), .wind_u = i32_column(&in[WIND_U]),
+                          .wind_v = i32_column(&in[WIND_V]), .scans = evening->scans, .radius = i32_column(&in[RADIUS]),
+                          .limit = i32_column(&in[LIMIT]), .smooth = evening->smooth, .mode = evening->mode,
+                          .time = evening->time);
     request.age = evening->age;
     return request;
 }

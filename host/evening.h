@@ -6,12 +6,12 @@
 #include "sosnyavik.h"
 
 /* The columns of a request and of a screen, and the results of an answer, by name. */
-enum column { FIRST_GUESS, X, Y, VALUE, OBSERVED, FROM, UNTIL, RADIUS, LIMIT, COLUMNS };
+enum column { FIRST_GUESS, X, Y, VALUE, OBSERVED, FROM, UNTIL, WIND_U, WIND_V, RADIUS, LIMIT, COLUMNS };
 enum end { LEFT, RIGHT, TOP, BOTTOM, ENDS };
 enum result { GRID, SUPPORT, VERDICT, RESULTS };
 
 struct evening {
-    uint32_t nx, ny, scans, time, age;
+    uint32_t nx, ny, scans, mode, time, age;
     bool smooth;
     struct slice columns[COLUMNS];
 };
@@ -25,9 +25,14 @@ struct answer {
 };
 
 /* A spring evening on a grid of so many points, the same in every run. Of the masts one was taken down, one says
- * nothing, one is too old and one reports a gross error; then come posts beyond the border, and one too far out. */
+ * nothing, one is too old and one reports a gross error; then come posts beyond the border, and one too far out. Some
+ * have no wind, some a calm one. In the mode that is asked for, on which nothing else depends. */
 enum { FIRST_POST = 4, POSTS = 4, TOO_FAR = FIRST_POST + POSTS };
-struct evening make_evening(uint32_t nx, uint32_t ny, size_t masts);
+struct evening make_evening(uint32_t nx, uint32_t ny, size_t masts, uint32_t mode);
+
+/* An evening of which the columns have their lengths, and nothing else is told. */
+struct evening bare_evening(uint32_t nx, uint32_t ny, size_t masts, uint32_t scans);
+
 struct evening copy_evening(const struct evening *evening);
 void free_evening(struct evening *evening);
 

@@ -36,6 +36,7 @@ int main(int argc, char **argv) {
     if (argc > 1)
         choose(argv[1]);
     try_evening();
+    try_breeze();
     try_windows();
     try_screens();
     try_refusals();

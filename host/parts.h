@@ -11,6 +11,7 @@ enum { UNTOUCHED = 0xA5 };
 void must(bool holds, const char *what);
 
 void try_evening(void);
+void try_breeze(void);
 void try_windows(void);
 void try_screens(void);
 void try_refusals(void);

@@ -62,14 +62,19 @@ static void no_results(struct attempt *a) { a->lengths[GRID] = a->lengths[SUPPOR
 static void bad_window_and_no_results(struct attempt *a) { no_results(a), last_right_past_grid(a); }
 static void a_minute_short(struct attempt *a) { set_length(&a->evening, UNTIL, MASTS - 1); }
 static void a_position_long(struct attempt *a) { set_length(&a->evening, Y, MASTS + 1); }
+static void a_wind_short(struct attempt *a) { set_length(&a->evening, WIND_U, MASTS - 1); }
+static void a_wind_long(struct attempt *a) { set_length(&a->evening, WIND_V, MASTS + 1); }
 static void no_scan(struct attempt *a) { a->evening.scans = 0; }
 static void a_radius_short(struct attempt *a) { set_length(&a->evening, RADIUS, 2); }
+static void another_mode(struct attempt *a) { a->evening.mode = SOSNYAVIK_ALONG_WIND + 1; }
 static void rising_radius(struct attempt *a) { numbers_of(&a->evening, RADIUS)[2] = 97; }
 static void limit_out_of_range(struct attempt *a) { numbers_of(&a->evening, LIMIT)[1] = 2000001; }
 static void missing_guess(struct attempt *a) { numbers_of(&a->evening, FIRST_GUESS)[NX * NY - 1] = SOSNYAVIK_MISSING; }
 static void value_out_of_range(struct attempt *a) { numbers_of(&a->evening, VALUE)[MASTS - 1] = 1000001; }
 static void position_out_of_range(struct attempt *a) { numbers_of(&a->evening, X)[7] = -1000001; }
 static void never_in_service(struct attempt *a) { minutes_of(&a->evening, UNTIL)[5] = 0; }
+static void wind_too_strong(struct attempt *a) { numbers_of(&a->evening, WIND_V)[MASTS - 1] = 101; }
+static void half_a_wind(struct attempt *a) { numbers_of(&a->evening, WIND_U)[9] = SOSNYAVIK_MISSING; }
 
 static const struct mistake OF_ALL[] = {
     {too_wide, 1, 0, "refusal 1, nx"},
@@ -77,14 +82,19 @@ static const struct mistake OF_ALL[] = {
     {a_guess_short, 1, 0, "refusal 1, first_guess"},
     {a_minute_short, 4, 0, "refusal 4, until"},
     {a_position_long, 4, 0, "refusal 4, y"},
+    {a_wind_short, 4, 0, "refusal 4, wind_u"},
+    {a_wind_long, 4, 0, "refusal 4, wind_v"},
     {no_scan, 5, 0, "refusal 5, scans"},
     {a_radius_short, 5, 0, "refusal 5, radius"},
+    {another_mode, 5, 0, "refusal 5, mode"},
     {rising_radius, 6, 2, "refusal 6, radius"},
     {limit_out_of_range, 6, 1, "refusal 6, limit"},
     {missing_guess, 7, NX *NY - 1, "refusal 7"},
     {value_out_of_range, 8, MASTS - 1, "refusal 8, value"},
     {position_out_of_range, 8, 7, "refusal 8, position"},
     {never_in_service, 8, 5, "refusal 8, service"},
+    {wind_too_strong, 8, MASTS - 1, "refusal 8, a wind out of range"},
+    {half_a_wind, 8, 9, "refusal 8, half a wind"},
 };
 static const struct mistake OF_RESULTS[] = {
     {a_value_short, 3, 0, "refusal 3, grid"},
@@ -128,8 +138,8 @@ static uint32_t ask(enum call call, const struct attempt *a, struct answer *answ
 }
 
 /* A refused call gives its number and place, and leaves every byte of the results as it was. */
-static void try_mistake(const struct mistake *mistake, enum call call) {
-    struct attempt a = {.evening = make_evening(NX, NY, MASTS),
+static void try_mistake(const struct mistake *mistake, enum call call, uint32_t mode) {
+    struct attempt a = {.evening = make_evening(NX, NY, MASTS, mode),
                         .window = WINDOWS[0],
                         .screen = make_screen(WINDOWS, call == SCREEN ? BLOCKS : 0),
                         .lengths = {POINTS[call], POINTS[call], call == ANALYSIS ? MASTS : 0}};
@@ -148,7 +158,8 @@ static void try_mistake(const struct mistake *mistake, enum call call) {
 
 static size_t try_mistakes(const struct mistake *mistakes, size_t count, enum call call) {
     for (size_t i = 0; i < count; i++)
-        try_mistake(&mistakes[i], call);
+        for (uint32_t mode = SOSNYAVIK_ROUND; mode <= SOSNYAVIK_ALONG_WIND; mode++)
+            try_mistake(&mistakes[i], call, mode);
     return count;
 }
 
@@ -162,5 +173,5 @@ void try_refusals(void) {
     tried += try_mistakes(OF_A_WINDOW, sizeof OF_A_WINDOW / sizeof *OF_A_WINDOW, WINDOW);
     tried += try_mistakes(OF_A_SCREEN, sizeof OF_A_SCREEN / sizeof *OF_A_SCREEN, SCREEN);
     tried += try_mistakes(OF_AN_EMPTY_SCREEN, sizeof OF_AN_EMPTY_SCREEN / sizeof *OF_AN_EMPTY_SCREEN, EMPTY_SCREEN);
-    printf("host: %zu refused requests, refusals 1 to 8, nothing written\n", tried);
+    printf("host: %zu mistakes, each in both modes, refusals 1 to 8, nothing written\n", tried);
 }

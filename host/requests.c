@@ -20,7 +20,7 @@ static void try_dead_mast(const struct evening *evening, const struct answer *be
 
 /* A server may have no mast to ask. */
 static void try_no_masts(void) {
-    struct evening evening = make_evening(2, 2, 0);
+    struct evening evening = make_evening(2, 2, 0, SOSNYAVIK_ALONG_WIND);
     struct answer answer = whole_answer(&evening, UNTOUCHED);
     evening.smooth = false;
     must(analyse(&evening, &answer) == 0, "an evening without masts");
@@ -31,7 +31,7 @@ static void try_no_masts(void) {
 }
 
 void try_evening(void) {
-    struct evening evening = make_evening(NX, NY, MASTS);
+    struct evening evening = make_evening(NX, NY, MASTS, SOSNYAVIK_ROUND);
     struct answer answer = whole_answer(&evening, UNTOUCHED);
     must(analyse(&evening, &answer) == 0, "an evening's answer");
     const uint8_t *verdict = answer.results[VERDICT].at, *support = answer.results[SUPPORT].at;
@@ -66,14 +66,14 @@ static void must_be_part(const struct answer *part, struct sosnyavik_ends ends, 
     }
 }
 
-void try_windows(void) {
+static size_t try_windows_in(uint32_t mode) {
     static const struct sosnyavik_ends windows[] = {
         {0, NX - 1, 0, NY - 1},           {0, 0, 0, 0},
         {NX - 1, NX - 1, NY - 1, NY - 1}, {9, 13, 8, 10},
         {0, NX - 1, NY / 2, NY / 2},      {NX / 2, NX / 2, 0, NY - 1},
     };
     const size_t count = sizeof windows / sizeof *windows;
-    struct evening evening = make_evening(NX, NY, MASTS);
+    struct evening evening = make_evening(NX, NY, MASTS, mode);
     struct answer whole = whole_answer(&evening, UNTOUCHED);
     must(analyse(&evening, &whole) == 0, "an evening's answer");
     for (size_t i = 0; i < count; i++) {
@@ -82,9 +82,16 @@ void try_windows(void) {
         must_be_part(&part, windows[i], &whole);
         free_answer(&part);
     }
-    printf("host: %zu windows, each as the whole analysis has it\n", count);
     free_answer(&whole);
     free_evening(&evening);
+    return count;
+}
+
+void try_windows(void) {
+    size_t asked = 0;
+    for (uint32_t mode = SOSNYAVIK_ROUND; mode <= SOSNYAVIK_ALONG_WIND; mode++)
+        asked += try_windows_in(mode);
+    printf("host: %zu windows, round and along the wind, each as the whole analysis has it\n", asked);
 }
 
 /* The windows by single queries, their results one after the other. */
@@ -139,9 +146,9 @@ static size_t try_screens_of(const struct evening *evening) {
 }
 
 /* The most points that a screen can have: sixteen times the largest grid. */
-static size_t try_largest_screen(void) {
+static size_t try_largest_screen(uint32_t mode) {
     enum { SIDE = 64 };
-    struct evening evening = make_evening(SIDE, SIDE, MASTS);
+    struct evening evening = make_evening(SIDE, SIDE, MASTS, mode);
     struct sosnyavik_ends windows[SOSNYAVIK_MOST_WINDOWS];
     for (size_t k = 0; k < SOSNYAVIK_MOST_WINDOWS; k++)
         windows[k] = (struct sosnyavik_ends){0, SIDE - 1, 0, SIDE - 1};
@@ -164,14 +171,21 @@ static size_t try_largest_screen(void) {
 
 /* With three scans the cuts of a few windows have more points than the grid. With one scan of R = 64 and no smoothing
  * those of fifteen have fewer. */
-void try_screens(void) {
-    struct evening evening = make_evening(NX, NY, MASTS);
+static size_t try_screens_in(uint32_t mode) {
+    struct evening evening = make_evening(NX, NY, MASTS, mode);
     size_t shown = try_screens_of(&evening);
     evening.scans = 1, evening.smooth = false;
     numbers_of(&evening, RADIUS)[0] = 64;
     shown += try_screens_of(&evening);
-    shown += try_largest_screen();
-    printf("host: %zu screens of up to %d windows, each as single queries in its order\n", shown,
-           SOSNYAVIK_MOST_WINDOWS);
+    shown += try_largest_screen(mode);
     free_evening(&evening);
+    return shown;
+}
+
+void try_screens(void) {
+    size_t shown = 0;
+    for (uint32_t mode = SOSNYAVIK_ROUND; mode <= SOSNYAVIK_ALONG_WIND; mode++)
+        shown += try_screens_in(mode);
+    printf("host: %zu screens of up to %d windows, round and along the wind, each as single queries in its order\n",
+           shown, SOSNYAVIK_MOST_WINDOWS);
 }

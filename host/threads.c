@@ -28,7 +28,8 @@ static const struct {
     size_t count;
 } WANTED[SCREENS] = {{FEW, sizeof FEW / sizeof *FEW}, {ALL, sizeof ALL / sizeof *ALL}};
 
-/* What all threads share: two evenings with their screens, and what a run before them made of each. */
+/* What all threads share: two evenings with their screens, one by round weights and one along the wind, and what a run
+ * before them made of each. */
 struct known {
     struct evening evening;
     struct screen screens[SCREENS];
@@ -92,8 +93,8 @@ static void *run_rounds(void *first) {
     return NULL;
 }
 
-static void make_known(struct known *k, int32_t warmer) {
-    k->evening = make_evening(NX, NY, MASTS);
+static void make_known(struct known *k, int32_t warmer, uint32_t mode) {
+    k->evening = make_evening(NX, NY, MASTS, mode);
     for (size_t point = 0; point < NX * NY; point++)
         numbers_of(&k->evening, FIRST_GUESS)[point] += warmer;
     k->whole = whole_answer(&k->evening, UNTOUCHED);
@@ -148,7 +149,7 @@ void try_threads(void) {
     pthread_t threads[THREADS];
     size_t first[THREADS], size = 0;
     for (size_t e = 0; e < EVENINGS; e++)
-        make_known(&known[e], 40 * (int32_t)e);
+        make_known(&known[e], 40 * (int32_t)e, SOSNYAVIK_ROUND + (uint32_t)e);
     must(!same_answer(&known[0].whole, &known[1].whole), "the answer of a warmer evening");
     if (pthread_barrier_init(&at_once, NULL, THREADS) != 0)
         no_thread();
@@ -218,8 +219,8 @@ static size_t show_on_small_stacks(void) {
     return size;
 }
 
-void try_small_stacks(void) {
-    make_known(&known[0], 0);
+static void try_small_stacks_in(uint32_t mode) {
+    make_known(&known[0], 0, mode);
     small = whole_answer(&known[0].evening, UNTOUCHED);
     size_t analysis = run_on(SOSNYAVIK_STACK_ANALYSE, analyse_small);
     must(same_answer(&small, &known[0].whole), "the answer of an analysis on a small stack");
@@ -232,7 +233,12 @@ void try_small_stacks(void) {
     size_t read = run_on(SOSNYAVIK_STACK_READING, read_small);
     size_t summed = run_on(SOSNYAVIK_STACK_SUMMARISE, sum_up_small);
     printf("host: threads with stacks of %zu (analysis), %zu (window), %zu (screen), %zu (reading) and %zu (summary) "
-           "bytes\n",
-           analysis, window, screen, read, summed);
+           "bytes, %s\n",
+           analysis, window, screen, read, summed, mode == SOSNYAVIK_ROUND ? "by round weights" : "along the wind");
     free_known(&known[0]);
+}
+
+void try_small_stacks(void) {
+    for (uint32_t mode = SOSNYAVIK_ROUND; mode <= SOSNYAVIK_ALONG_WIND; mode++)
+        try_small_stacks_in(mode);
 }

@@ -61,7 +61,8 @@ static void readings(void) {
 #include "the-point-reading.inc"
 }
 
-// Each example has the names of those before it, and an r of its own.
+// Each example has the names of those before it, and an r of its own. The one along the wind writes over what the
+// others gave, and is last.
 int main(void) {
 #include "the-whole-analysis.inc"
     printf("Now r is %u, ", r);
@@ -94,6 +95,12 @@ int main(void) {
                        r | s | t, compared(results, 7), at_64_64);
             }
         }
+    }
+    {
+#include "the-whole-analysis-2.inc"
+        printf("Now r is %u, and ", r);
+        say_numbers("grid", grid, 9);
+        puts(".");
     }
     readings();
     summary();

@@ -1,7 +1,7 @@
-// What include/sosnyavik.h tells a C programmer, called: the paper's example, whole, as a window and as a screen of
-// windows, a mistake for each refusal of each call, and the examples of the reading and the summary. All of it twice,
-// by the plain calls and by name; screens beside the windows one by one; the border; weights; and what a request by
-// name has where nothing is given.
+// What include/sosnyavik.h tells a C programmer, called: the paper's example, calm and along the wind, whole, as a
+// window and as a screen of windows, a mistake for each refusal of each call, and the examples of the reading and the
+// summary. All of it twice, by the plain calls and by name; screens beside the windows one by one; the border; weights;
+// and what a request by name has where nothing is given.
 #include <stdio.h>
 #include <stdlib.h>
 #include <string.h>
@@ -22,8 +22,10 @@ typedef struct {
     Screen screen;
     int32_t first_guess[POINTS], x[ROWS], y[ROWS], value[ROWS];
     uint32_t observed[ROWS], from[ROWS], until[ROWS];
-    size_t y_len, verdict_len, part_len, plan_len;
+    int32_t wind_u[ROWS], wind_v[ROWS];
+    size_t y_len, wind_u_len, wind_v_len, verdict_len, part_len, plan_len;
     int32_t radius[2], limit[2];
+    uint32_t mode;
 } Request;
 
 typedef struct {
@@ -63,34 +65,40 @@ static const Request paper = {
     .observed = {990, 1000, 990},
     .from = {0, 0, 0},
     .until = {SOSNYAVIK_NO_END, SOSNYAVIK_NO_END, 995},
+    .wind_u = {SOSNYAVIK_MISSING, SOSNYAVIK_MISSING, SOSNYAVIK_MISSING},
+    .wind_v = {SOSNYAVIK_MISSING, SOSNYAVIK_MISSING, SOSNYAVIK_MISSING},
     .y_len = ROWS,
+    .wind_u_len = ROWS,
+    .wind_v_len = ROWS,
     .verdict_len = ROWS,
     .part_len = 2,
     .plan_len = 1,
     .radius = {96, 192},
     .limit = {200, 200},
+    .mode = SOSNYAVIK_ROUND,
 };
 
 static uint32_t analyse(const Request *q, Results *r) {
     return sosnyavik_analyse(q->nx, 3, q->first_guess, POINTS, q->x, ROWS, q->y, q->y_len, q->value, ROWS, q->observed,
-                             ROWS, q->from, ROWS, q->until, ROWS, q->scans, q->radius, q->plan_len, q->limit,
-                             q->plan_len, false, 1000, 60, r->grid, POINTS, r->support, POINTS, r->verdict,
-                             q->verdict_len);
+                             ROWS, q->from, ROWS, q->until, ROWS, q->wind_u, q->wind_u_len, q->wind_v, q->wind_v_len,
+                             q->scans, q->radius, q->plan_len, q->limit, q->plan_len, false, q->mode, 1000, 60, r->grid,
+                             POINTS, r->support, POINTS, r->verdict, q->verdict_len);
 }
 
 static uint32_t window(const Request *q, Results *r) {
     return sosnyavik_window(q->nx, 3, q->first_guess, POINTS, q->left, q->right, q->top, q->bottom, q->x, ROWS, q->y,
-                            q->y_len, q->value, ROWS, q->observed, ROWS, q->from, ROWS, q->until, ROWS, q->scans,
-                            q->radius, q->plan_len, q->limit, q->plan_len, false, 1000, 60, r->grid, q->part_len,
-                            r->support, q->part_len);
+                            q->y_len, q->value, ROWS, q->observed, ROWS, q->from, ROWS, q->until, ROWS, q->wind_u,
+                            q->wind_u_len, q->wind_v, q->wind_v_len, q->scans, q->radius, q->plan_len, q->limit,
+                            q->plan_len, false, q->mode, 1000, 60, r->grid, q->part_len, r->support, q->part_len);
 }
 
 static uint32_t show(const Request *q, int32_t *grid, uint8_t *support) {
     const Screen *s = &q->screen;
     return sosnyavik_windows(q->nx, 3, q->first_guess, POINTS, s->left, s->left_len, s->right, s->right_len, s->top,
                              s->top_len, s->bottom, s->bottom_len, q->x, ROWS, q->y, q->y_len, q->value, ROWS,
-                             q->observed, ROWS, q->from, ROWS, q->until, ROWS, q->scans, q->radius, q->plan_len,
-                             q->limit, q->plan_len, false, 1000, 60, grid, s->points, support, s->points);
+                             q->observed, ROWS, q->from, ROWS, q->until, ROWS, q->wind_u, q->wind_u_len, q->wind_v,
+                             q->wind_v_len, q->scans, q->radius, q->plan_len, q->limit, q->plan_len, false, q->mode,
+                             1000, 60, grid, s->points, support, s->points);
 }
 
 static uint32_t screen(const Request *q, Results *r) { return show(q, r->grid, r->support); }
@@ -100,28 +108,26 @@ static struct sosnyavik_request by_name(const Request *q) {
     struct sosnyavik_request request =
         SOSNYAVIK_REQUEST(.nx = q->nx, .ny = 3, .first_guess = {q->first_guess, POINTS}, .x = {q->x, ROWS},
                           .y = {q->y, q->y_len}, .value = {q->value, ROWS}, .observed = {q->observed, ROWS},
-                          .from = {q->from, ROWS}, .until = {q->until, ROWS}, .scans = q->scans,
-                          .radius = {q->radius, q->plan_len}, .limit = {q->limit, q->plan_len}, .time = 1000);
+                          .from = {q->from, ROWS}, .until = {q->until, ROWS}, .wind_u = {q->wind_u, q->wind_u_len},
+                          .wind_v = {q->wind_v, q->wind_v_len}, .scans = q->scans, .radius = {q->radius, q->plan_len},
+                          .limit = {q->limit, q->plan_len}, .mode = q->mode, .time = 1000);
     request.age = 60;
     return request;
 }
 
-static uint32_t analyse_by_name(const Request *q, Results *r) {
-    struct sosnyavik_request request = by_name(q);
+static uint32_t ask_analysis(struct sosnyavik_request request, const Request *q, Results *r) {
     struct sosnyavik_results whole = {
         .grid = {r->grid, POINTS}, .support = {r->support, POINTS}, .verdict = {r->verdict, q->verdict_len}};
     return sosnyavik_request_analyse(&request, whole);
 }
 
-static uint32_t window_by_name(const Request *q, Results *r) {
-    struct sosnyavik_request request = by_name(q);
+static uint32_t ask_window(struct sosnyavik_request request, const Request *q, Results *r) {
     struct sosnyavik_ends ends = {.left = q->left, .right = q->right, .top = q->top, .bottom = q->bottom};
     struct sosnyavik_results window = {.grid = {r->grid, q->part_len}, .support = {r->support, q->part_len}};
     return sosnyavik_request_window(&request, ends, window);
 }
 
-static uint32_t show_by_name(const Request *q, int32_t *grid, uint8_t *support) {
-    struct sosnyavik_request request = by_name(q);
+static uint32_t ask_screen(struct sosnyavik_request request, const Request *q, int32_t *grid, uint8_t *support) {
     const Screen *s = &q->screen;
     struct sosnyavik_screen screen = {.left = {s->left, s->left_len},
                                       .right = {s->right, s->right_len},
@@ -131,7 +137,25 @@ static uint32_t show_by_name(const Request *q, int32_t *grid, uint8_t *support) 
     return sosnyavik_request_windows(&request, screen, shown);
 }
 
+static uint32_t analyse_by_name(const Request *q, Results *r) { return ask_analysis(by_name(q), q, r); }
+static uint32_t window_by_name(const Request *q, Results *r) { return ask_window(by_name(q), q, r); }
+static uint32_t show_by_name(const Request *q, int32_t *grid, uint8_t *support) {
+    return ask_screen(by_name(q), q, grid, support);
+}
 static uint32_t screen_by_name(const Request *q, Results *r) { return show_by_name(q, r->grid, r->support); }
+
+// The same again, but with both wind columns left out.
+static struct sosnyavik_request without_winds(const Request *q) {
+    struct sosnyavik_request request = by_name(q), bare = SOSNYAVIK_REQUEST();
+    request.wind_u = bare.wind_u, request.wind_v = bare.wind_v;
+    return request;
+}
+
+static uint32_t analyse_without_winds(const Request *q, Results *r) { return ask_analysis(without_winds(q), q, r); }
+static uint32_t window_without_winds(const Request *q, Results *r) { return ask_window(without_winds(q), q, r); }
+static uint32_t screen_without_winds(const Request *q, Results *r) {
+    return ask_screen(without_winds(q), q, r->grid, r->support);
+}
 
 static void must(bool holds, const char *what) {
     if (holds)
@@ -140,10 +164,10 @@ static void must(bool holds, const char *what) {
     exit(1);
 }
 
-static void answered(Call *call, const Results *expected, const char *what) {
+static void answered(Call *call, const Request *q, const Results *expected, const char *what) {
     Results r;
     memset(&r, UNTOUCHED, sizeof r);
-    must(call(&paper, &r) == 0, what);
+    must(call(q, &r) == 0, what);
     must(memcmp(r.grid, expected->grid, sizeof r.grid) == 0, what);
     must(memcmp(r.support, expected->support, sizeof r.support) == 0, what);
     must(memcmp(r.verdict, expected->verdict, sizeof r.verdict) == 0, what);
@@ -158,25 +182,44 @@ static void refused(Call *call, Request q, uint32_t number, uint32_t place, cons
     must(memcmp(&r, &before, sizeof r) == 0, "a refused call");
 }
 
-// What lies past the entries of the window or of the screen, and all verdicts, these calls leave alone.
-static void examples(void) {
-    Results whole = {.grid = {587, 672, 768, 672, 757, 768, 768, 768, 768},
-                     .support = {1, 1, 1, 1, 1, 1, 1, 1, 1},
-                     .verdict = {0, 0, 2}};
-    static const int32_t shown[7] = {672, 757, 672, 768, 757, 768, 587};
-    Results part, blocks;
+// The example whole, its window and its screen. What lies past the entries of the window or of the screen, and all
+// verdicts, these two calls leave alone.
+static void gives(const Request *q, const int32_t *grid, const char *what) {
+    static const size_t shown[7] = {3, 4, 1, 2, 4, 5, 0};
+    Results whole = {.support = {1, 1, 1, 1, 1, 1, 1, 1, 1}, .verdict = {0, 0, 2}}, part, blocks;
     memset(&part, UNTOUCHED, sizeof part);
     memset(&blocks, UNTOUCHED, sizeof blocks);
-    part.grid[0] = 672, part.grid[1] = 757;
-    part.support[0] = 1, part.support[1] = 1;
-    memcpy(blocks.grid, shown, sizeof shown);
+    memcpy(whole.grid, grid, sizeof whole.grid);
+    memcpy(part.grid, grid + 3, 2 * sizeof *grid);
+    for (size_t i = 0; i < 7; i++)
+        blocks.grid[i] = grid[shown[i]];
+    memset(part.support, 1, 2);
     memset(blocks.support, 1, 7);
-    answered(analyse, &whole, "the example");
-    answered(analyse_by_name, &whole, "the example by name");
-    answered(window, &part, "the window of the example");
-    answered(window_by_name, &part, "the window of the example by name");
-    answered(screen, &blocks, "the screen of the example");
-    answered(screen_by_name, &blocks, "the screen of the example by name");
+    answered(analyse, q, &whole, what);
+    answered(analyse_by_name, q, &whole, what);
+    answered(window, q, &part, what);
+    answered(window_by_name, q, &part, what);
+    answered(screen, q, &blocks, what);
+    answered(screen_by_name, q, &blocks, what);
+}
+
+static Request breezy(void) {
+    Request q = paper;
+    q.wind_u[0] = 10, q.wind_v[0] = 0, q.wind_u[1] = 10, q.wind_v[1] = 0;
+    q.mode = SOSNYAVIK_ALONG_WIND;
+    return q;
+}
+
+// With winds that are not used, and along winds that are not there or calm, the example is the calm one.
+static void examples(void) {
+    static const int32_t calm[POINTS] = {587, 672, 768, 672, 757, 768, 768, 768, 768};
+    static const int32_t windy[POINTS] = {615, 648, 768, 696, 729, 768, 768, 768, 768};
+    Request q = paper;
+    gives(&paper, calm, "the example");
+    q.mode = SOSNYAVIK_ALONG_WIND, gives(&q, calm, "the example along no wind"), q = breezy();
+    gives(&q, windy, "the example along the wind");
+    q.mode = SOSNYAVIK_ROUND, gives(&q, calm, "the example with winds and round weights"), q = breezy();
+    q.wind_u[0] = q.wind_u[1] = 0, gives(&q, calm, "the example along a calm wind");
 }
 
 // The mistakes that all calls with a request refuse alike.
@@ -188,6 +231,44 @@ static void mistakes(Call *call, Request right) {
     q.scans = 2, q.plan_len = 2, refused(call, q, 6, 1, "refusal 6"), q = right;
     q.first_guess[4] = SOSNYAVIK_MISSING, refused(call, q, 7, 4, "refusal 7"), q = right;
     q.from[2] = 995, q.until[2] = 0, refused(call, q, 8, 2, "refusal 8");
+}
+
+// A wind out of range, or in one column alone, in the mode that is asked for.
+static void mistakes_of_a_wind(Call *call, Request right) {
+    static const int32_t bad[][2] = {{101, 0},
+                                     {-101, 0},
+                                     {0, 101},
+                                     {0, -101},
+                                     {SOSNYAVIK_MISSING, 0},
+                                     {0, SOSNYAVIK_MISSING},
+                                     {SOSNYAVIK_MISSING + 1, SOSNYAVIK_MISSING + 1},
+                                     {INT32_MAX, INT32_MAX}};
+    for (size_t b = 0; b < sizeof bad / sizeof *bad; b++) {
+        Request q = right;
+        q.wind_u[1] = q.wind_u[2] = bad[b][0], q.wind_v[1] = q.wind_v[2] = bad[b][1];
+        refused(call, q, 8, 1, "refusal 8, a wind");
+        q.first_guess[8] = 1000001, refused(call, q, 7, 8, "refusal 7 before a wind");
+    }
+}
+
+// Winds and mode, in both modes; then the numbers that the header has for two of these mistakes.
+static void mistakes_of_winds(Call *call, Request right) {
+    Results r;
+    Request q = right;
+    for (uint32_t mode = SOSNYAVIK_ROUND; mode <= SOSNYAVIK_ALONG_WIND; mode++) {
+        right.mode = mode, q = right;
+        mistakes_of_a_wind(call, right);
+        q.wind_u_len = 2, refused(call, q, 4, 0, "refusal 4, wind_u"), q = right;
+        q.wind_v_len = 2, refused(call, q, 4, 0, "refusal 4, wind_v"), q = right;
+        q.wind_u_len = q.wind_v_len = 0, refused(call, q, 4, 0, "refusal 4, winds of no rows"), q = right;
+    }
+    q.mode = UINT32_MAX, refused(call, q, 5, 0, "refusal 5, the greatest mode");
+    q.mode = 2, refused(call, q, 5, 0, "refusal 5, mode");
+    must(call(&q, &r) == 327680, "the number for another mode");
+    q.radius[0] = 0, refused(call, q, 5, 0, "refusal 5, mode, before 6");
+    q.wind_v_len = 2, refused(call, q, 4, 0, "refusal 4 before mode"), q = right;
+    q.wind_u[1] = SOSNYAVIK_MISSING, q.wind_v[1] = 0;
+    must(call(&q, &r) == 524289, "the number for half a wind");
 }
 
 static void mistakes_of_an_analysis(Call *call) {
@@ -263,6 +344,7 @@ static void no_windows(Call *call) {
     none.screen.points = 0;
     must(call(&none, &r) == 0 && memcmp(&r, &before, sizeof r) == 0, "a screen without windows");
     mistakes(call, none);
+    mistakes_of_winds(call, none);
 }
 
 // Bit for bit: positive zero is not negative zero.
@@ -322,10 +404,18 @@ static void reading_of_the_example(void) {
     says(sosnyavik_request_summarise(&request, whole), 0, 587 / 64.0, 12.0, 181 / 64.0);
 }
 
-// By name as by the plain call, over every window, of a request that is not the same with x for y or left for top.
-static void same_by_name(void) {
+// Not the same with x for y, left for top or u for v; one mast has no wind.
+static Request lopsided(uint32_t mode) {
     Request q = paper;
     q.y[0] = 32, q.value[0] = 700, q.until[2] = SOSNYAVIK_NO_END;
+    q.wind_u[0] = 100, q.wind_v[0] = -30, q.wind_u[2] = 0, q.wind_v[2] = 7;
+    q.mode = mode;
+    return q;
+}
+
+// By name as by the plain call, over every window.
+static void same_by_name(uint32_t mode) {
+    Request q = lopsided(mode);
     for (uint32_t w = 0; w < 81; w++) {
         Results plain, named;
         memset(&plain, UNTOUCHED, sizeof plain);
@@ -361,11 +451,10 @@ static uint32_t one_by_one(Request *q, Blocks *b) {
 
 // Screens of one to sixteen windows, all windows among them, and ends that are none: by either call as by single
 // queries.
-static void same_as_single_queries(void) {
+static void same_as_single_queries(uint32_t mode) {
     static const uint32_t first[6] = {0, 0, 0, 1, 1, 2}, last[6] = {0, 1, 2, 1, 2, 2};
     Show *shows[] = {show, show_by_name};
-    Request q = paper;
-    q.y[0] = 32, q.value[0] = 700, q.until[2] = SOSNYAVIK_NO_END;
+    Request q = lopsided(mode);
     for (uint32_t w = 0; w < 36 * MOST; w++) {
         Blocks single, shown;
         set_count(&q.screen, w % MOST + 1);
@@ -426,10 +515,10 @@ static void post_in_two_scans(Call *call) {
 
 // A mast on the first point, which agrees with the first guess, and one that is dx and dy off it and a million above:
 // the point moves by weight/(10000 + weight) of that million. With the second mast alone it has support if that has
-// weight.
-static void weighs(Call *call, int32_t radius, int32_t dx, int32_t dy, int64_t weight) {
+// weight. Winds and mode are the request's.
+static void weighs(Call *call, const Request *blowing, int32_t radius, int32_t dx, int32_t dy, int64_t weight) {
     Results r;
-    Request q = paper;
+    Request q = *blowing;
     const int64_t together = 10000 + weight;
     memset(q.first_guess, 0, sizeof q.first_guess);
     q.x[0] = 0, q.y[0] = 0, q.value[0] = 0;
@@ -440,11 +529,41 @@ static void weighs(Call *call, int32_t radius, int32_t dx, int32_t dy, int64_t w
     must(call(&q, &r) == 0 && r.support[0] == (weight > 0), "the support by a weight");
 }
 
+static void round_weights(Call *call, const Request *q) {
+    weighs(call, q, 96, 0, 0, 10000), weighs(call, q, 96, 64, 0, 3846), weighs(call, q, 96, 64, 64, 588);
+    weighs(call, q, 96, 96, 0, 0), weighs(call, q, 64, 63, 0, 157), weighs(call, q, 64, 63, 4, 137);
+    weighs(call, q, 64, 63, 9, 56), weighs(call, q, 64, 63, 11, 7), weighs(call, q, 64, 64, 0, 0);
+    weighs(call, q, 73, 12, 72, 0);
+}
+
+static Request along(int32_t u, int32_t v) {
+    Request q = paper;
+    q.wind_u[1] = u, q.wind_v[1] = v;
+    q.mode = SOSNYAVIK_ALONG_WIND;
+    return q;
+}
+
+// The columns of the header's table; a mast at the rim, which along its wind has weight and gives support, and has none
+// with the wind at right angles; and one whose 10000*(P - Q) is past 64 bits.
+static void stretched_weights(Call *call) {
+    static const int32_t table[][4] = {{10, 0, 6363, 2558},  {20, 0, 6363, 2558}, {-10, 0, 6363, 2558},
+                                       {10, 10, 5428, 3846}, {0, 10, 3846, 2558}, {0, -100, 3846, 2558}};
+    for (size_t i = 0; i < sizeof table / sizeof *table; i++) {
+        const Request q = along(table[i][0], table[i][1]);
+        weighs(call, &q, 96, 64, 0, table[i][2]), weighs(call, &q, 96, 64, 64, table[i][3]);
+        weighs(call, &q, 96, 96, 0, 0), weighs(call, &q, 96, 0, 0, 10000);
+    }
+    const Request at_the_rim = along(12, 72), beside_it = along(72, -12), strongest = along(100, 100);
+    weighs(call, &at_the_rim, 73, 12, 72, 3334), weighs(call, &beside_it, 73, 12, 72, 0);
+    weighs(call, &strongest, 1024, 384, 384, 7534);
+}
+
 static void weights(Call *call) {
-    weighs(call, 96, 0, 0, 10000), weighs(call, 96, 64, 0, 3846), weighs(call, 96, 64, 64, 588);
-    weighs(call, 96, 96, 0, 0), weighs(call, 64, 63, 0, 157), weighs(call, 64, 63, 4, 137);
-    weighs(call, 64, 63, 9, 56), weighs(call, 64, 63, 11, 7), weighs(call, 64, 64, 0, 0);
-    weighs(call, 73, 12, 72, 0);
+    const Request calm = along(0, 0), none = along(SOSNYAVIK_MISSING, SOSNYAVIK_MISSING);
+    Request unused = along(64, 63);
+    unused.mode = SOSNYAVIK_ROUND;
+    round_weights(call, &paper), round_weights(call, &unused), round_weights(call, &calm), round_weights(call, &none);
+    stretched_weights(call);
 }
 
 // Where no age is given, an observation of 120 minutes counts and one of 121 does not: document 01's default.
@@ -474,7 +593,7 @@ static void refuses_nothing(struct sosnyavik_request request) {
 }
 
 // What is left out of a request is refused, and no station is no mistake.
-static void left_out(void) {
+static void left_out(uint32_t mode) {
     Results r;
     struct sosnyavik_request zeroed, bare = SOSNYAVIK_REQUEST(), empty = by_name(&paper);
     struct sosnyavik_results whole = {.grid = {r.grid, POINTS}, .support = {r.support, POINTS}},
@@ -485,10 +604,81 @@ static void left_out(void) {
     refuses_nothing(bare);
     bare.nx = bare.ny = 3, bare.first_guess = empty.first_guess;
     must(sosnyavik_request_analyse(&bare, whole) == 0x00050000, "a request without a plan");
+    must(bare.mode == SOSNYAVIK_ROUND, "the mode where none is given");
+    bare.mode = mode;
     bare.scans = empty.scans, bare.radius = empty.radius, bare.limit = empty.limit;
     must(sosnyavik_request_analyse(&bare, whole) == 0, "a request without stations");
     must(memcmp(r.grid, paper.first_guess, sizeof r.grid) == 0, "the grid without stations");
     must(sosnyavik_request_windows(&bare, screen, none) == 0, "a screen without windows or stations");
+}
+
+// As by the plain calls with sosnyavik_no_wind, whole, as a window and as a screen.
+static void winds_left_out(uint32_t mode) {
+    Results whole[2], part[2], blocks[2];
+    Request q = paper;
+    q.mode = mode;
+    memset(whole, UNTOUCHED, sizeof whole), memset(part, UNTOUCHED, sizeof part);
+    memset(blocks, UNTOUCHED, sizeof blocks);
+    must(analyse(&q, &whole[0]) == 0 && window(&q, &part[0]) == 0 && screen(&q, &blocks[0]) == 0, "no winds");
+    must(analyse_without_winds(&q, &whole[1]) == 0, "an analysis with winds left out");
+    must(window_without_winds(&q, &part[1]) == 0, "a window with winds left out");
+    must(screen_without_winds(&q, &blocks[1]) == 0, "a screen with winds left out");
+    must(memcmp(&whole[0], &whole[1], sizeof *whole) == 0, "the answer with winds left out");
+    must(memcmp(&part[0], &part[1], sizeof *part) == 0, "the answer of a window with winds left out");
+    must(memcmp(&blocks[0], &blocks[1], sizeof *blocks) == 0, "the answer of a screen with winds left out");
+}
+
+// A column that is left out beside one that is given is no column, and neither are two that are given with no rows.
+static void one_wind_left_out(uint32_t mode) {
+    Results r;
+    struct sosnyavik_request request = by_name(&paper);
+    const struct sosnyavik_i32_column u = request.wind_u, v = request.wind_v, none = {NULL, 0};
+    const struct sosnyavik_results whole = {
+        .grid = {r.grid, POINTS}, .support = {r.support, POINTS}, .verdict = {r.verdict, ROWS}};
+    request.mode = mode;
+    request.wind_u = none;
+    must(sosnyavik_request_analyse(&request, whole) == 0x00040000, "wind_u left out alone");
+    request.wind_u = u, request.wind_v = none;
+    must(sosnyavik_request_analyse(&request, whole) == 0x00040000, "wind_v left out alone");
+    request.wind_u.count = 0, request.wind_v.at = v.at;
+    must(sosnyavik_request_analyse(&request, whole) == 0x00040000, "winds of no rows");
+}
+
+// As many stations as there may be, and one more, which is refused: with winds left out, where there are no more marks
+// than that, and with winds.
+static void most_stations(uint32_t mode, bool windy) {
+    enum { TOO_MANY = SOSNYAVIK_MOST_STATIONS + 1 };
+    static int32_t zeros[TOO_MANY];
+    static uint32_t minutes[TOO_MANY], ends[TOO_MANY];
+    static uint8_t verdict[TOO_MANY];
+    Results r;
+    struct sosnyavik_request request = by_name(&paper);
+    struct sosnyavik_results whole = {.grid = {r.grid, POINTS}, .support = {r.support, POINTS}};
+    memset(ends, UNTOUCHED, sizeof ends);
+    request.mode = mode;
+    for (size_t rows = SOSNYAVIK_MOST_STATIONS; rows <= TOO_MANY; rows++) {
+        request.x = request.y = request.value = (struct sosnyavik_i32_column){zeros, rows};
+        request.observed = request.from = (struct sosnyavik_u32_column){minutes, rows};
+        request.until = (struct sosnyavik_u32_column){ends, rows};
+        request.wind_u = request.wind_v = (struct sosnyavik_i32_column){windy ? zeros : NULL, windy ? rows : 0};
+        whole.verdict = (struct sosnyavik_u8_result){verdict, rows};
+        must(sosnyavik_request_analyse(&request, whole) == (rows == TOO_MANY ? 0x00040000 : 0), "the most stations");
+    }
+}
+
+static void marks(void) {
+    for (size_t row = 0; row < SOSNYAVIK_MOST_STATIONS; row++)
+        must(sosnyavik_no_wind()[row] == SOSNYAVIK_MISSING, "a mark of sosnyavik_no_wind");
+}
+
+static void in_mode(uint32_t mode) {
+    same_by_name(mode);
+    same_as_single_queries(mode);
+    winds_left_out(mode);
+    one_wind_left_out(mode);
+    most_stations(mode, false);
+    most_stations(mode, true);
+    left_out(mode);
 }
 
 int main(void) {
@@ -499,6 +689,9 @@ int main(void) {
         mistakes(analyses[i], paper);
         mistakes(windows[i], paper);
         mistakes(screens[i], paper);
+        mistakes_of_winds(analyses[i], paper);
+        mistakes_of_winds(windows[i], paper);
+        mistakes_of_winds(screens[i], paper);
         mistakes_of_an_analysis(analyses[i]);
         mistakes_of_a_window(windows[i]);
         mistakes_of_columns(screens[i]);
@@ -512,11 +705,11 @@ int main(void) {
     readings();
     summaries();
     reading_of_the_example();
-    same_by_name();
-    same_as_single_queries();
     age_where_none_is_given();
-    left_out();
-    puts("header: the examples, posts, weights, screens, and the mistakes for refusals 1 to 8, answer as "
+    marks();
+    in_mode(SOSNYAVIK_ROUND);
+    in_mode(SOSNYAVIK_ALONG_WIND);
+    puts("header: the examples, posts, weights, winds, screens, and the mistakes for refusals 1 to 8, answer as "
          "include/sosnyavik.h says, by name too");
     return 0;
 }

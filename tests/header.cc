@@ -1,5 +1,5 @@
-// The example of include/sosnyavik.h from C++: by the plain calls, and by name as C++11 writes it and, from C++20 on,
-// with designated initialisers. What is left out has its default.
+// The example of include/sosnyavik.h from C++, calm and along the wind: by the plain calls, and by name as C++11 writes
+// it and, from C++20 on, with designated initialisers. What is left out has its default.
 #include <cstdio>
 #include <cstdlib>
 #include <cstring>
@@ -12,6 +12,7 @@ const int32_t first_guess[9] = {640, 640, 640, 640, 640, 640, 640, 640, 640};
 const int32_t x[3] = {64, 0, 128}, y[3] = {64, 0, 128}, value[3] = {768, 576, 700};
 const uint32_t observed[3] = {990, 1000, 990}, from[3] = {0, 0, 0};
 const uint32_t until[3] = {SOSNYAVIK_NO_END, SOSNYAVIK_NO_END, 995};
+const int32_t wind_u[3] = {10, 10, SOSNYAVIK_MISSING}, wind_v[3] = {0, 0, SOSNYAVIK_MISSING};
 const int32_t radius[1] = {96}, limit[1] = {200};
 const uint32_t left[3] = {0, 1, 0}, right[3] = {1, 2, 0}, top[3] = {1, 0, 0}, bottom[3] = {1, 1, 0};
 const int32_t blocks[7] = {672, 757, 672, 768, 757, 768, 587};
@@ -52,8 +53,8 @@ void must_answer(const sosnyavik_request &request, const Answer &expected, const
 void must_show() {
     Answer shown = {};
     must(sosnyavik_windows(3, 3, first_guess, 9, left, 3, right, 3, top, 3, bottom, 3, x, 3, y, 3, value, 3, observed,
-                           3, from, 3, until, 3, 1, radius, 1, limit, 1, false, 1000, 60, shown.grid, 7, shown.support,
-                           7) == 0,
+                           3, from, 3, until, 3, sosnyavik_no_wind(), 3, sosnyavik_no_wind(), 3, 1, radius, 1, limit, 1,
+                           false, SOSNYAVIK_ROUND, 1000, 60, shown.grid, 7, shown.support, 7) == 0,
          "the screen of the example");
     must(std::memcmp(shown.grid, blocks, sizeof blocks) == 0, "the screen of the example");
     must(shown.support[6] == 1 && shown.support[7] == 0 && shown.grid[7] == 0, "the screen's last entry");
@@ -62,6 +63,7 @@ void must_show() {
 sosnyavik_request by_assignment() {
     sosnyavik_request request = SOSNYAVIK_REQUEST();
     must(request.age == SOSNYAVIK_DEFAULT_AGE && request.x.at == nullptr && !request.smooth, "what is left out");
+    must(request.mode == SOSNYAVIK_ROUND && request.wind_v.at == nullptr, "wind and mode, left out");
     request.nx = 3, request.ny = 3, request.first_guess = {first_guess, 9};
     request.x = {x, 3}, request.y = {y, 3}, request.value = {value, 3};
     request.observed = {observed, 3}, request.from = {from, 3}, request.until = {until, 3};
@@ -70,31 +72,61 @@ sosnyavik_request by_assignment() {
     return request;
 }
 
+// The example along the wind, whole.
+void must_blow(const sosnyavik_request &request, const Answer &expected, const char *what) {
+    Answer whole = {};
+    sosnyavik_results results;
+    results.grid = {whole.grid, 9};
+    results.support = {whole.support, 9};
+    results.verdict = {whole.verdict, 3};
+    must(sosnyavik_request_analyse(&request, results) == 0, what);
+    must(std::memcmp(&whole, &expected, sizeof whole) == 0, what);
+}
+
+void try_winds(const Answer &expected) {
+    sosnyavik_request request = by_assignment();
+    request.wind_u = {wind_u, 3}, request.wind_v = {wind_v, 3}, request.mode = SOSNYAVIK_ALONG_WIND;
+    must_blow(request, expected, "the example along the wind by name");
+}
+
 #if __cplusplus >= 202002L
 // Members in their order, some left out in the middle and at the end, and age given in its place.
-void try_designated(const Answer &expected) {
+void try_designated(const Answer &expected, const Answer &windy) {
     sosnyavik_request request =
         SOSNYAVIK_REQUEST(.nx = 3, .ny = 3, .first_guess = {first_guess, 9}, .x = {x, 3}, .y = {y, 3},
                           .value = {value, 3}, .observed = {observed, 3}, .from = {from, 3}, .until = {until, 3},
                           .scans = 1, .radius = {radius, 1}, .limit = {limit, 1}, .time = 1000, .age = 60);
     must_answer(request, expected, "the example with designated initialisers");
+    sosnyavik_request along =
+        SOSNYAVIK_REQUEST(.nx = 3, .ny = 3, .first_guess = {first_guess, 9}, .x = {x, 3}, .y = {y, 3},
+                          .value = {value, 3}, .observed = {observed, 3}, .from = {from, 3}, .until = {until, 3},
+                          .wind_u = {wind_u, 3}, .wind_v = {wind_v, 3}, .scans = 1, .radius = {radius, 1},
+                          .limit = {limit, 1}, .mode = SOSNYAVIK_ALONG_WIND, .time = 1000, .age = 60);
+    must_blow(along, windy, "the example along the wind with designated initialisers");
     sosnyavik_request bare = SOSNYAVIK_REQUEST(.nx = 3, .time = 1000);
     must(bare.age == SOSNYAVIK_DEFAULT_AGE && bare.until.count == 0, "what is not designated");
 }
 #else
-void try_designated(const Answer &) {}
+void try_designated(const Answer &, const Answer &) {}
 #endif
 
 } // namespace
 
 int main() {
-    Answer plain = {};
-    must(sosnyavik_analyse(3, 3, first_guess, 9, x, 3, y, 3, value, 3, observed, 3, from, 3, until, 3, 1, radius, 1,
-                           limit, 1, false, 1000, 60, plain.grid, 9, plain.support, 9, plain.verdict, 3) == 0,
+    Answer plain = {}, windy = {};
+    must(sosnyavik_analyse(3, 3, first_guess, 9, x, 3, y, 3, value, 3, observed, 3, from, 3, until, 3,
+                           sosnyavik_no_wind(), 3, sosnyavik_no_wind(), 3, 1, radius, 1, limit, 1, false,
+                           SOSNYAVIK_ROUND, 1000, 60, plain.grid, 9, plain.support, 9, plain.verdict, 3) == 0,
          "the example");
     must(plain.grid[0] == 587 && plain.grid[4] == 757 && plain.verdict[2] == 2, "the example");
+    must(sosnyavik_analyse(3, 3, first_guess, 9, x, 3, y, 3, value, 3, observed, 3, from, 3, until, 3, wind_u, 3,
+                           wind_v, 3, 1, radius, 1, limit, 1, false, SOSNYAVIK_ALONG_WIND, 1000, 60, windy.grid, 9,
+                           windy.support, 9, windy.verdict, 3) == 0,
+         "the example along the wind");
+    must(windy.grid[1] == 648 && windy.grid[3] == 696 && windy.verdict[2] == 2, "the example along the wind");
     must_show();
     must_answer(by_assignment(), plain, "the example by name");
-    try_designated(plain);
+    try_winds(windy);
+    try_designated(plain, windy);
     std::printf("header: the example from C++ %ld, by name too\n", __cplusplus);
 }
