@@ -11,7 +11,7 @@ use request::Terms;
 pub fn settled(
     t: Terms,
     guess: &[i32],
-    numbers: &[[i32; 3]; 512],
+    numbers: &[[i32; 5]; 512],
     minutes: &[[u32; 3]; 512],
     grid: &mut [i32],
     support: &mut [u8],

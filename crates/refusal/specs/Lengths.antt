@@ -10,7 +10,7 @@ use lib.ListN.{length}
 use Rattle.lists.specs.Tests.{or-false}
 use Rattle.lists.specs.First.{firstIn, ended, Good, first-good, in-table}
 use Rattle.lists.specs.Members.{All, none, more}
-use Rattle.scheme.specs.Units.{mostSide, mostScans, Call, asked}
+use Rattle.scheme.specs.Units.{mostSide, mostScans, windMode, Call, asked}
 use Rattle.scheme.specs.Refusals.{Refusal, accepted, inOrder, refusedIf, refusedWith, refusedAt, badShape, Window, badWindow, mostWindows, Screen, windowOn, windowsOf, badScreen, pointsOf, pointsOfAll, badLengths, badColumns, badScans, fromFive, analysisRefusal, windowRefusal, screenRefusal}
 use Rattle.scheme.specs.Accepted.{all-accepted, not-refused, nowhere-refused, Shaped, shaped, Equal, equal, scans-fit, fromSix, FitsWindow, FitsScreen, long, OnGrid, on-grid, wider, EqualScreen, equal-screen}
 use Rattle.request.specs.declared.Screen.{Screen as Windows}
@@ -58,13 +58,14 @@ pub record Handed (c : Call) : Type 0 where
   pub scans-few : c .plan .scans ≤ mostScans
   pub radii : c .plan .scans ≤ length (c .plan .radius)
   pub limits : c .plan .scans ≤ length (c .plan .limit)
+  pub known : c .plan .mode ≤ windMode
 
 handed : (c : Call) → Shaped (c .nx) (c .ny) (length (c .firstGuess)) → unequalColumns (lengthsOf c) ≡ false → badScanCount (lengthsOf c) ≡ false
     → Handed c
 unfolding badColumns
 handed c shape four five =
-    let (some, few, radii, limits) = scans-fit _ _ _ five in
-    record { shape = shape; equal = equal (c .stations) four; scans-some = some; scans-few = few; radii = radii; limits = limits }
+    let (some, few, radii, limits, known) = scans-fit _ _ _ _ five in
+    record { shape = shape; equal = equal (c .stations) four; scans-some = some; scans-few = few; radii = radii; limits = limits; known = known }
 
 -- ---- the whole analysis
 

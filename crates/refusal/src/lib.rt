@@ -106,7 +106,7 @@ pub fn of_screen_lengths(
 pub fn of_request(
     t: request::Terms,
     guess: &[i32],
-    numbers: &[[i32; 3]; 512],
+    numbers: &[[i32; 5]; 512],
     minutes: &[[u32; 3]; 512],
 ) -> u32
     requires { ⌜ Formed (requestIn t (now guess) (now numbers) (now minutes)) ⌝ }

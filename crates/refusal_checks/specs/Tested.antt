@@ -15,20 +15,20 @@ use mir.Syntax.{w32}
 use mir.Val.{SFits, ofZ}
 use Rattle.lists.specs.Tests.{lt-or-le}
 use Rattle.lists.specs.First.{first, firstIn, ended, in-places}
-use Rattle.scheme.specs.Units.{amongℤ, within, mostValue, isMissing, Plan}
+use Rattle.scheme.specs.Units.{amongℤ, within, isMissing, Plan}
 use Rattle.scheme.specs.Refusals.{rising, badGuess}
 use Rattle.scheme.specs.Most.{mostPoints}
 use Rattle.scheme.specs.Accepted.{Shaped}
 
--- ---- the range of values, and of positions
+-- ---- a range about 0: of values, of positions, of a wind's parts
 
-pub value-range : (v : ℤ) → amongℤ (negsuc (mostValue - 1)) (pos mostValue) v ≡ within mostValue v
-value-range (pos n) = refl
-value-range (negsuc n) = go (lt-or-le n mostValue)
+pub range : (most : ℕ) → 0 < most → (v : ℤ) → amongℤ (negsuc (most - 1)) (pos most) v ≡ within most v
+range most some (pos n) = refl
+range most some (negsuc n) = go (lt-or-le n most)
   where
-    go : (n < mostValue) ⊎ (mostValue ≤ n) → leb n (mostValue - 1) && true ≡ leb (suc n) mostValue
-    go (inl h) = rw (le-leb n (mostValue - 1) (omega arith), le-leb (suc n) mostValue (omega arith))
-    go (inr h) = rw (lt-leb n (mostValue - 1) (omega arith), lt-leb (suc n) mostValue (omega arith))
+    go : (n < most) ⊎ (most ≤ n) → leb n (most - 1) && true ≡ leb (suc n) most
+    go (inl h) = rw (le-leb n (most - 1) (omega arith), le-leb (suc n) most (omega arith))
+    go (inr h) = rw (lt-leb n (most - 1) (omega arith), lt-leb (suc n) most (omega arith))
 
 -- ---- the mark, as the machine's bits say it
 

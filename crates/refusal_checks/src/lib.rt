@@ -1,12 +1,12 @@
-// Rows 6 to 8 of the refusal table (document 01): the first bad entry of a plan, value of a first guess, row of the station list.
+// Rows 6 to 8 of the refusal table (documents 01 and 02): the first bad entry of a plan, value of a first guess, row of the station list.
 ghost use mathlib.Core.Path.{_≡_};
 ghost use mathlib.Core.Bool.{not, _&&_};
 ghost use Prim.Native.Nat.{_≤_, _<_};
 ghost use lib.ListN.{length};
 ghost use Rattle.lists.specs.Tab.{tab};
 ghost use Rattle.lists.specs.First.{first, firstIn, ended};
-ghost use Rattle.scheme.specs.Units.{amongℤ, within, mostValue, isMissing, mostStations, mostScans};
-ghost use Rattle.scheme.specs.Refusals.{rising, badScan, badGuess, badStation};
+ghost use Rattle.scheme.specs.Units.{amongℤ, within, mostValue, isMissing, mostWind, isNoWind, mostStations, mostScans};
+ghost use Rattle.scheme.specs.Refusals.{rising, badScan, badGuess, badWind, badStation};
 ghost use Rattle.scheme.specs.Accepted.{Shaped};
 ghost use Rattle.request.specs.Tables.{stationOf, stationIn, planIn};
 
@@ -15,6 +15,13 @@ pub fn is_missing(v: i32) -> bool
     ensures { λ r. ⌜ r ≡ isMissing v ⌝ }
 {
     v == request::MISSING
+}
+
+// A missing wind: both of its parts are.
+pub fn is_no_wind(u: i32, v: i32) -> bool
+    ensures { λ r. ⌜ r ≡ isNoWind (record { u = u; v = v }) ⌝ }
+{
+    is_missing(u) & is_missing(v)
 }
 
 // Out of low..high, both included.
@@ -57,14 +64,29 @@ fn reading_bad(v: i32) -> bool
     !is_missing(v) & value_bad(v)
 }
 
-// A row of the station list: its value or its position out of range, or from not below until.
-fn station_bad(numbers: [i32; 3], minutes: [u32; 3]) -> bool
+// A part of a wind out of range.
+fn part_bad(v: i32) -> bool
+    ensures { λ r. ⌜ r ≡ not (within mostWind v) ⌝ }
+{
+    outside(-100, 100, v)
+}
+
+// A wind out of range, or half missing.
+fn wind_bad(u: i32, v: i32) -> bool
+    ensures { λ r. ⌜ r ≡ badWind (record { u = u; v = v }) ⌝ }
+{
+    !is_no_wind(u, v) & (part_bad(u) | part_bad(v))
+}
+
+// A row of the station list: its value or its position out of range, from not below until, or its wind.
+fn station_bad(numbers: [i32; 5], minutes: [u32; 3]) -> bool
     ensures { λ r. ⌜ r ≡ badStation (stationOf numbers minutes) ⌝ }
 {
     reading_bad(numbers[request::VALUE])
         | value_bad(numbers[request::X])
         | value_bad(numbers[request::Y])
         | (minutes[request::UNTIL] <= minutes[request::FROM])
+        | wind_bad(numbers[request::WIND_U], numbers[request::WIND_V])
 }
 
 // The first bad entry of a plan, or its count.
@@ -104,7 +126,7 @@ pub fn first_bad_guess(first_guess: &[i32], nx: usize, ny: usize) -> usize
 }
 
 // The first bad row of the station list, or the count of rows.
-pub fn first_bad_station(numbers: &[[i32; 3]; 512], minutes: &[[u32; 3]; 512], n: usize) -> usize
+pub fn first_bad_station(numbers: &[[i32; 5]; 512], minutes: &[[u32; 3]; 512], n: usize) -> usize
     requires { ⌜ n ≤ mostStations ⌝ }
     ensures { λ r. ⌜ ended n r ≡ firstIn badStation (tab n (stationIn (now (numbers .entry)) (now (minutes .entry)))) ⌝ }
 {

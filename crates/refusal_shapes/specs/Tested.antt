@@ -4,7 +4,7 @@ use Prim.Native.Nat.{ℕ}
 use mathlib.Core.Bool.{Bool, not, _||_}
 use lib.Dec.{ltb, eqb}
 use lib.ListN.{length}
-use Rattle.scheme.specs.Units.{among, mostStations, mostScans, Call}
+use Rattle.scheme.specs.Units.{among, mostStations, mostScans, windMode, Call}
 use Rattle.scheme.specs.Refusals.{mostWindows}
 use Rattle.refusal_shapes.specs.declared.Lengths.{Lengths}
 
@@ -21,9 +21,12 @@ lengthsOf c =
       observed = length (c .stations .observed);
       from = length (c .stations .from);
       until = length (c .stations .until);
+      «wind_u» = length (c .stations .windU);
+      «wind_v» = length (c .stations .windV);
       scans = c .plan .scans;
       radius = length (c .plan .radius);
       limit = length (c .plan .limit);
+      mode = c .plan .mode;
     }
 
 abbrev pub unequalScreen : (left right top bottom : ℕ) → Bool
@@ -32,8 +35,9 @@ unequalScreen left right top bottom = not (eqb right left) || not (eqb top left)
 abbrev pub unequalColumns : Lengths → Bool
 unequalColumns l =
     not (eqb (l .y) (l .x)) || not (eqb (l .value) (l .x)) || not (eqb (l .observed) (l .x)) || not (eqb (l .from) (l .x))
-    || not (eqb (l .until) (l .x))
+    || not (eqb (l .until) (l .x)) || not (eqb (l .«wind_u») (l .x)) || not (eqb (l .«wind_v») (l .x))
     || ltb mostStations (l .x)
 
 abbrev pub badScanCount : Lengths → Bool
-badScanCount l = not (among 1 mostScans (l .scans)) || ltb (l .radius) (l .scans) || ltb (l .limit) (l .scans)
+badScanCount l =
+    not (among 1 mostScans (l .scans)) || ltb (l .radius) (l .scans) || ltb (l .limit) (l .scans) || ltb windMode (l .mode)

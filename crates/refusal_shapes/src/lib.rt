@@ -6,7 +6,7 @@ ghost use lib.Dec.{eqb};
 ghost use Prim.Native.Nat.{_≤_};
 ghost use Rattle.lists.specs.First.{firstIn, ended};
 ghost use Rattle.scheme.specs.Units.{mostSide, asking};
-ghost use Rattle.scheme.specs.Promises.{sixColumns};
+ghost use Rattle.scheme.specs.Promises.{eightColumns};
 ghost use Rattle.scheme.specs.Refusals.{badShape, badWindow, mostWindows, pointsOfAll, badLengths};
 ghost use Rattle.request.specs.Tables.{windowIn, windowsIn, OnScreen};
 ghost use Rattle.refusal_shapes.specs.Tested.{lengthsOf, unequalScreen, unequalColumns, badScanCount};
@@ -22,12 +22,15 @@ pub struct Lengths {
     pub observed: usize,
     pub from: usize,
     pub until: usize,
+    pub wind_u: usize,
+    pub wind_v: usize,
     pub scans: usize,
     pub radius: usize,
     pub limit: usize,
+    pub mode: u32,
 }
 
-// The lengths of a call, by the slices that it is lent; what else it asks has none.
+// The lengths of a call, by the slices that it is lent, and its counts and mode; what else it asks is not measured.
 pub fn lengths_of(
     nx: u32,
     ny: u32,
@@ -38,11 +41,14 @@ pub fn lengths_of(
     observed: &[u32],
     from: &[u32],
     until: &[u32],
+    wind_u: &[i32],
+    wind_v: &[i32],
     scans: u32,
     radius: &[i32],
     limit: &[i32],
+    mode: u32,
 ) -> Lengths
-    ensures { λ r. ⌜ r ≡ lengthsOf (asking nx ny (now (guess .entry)) (sixColumns (now (x .entry)) (now (y .entry)) (now (value .entry)) (now (observed .entry)) (now (from .entry)) (now (until .entry))) scans (now (radius .entry)) (now (limit .entry)) false 0 0) ⌝ }
+    ensures { λ r. ⌜ r ≡ lengthsOf (asking nx ny (now (guess .entry)) (eightColumns (now (x .entry)) (now (y .entry)) (now (value .entry)) (now (observed .entry)) (now (from .entry)) (now (until .entry)) (now («wind_u» .entry)) (now («wind_v» .entry))) scans (now (radius .entry)) (now (limit .entry)) false mode 0 0) ⌝ }
 {
     Lengths {
         nx: nx as usize,
@@ -54,9 +60,12 @@ pub fn lengths_of(
         observed: observed.len(),
         from: from.len(),
         until: until.len(),
+        wind_u: wind_u.len(),
+        wind_v: wind_v.len(),
         scans: scans as usize,
         radius: radius.len(),
         limit: limit.len(),
+        mode,
     }
 }
 
@@ -138,12 +147,17 @@ pub fn columns_bad(l: Lengths) -> bool
         | (l.observed != l.x)
         | (l.from != l.x)
         | (l.until != l.x)
+        | (l.wind_u != l.x)
+        | (l.wind_v != l.x)
         | (512 < l.x)
 }
 
-// 5: scan count out of 1..6, or a plan column shorter than it
+// 5: scan count out of 1..6, or a plan column shorter than it, or another mode
 pub fn scans_bad(l: Lengths) -> bool
     ensures { λ r. ⌜ r ≡ badScanCount l ⌝ }
 {
-    !((1 <= l.scans) & (l.scans <= 6)) | (l.radius < l.scans) | (l.limit < l.scans)
+    !((1 <= l.scans) & (l.scans <= 6))
+        | (l.radius < l.scans)
+        | (l.limit < l.scans)
+        | (request::ALONG_WIND < l.mode)
 }

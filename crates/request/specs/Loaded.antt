@@ -7,11 +7,11 @@ use lib.ListN.{length, getD}
 use lib.IntN.{ℤ, pos}
 use Rattle.lists.specs.Tab.{tab, tab-same, length-tab}
 use Rattle.lists.specs.Filled.{Filled}
-use Rattle.scheme.specs.Units.{stationAt, stationsOf, mostScans, Plan, Request, Call, asked}
+use Rattle.scheme.specs.Units.{stationAt, stationsOf, mostScans, windMode, Plan, Request, Call, asked}
 use Rattle.scheme.specs.Refusals.{Window, windowsOf}
 use Rattle.scheme.specs.Scan.{analysis}
 use Rattle.scheme.specs.Reach.{wholeAt, wholeAtEach}
-use Rattle.scheme.specs.Promises.{sixColumns, fourColumns}
+use Rattle.scheme.specs.Promises.{eightColumns, fourColumns}
 use Rattle.scheme.specs.Accepted.{Shaped, Equal, fromSix, Formed}
 use Rattle.scheme.specs.Entries.{withPlan, UpToCount, entries-past-the-count-change-no-analysis, entries-past-the-count-change-no-window, same-from-six}
 use Rattle.request.specs.declared.Terms.{Terms}
@@ -36,16 +36,17 @@ pub record Termed (t : Terms) (nx ny stations : ℕ) (p : Plan) (time age : ℕ)
   pub age-is : t .age ≡ age
 
 -- the rows that are loaded
-abbrev pub numbersAt : (x y value : List ℤ) → ℕ → List ℤ
-numbersAt x y value k = getD x k (pos 0) ∷ getD y k (pos 0) ∷ getD value k (pos 0) ∷ []
+abbrev pub numbersAt : (x y value windU windV : List ℤ) → ℕ → List ℤ
+numbersAt x y value windU windV k =
+    getD x k (pos 0) ∷ getD y k (pos 0) ∷ getD value k (pos 0) ∷ getD windU k (pos 0) ∷ getD windV k (pos 0) ∷ []
 
 abbrev pub minutesAt : (observed from until : List ℕ) → ℕ → List ℕ
 minutesAt observed from until k = getD observed k 0 ∷ getD from k 0 ∷ getD until k 0 ∷ []
 
-module _ (x y value : List ℤ) (observed from until : List ℕ) (n₀ n : List (List ℤ)) (m₀ m : List (List ℕ)) where
-  pub loads : length observed ≡ length x → Filled [] (numbersAt x y value) 0 (length x) n₀ n
+module _ (x y value : List ℤ) (observed from until : List ℕ) (windU windV : List ℤ) (n₀ n : List (List ℤ)) (m₀ m : List (List ℕ)) where
+  pub loads : length observed ≡ length x → Filled [] (numbersAt x y value windU windV) 0 (length x) n₀ n
       → Filled [] (minutesAt observed from until) 0 (length observed) m₀ m
-      → tab (length x) (stationIn n m) ≡ stationsOf (sixColumns x y value observed from until)
+      → tab (length x) (stationIn n m) ≡ stationsOf (eightColumns x y value observed from until windU windV)
   unfolding stationsOf stationAt stationOf
   loads e p r = tab-same (length x) _ _ (λ k h. rw (p .new k (omega arith) h, r .new k (omega arith) (omega (arith, e))))
 
@@ -104,9 +105,9 @@ module _ (t : Terms) (c : Call) (numbers : List (List ℤ)) (minutes : List (Lis
       }
 
   -- it passes the rows before 6 as the call does
-  pub formed : Shaped (c .nx) (c .ny) (length (c .firstGuess)) → Equal (c .stations) → 1 ≤ c .plan .scans → c .plan .scans ≤ mostScans
+  pub formed : Shaped (c .nx) (c .ny) (length (c .firstGuess)) → Equal (c .stations) → 1 ≤ c .plan .scans → c .plan .scans ≤ mostScans → c .plan .mode ≤ windMode
       → Formed (requestIn t (c .firstGuess) numbers minutes)
-  formed shape equal some few =
+  formed shape equal some few known =
       let s = says .plan .scans in
       record {
         shape = rw (says .nx-is, says .ny-is) shape;
@@ -115,4 +116,5 @@ module _ (t : Terms) (c : Call) (numbers : List (List ℤ)) (minutes : List (Lis
         scans-few = omega (arith, s);
         radii = omega (arith, s, says .radii);
         limits = omega (arith, s, says .limits);
+        known = rw (says .plan .mode) known;
       }

@@ -25,6 +25,7 @@ stationOf numbers minutes =
       observed = getD minutes 0 0;
       from = getD minutes 1 0;
       until = getD minutes 2 0;
+      wind = record { u = getD numbers 3 (pos 0); v = getD numbers 4 (pos 0) };
     }
 
 -- of row k of the two tables
@@ -32,7 +33,7 @@ abbrev pub stationIn : List (List ℤ) → List (List ℕ) → ℕ → Station
 stationIn numbers minutes k = stationOf (getD numbers k []) (getD minutes k [])
 
 abbrev pub planIn : Terms → Plan
-planIn t = record { scans = t .scans; radius = t .radius; limit = t .limit; smooth = t .smooth }
+planIn t = record { scans = t .scans; radius = t .radius; limit = t .limit; smooth = t .smooth; mode = t .mode }
 
 -- the request
 abbrev pub requestIn : Terms → List ℤ → List (List ℤ) → List (List ℕ) → Request

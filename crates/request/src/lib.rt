@@ -8,7 +8,7 @@ ghost use Rattle.lists.specs.Tab.{tab};
 ghost use Rattle.lists.specs.Filled.{Filled};
 ghost use Rattle.scheme.specs.Units.{mostSide, mostStations, stationsOf, mostScans};
 ghost use Rattle.scheme.specs.Refusals.{windowsOf, pointsOf};
-ghost use Rattle.scheme.specs.Promises.{sixColumns, fourColumns};
+ghost use Rattle.scheme.specs.Promises.{eightColumns, fourColumns};
 ghost use Rattle.scheme.specs.Accepted.{Equal, OnGrid, EqualScreen};
 ghost use Rattle.request.specs.Tables.{stationIn, windowIn, windowNo, windowsIn};
 ghost use Rattle.request.specs.Loaded.{First, Termed, numbersAt, minutesAt};
@@ -20,6 +20,10 @@ pub const Y: usize = 1;
 
 pub const VALUE: usize = 2;
 
+pub const WIND_U: usize = 3;
+
+pub const WIND_V: usize = 4;
+
 // Places in a row of minutes.
 pub const OBSERVED: usize = 0;
 
@@ -27,10 +31,15 @@ pub const FROM: usize = 1;
 
 pub const UNTIL: usize = 2;
 
-// The lowest i32 marks a missing observation, and until this minute means no end.
+// The lowest i32 marks a missing observation, or wind, and until this minute means no end.
 pub const MISSING: i32 = -2147483648;
 
 pub const NO_END: u32 = 4294967295;
+
+// The round weight, and the one that is stretched along the wind.
+pub const ROUND: u32 = 0;
+
+pub const ALONG_WIND: u32 = 1;
 
 // The most windows of a screen, and the place of a refusal for its columns.
 pub const MOST_WINDOWS: usize = 16;
@@ -44,6 +53,7 @@ pub struct Terms {
     pub radius: [i32; 6],
     pub limit: [i32; 6],
     pub smooth: bool,
+    pub mode: u32,
     pub time: u32,
     pub age: u32,
 }
@@ -87,11 +97,12 @@ pub fn terms_of(
     radius: &[i32],
     limit: &[i32],
     smooth: bool,
+    mode: u32,
     time: u32,
     age: u32,
 ) -> Terms
     requires { ⌜ (scans ≤ mostScans) × (scans ≤ length (now radius)) × (scans ≤ length (now limit)) ⌝ }
-    ensures { λ t. ⌜ Termed t nx ny stations (record { scans = scans; radius = now (radius .entry); limit = now (limit .entry); smooth = smooth }) time age ⌝ }
+    ensures { λ t. ⌜ Termed t nx ny stations (record { scans = scans; radius = now (radius .entry); limit = now (limit .entry); smooth = smooth; mode = mode }) time age ⌝ }
 {
     let radii = first_entries(radius, scans as usize);
     let limits = first_entries(limit, scans as usize);
@@ -103,6 +114,7 @@ pub fn terms_of(
         radius: radii,
         limit: limits,
         smooth,
+        mode,
         time,
         age,
     }
@@ -110,13 +122,20 @@ pub fn terms_of(
 
 // ---- the tables
 
-fn load_numbers(numbers: &mut [[i32; 3]; 512], x: &[i32], y: &[i32], value: &[i32])
-    requires { ⌜ (length (now x) ≤ mostStations) × (length (now y) ≡ length (now x)) × (length (now value) ≡ length (now x)) × (length (now numbers) ≡ mostStations) ⌝ }
-    ensures { λ u. ⌜ Filled [] (numbersAt (now (x .entry)) (now (y .entry)) (now (value .entry))) 0 (length (now (x .entry))) (now (numbers .entry)) (now (numbers .exit)) ⌝ }
+fn load_numbers(
+    numbers: &mut [[i32; 5]; 512],
+    x: &[i32],
+    y: &[i32],
+    value: &[i32],
+    wind_u: &[i32],
+    wind_v: &[i32],
+)
+    requires { ⌜ (length (now x) ≤ mostStations) × (length (now y) ≡ length (now x)) × (length (now value) ≡ length (now x)) × (length (now «wind_u») ≡ length (now x)) × (length (now «wind_v») ≡ length (now x)) × (length (now numbers) ≡ mostStations) ⌝ }
+    ensures { λ u. ⌜ Filled [] (numbersAt (now (x .entry)) (now (y .entry)) (now (value .entry)) (now («wind_u» .entry)) (now («wind_v» .entry))) 0 (length (now (x .entry))) (now (numbers .entry)) (now (numbers .exit)) ⌝ }
 {
     let mut k: usize = 0;
     while k < x.len() {
-        let row = [x[k], y[k], value[k]];
+        let row = [x[k], y[k], value[k], wind_u[k], wind_v[k]];
         numbers[k] = row;
         k += 1;
     }
@@ -136,7 +155,7 @@ fn load_minutes(minutes: &mut [[u32; 3]; 512], observed: &[u32], from: &[u32], u
 
 // The columns of a call, as rows.
 pub fn load(
-    numbers: &mut [[i32; 3]; 512],
+    numbers: &mut [[i32; 5]; 512],
     minutes: &mut [[u32; 3]; 512],
     x: &[i32],
     y: &[i32],
@@ -144,12 +163,14 @@ pub fn load(
     observed: &[u32],
     from: &[u32],
     until: &[u32],
+    wind_u: &[i32],
+    wind_v: &[i32],
 )
-    requires { ⌜ Equal (sixColumns (now x) (now y) (now value) (now observed) (now from) (now until)) × (length (now numbers) ≡ mostStations) × (length (now minutes) ≡ mostStations) ⌝ }
+    requires { ⌜ Equal (eightColumns (now x) (now y) (now value) (now observed) (now from) (now until) (now «wind_u») (now «wind_v»)) × (length (now numbers) ≡ mostStations) × (length (now minutes) ≡ mostStations) ⌝ }
     ensures { λ u. ⌜ tab (length (now (x .entry))) (stationIn (now (numbers .exit)) (now (minutes .exit)))
-        ≡ stationsOf (sixColumns (now (x .entry)) (now (y .entry)) (now (value .entry)) (now (observed .entry)) (now (from .entry)) (now (until .entry))) ⌝ }
+        ≡ stationsOf (eightColumns (now (x .entry)) (now (y .entry)) (now (value .entry)) (now (observed .entry)) (now (from .entry)) (now (until .entry)) (now («wind_u» .entry)) (now («wind_v» .entry))) ⌝ }
 {
-    load_numbers(numbers, x, y, value);
+    load_numbers(numbers, x, y, value, wind_u, wind_v);
     load_minutes(minutes, observed, from, until);
 }
 

@@ -38,7 +38,7 @@ fn clear(to: &mut [u8])
 fn first_verdicts(
     verdict: &mut [u8],
     t: Terms,
-    numbers: &[[i32; 3]; 512],
+    numbers: &[[i32; 5]; 512],
     minutes: &[[u32; 3]; 512],
 )
     requires { ⌜ Shaped (t .nx) (t .ny) (t .nx * t .ny) × (t .stations ≤ mostStations) × (length (now verdict) ≡ t .stations) ⌝ }
@@ -55,7 +55,7 @@ fn first_verdicts(
 pub fn begin(
     t: Terms,
     guess: &[i32],
-    numbers: &[[i32; 3]; 512],
+    numbers: &[[i32; 5]; 512],
     minutes: &[[u32; 3]; 512],
     grid: &mut [i32],
     support: &mut [u8],

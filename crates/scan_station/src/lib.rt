@@ -71,7 +71,7 @@ pub fn judge(
     verdict: &mut [u8],
     d: &mut [i64; 512],
     t: Terms,
-    numbers: &[[i32; 3]; 512],
+    numbers: &[[i32; 5]; 512],
     limit: u32,
     scan: u8,
 )

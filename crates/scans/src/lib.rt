@@ -48,7 +48,7 @@ fn scan(
     ld: &mut [i64; 512],
     t: Terms,
     guess: &[i32],
-    numbers: &[[i32; 3]; 512],
+    numbers: &[[i32; 5]; 512],
     m: usize,
     bit: u8,
 )
@@ -78,7 +78,7 @@ fn scan(
 pub fn run(
     t: Terms,
     guess: &[i32],
-    numbers: &[[i32; 3]; 512],
+    numbers: &[[i32; 5]; 512],
     minutes: &[[u32; 3]; 512],
     grid: &mut [i32],
     support: &mut [u8],

@@ -14,7 +14,7 @@ use Rattle.lists.specs.Tests.{and-true, or-false, not-both}
 use Rattle.lists.specs.First.{Found, nowhere, at, first, firstIn, first-good, good-first, none-bad, all-fine}
 use Rattle.lists.specs.Members.{All, none, more}
 use Rattle.lists.specs.Tab.{length-tab}
-use Rattle.scheme.specs.Units.{among, within, mostValue, isMissing, leastSide, mostSide, mostStations, mostWind, isNoWind, Wind, Station, mostPosition, Columns, stationAt, stationsOf, mostScans, mostRadius, mostLimit, roundMode, windMode, Plan, R, E, Request, Call, asked}
+use Rattle.scheme.specs.Units.{among, within, mostValue, isMissing, leastSide, mostSide, mostStations, mostWind, isNoWind, Wind, Station, mostPosition, Columns, stationAt, stationsOf, mostScans, mostRadius, mostLimit, windMode, Plan, R, E, Request, Call, asked}
 use Rattle.scheme.specs.Streaks.{Fair}
 use Rattle.scheme.specs.Refusals.{Refusal, accepted, refused, inOrder, refusedIf, refusedWith, refusedAt, badShape, Span, Window, badSpan, badWindow, mostWindows, Screen, badScreen, pointsAlong, pointsOf, pointsOfAll, badLengths, badColumns, badScans, rising, badScan, badGuess, badWind, badStation, fromFive, analysisRefusal}
 
@@ -100,14 +100,14 @@ equal c e =
 
 -- ---- 5 and 6: the plan
 
-pub scans-fit : (s r l mode : ℕ) → not (among 1 mostScans s) || ltb r s || ltb l s || not (among roundMode windMode mode) ≡ false
+pub scans-fit : (s r l mode : ℕ) → not (among 1 mostScans s) || ltb r s || ltb l s || ltb windMode mode ≡ false
     → (1 ≤ s) × (s ≤ mostScans) × (s ≤ r) × (s ≤ l) × (mode ≤ windMode)
 scans-fit s r l mode e =
     let (g, known) = or-false _ _ e in
     let (f, limits) = or-false _ _ g in
     let (count, radii) = or-false _ _ f in
     let (some, few) = and-true (leb 1 s) (leb s mostScans) (not-false _ count) in
-    (leb-true 1 s some, leb-true s mostScans few, ltb-false r s radii, ltb-false l s limits, leb-true mode windMode (and-true (leb roundMode mode) (leb mode windMode) (not-false _ known) .1))
+    (leb-true 1 s some, leb-true s mostScans few, ltb-false r s radii, ltb-false l s limits, ltb-false windMode mode known)
 
 -- a number in low..high, as the natural that it is
 natural : (low high : ℕ) (z : ℤ) → not (leZ (pos low) z && leZ z (pos high)) ≡ false → (z ≡ pos (natAbs z)) × (low ≤ natAbs z) × (natAbs z ≤ high)
@@ -147,14 +147,14 @@ fallen p m e f = go (scanned p m e .radius-is) (scanned p (suc m) f .radius-is) 
 pub winded : (w : Wind) → badWind w ≡ false → isNoWind w ≡ false → Fair w
 unfolding badWind
 winded w e there =
-    let (u, v) = and-true _ _ (not-false _ (rw there at e)) in
-    (leb-true _ _ u, leb-true _ _ v)
+    let (u, v) = or-false _ _ (rw there at e) in
+    (leb-true _ _ (not-false _ u), leb-true _ _ (not-false _ v))
 
 wind-good : (w : Wind) → (isNoWind w ≡ false → Fair w) → badWind w ≡ false
 unfolding badWind
 wind-good w f = go (isNoWind w) f
   where
-    go : (none : Bool) → (none ≡ false → Fair w) → not none && not (within mostWind (w .u) && within mostWind (w .v)) ≡ false
+    go : (none : Bool) → (none ≡ false → Fair w) → not none && (not (within mostWind (w .u)) || not (within mostWind (w .v))) ≡ false
     go true g = refl
     go false g = rw (le-leb (natAbs (w .u)) mostWind (g refl .0), le-leb (natAbs (w .v)) mostWind (g refl .1))
 
@@ -404,8 +404,7 @@ request-good q s =
       le-leb (q .plan .scans) mostScans (s .plan .scans-few),
       le-ltb (length (q .plan .radius)) (q .plan .scans) (s .plan .radii),
       le-ltb (length (q .plan .limit)) (q .plan .scans) (s .plan .limits),
-      le-leb roundMode (q .plan .mode) (omega arith),
-      le-leb (q .plan .mode) windMode (s .plan .known),
+      le-ltb windMode (q .plan .mode) (s .plan .known),
       good-first (q .plan .scans) (badScan (q .plan)) (λ m h. scan-good (q .plan) m (s .plan .scan m h)),
       all-fine badGuess (pos 0) (q .firstGuess) (λ k h. unfold badGuess in rw (le-leb _ mostValue (s .first-guess k h))),
       all-fine badStation noStation (q .stations) (λ k h. station-good _ (s .stations k h)),

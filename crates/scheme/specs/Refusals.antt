@@ -10,7 +10,7 @@ use lib.Signed.{ltZ}
 use Rattle.lists.specs.Tab.{tab}
 use Rattle.lists.specs.Sums.{total}
 use Rattle.lists.specs.First.{Found, nowhere, at, first, firstIn}
-use Rattle.scheme.specs.Units.{among, amongℤ, within, mostValue, isMissing, leastSide, mostSide, mostStations, Wind, mostWind, isNoWind, Station, mostPosition, Columns, mostScans, mostRadius, mostLimit, roundMode, windMode, Plan, Request, Call, asked}
+use Rattle.scheme.specs.Units.{among, amongℤ, within, mostValue, isMissing, leastSide, mostSide, mostStations, Wind, mostWind, isNoWind, Station, mostPosition, Columns, mostScans, mostRadius, mostLimit, windMode, Plan, Request, Call, asked}
 
 pub data Refusal : Type 0 where
   accepted : Refusal
@@ -126,7 +126,7 @@ badColumns c =
 unfoldable pub badScans : Plan → Bool
 badScans p =
     not (among 1 mostScans (p .scans)) || ltb (length (p .radius)) (p .scans) || ltb (length (p .limit)) (p .scans)
-    || not (among roundMode windMode (p .mode))
+    || ltb windMode (p .mode)
 
 -- 6: R out of range or rising, or E out of range, at scan m
 unfoldable pub rising : Plan → ℕ → Bool
@@ -144,7 +144,7 @@ badGuess v = not (within mostValue v)
 
 -- a wind out of range, or half missing (document 02, 5)
 unfoldable pub badWind : Wind → Bool
-badWind w = not (isNoWind w) && not (within mostWind (w .u) && within mostWind (w .v))
+badWind w = not (isNoWind w) && (not (within mostWind (w .u)) || not (within mostWind (w .v)))
 
 -- 8: station value (not the mark) out of range, position out of range, or from not below until; its wind, after the row's other tests
 unfoldable pub badStation : Station → Bool

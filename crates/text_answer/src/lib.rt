@@ -31,7 +31,7 @@ fn tell(
 fn answered(
     t: Terms,
     guess: &[i32],
-    numbers: &[[i32; 3]; 512],
+    numbers: &[[i32; 5]; 512],
     minutes: &[[u32; 3]; 512],
     grid: &mut [i32],
     support: &mut [u8],
@@ -49,7 +49,7 @@ fn answered(
 pub fn reply_to(
     t: Terms,
     guess: &[i32],
-    numbers: &[[i32; 3]; 512],
+    numbers: &[[i32; 5]; 512],
     minutes: &[[u32; 3]; 512],
     out: &mut [u8],
 ) -> usize

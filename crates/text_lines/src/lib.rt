@@ -104,7 +104,7 @@ fn end_at(s: &[u8], at: usize) -> UnsignedRead
 }
 
 // x, y and value of a station, into row k.
-fn numbers_at(s: &[u8], at: usize, k: usize, numbers: &mut [[i32; 3]; 512]) -> WordRead
+fn numbers_at(s: &[u8], at: usize, k: usize, numbers: &mut [[i32; 5]; 512]) -> WordRead
     requires { ⌜ (k < mostStations) × (length (now numbers) ≡ mostStations) ⌝ }
     ensures { λ r. ⌜ RowIs stationNumbers (now (s .entry)) at k (now (numbers .entry)) (now (numbers .exit)) r ⌝ }
 {
@@ -151,7 +151,7 @@ pub fn station_line(
     s: &[u8],
     at: usize,
     k: usize,
-    numbers: &mut [[i32; 3]; 512],
+    numbers: &mut [[i32; 5]; 512],
     minutes: &mut [[u32; 3]; 512],
 ) -> WordRead
     requires { ⌜ (k < mostStations) × (length (now numbers) ≡ mostStations) × (length (now minutes) ≡ mostStations) ⌝ }

@@ -14,7 +14,7 @@ fn reply_to_read(
     guess: &[i32],
     radius: [i32; 6],
     limit: [i32; 6],
-    numbers: &[[i32; 3]; 512],
+    numbers: &[[i32; 5]; 512],
     minutes: &[[u32; 3]; 512],
     out: &mut [u8],
 ) -> usize

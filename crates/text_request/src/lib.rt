@@ -77,7 +77,7 @@ fn station_lines(
     at: usize,
     line: u32,
     n: usize,
-    numbers: &mut [[i32; 3]; 512],
+    numbers: &mut [[i32; 5]; 512],
     minutes: &mut [[u32; 3]; 512],
 ) -> LinesRead
     requires { ⌜ (line + n < 2 ^ 32) × (n ≤ mostStations) × (length (now numbers) ≡ mostStations) × (length (now minutes) ≡ mostStations) ⌝ }
@@ -121,7 +121,7 @@ fn stations_at(
     s: &[u8],
     at: usize,
     h: Head,
-    numbers: &mut [[i32; 3]; 512],
+    numbers: &mut [[i32; 5]; 512],
     minutes: &mut [[u32; 3]; 512],
 ) -> RequestRead
     requires { ⌜ Limits h × (length (now numbers) ≡ mostStations) × (length (now minutes) ≡ mostStations) ⌝ }
@@ -149,7 +149,7 @@ fn body(
     guess: &mut [i32],
     radius: &mut [i32; 6],
     limit: &mut [i32; 6],
-    numbers: &mut [[i32; 3]; 512],
+    numbers: &mut [[i32; 5]; 512],
     minutes: &mut [[u32; 3]; 512],
 ) -> RequestRead
     requires { ⌜ Limits h × (length (now guess) ≡ mostPoints) × (length (now radius) ≡ mostScans) × (length (now limit) ≡ mostScans) × (length (now numbers) ≡ mostStations) × (length (now minutes) ≡ mostStations) ⌝ }
@@ -166,7 +166,7 @@ pub fn read_request(
     guess: &mut [i32],
     radius: &mut [i32; 6],
     limit: &mut [i32; 6],
-    numbers: &mut [[i32; 3]; 512],
+    numbers: &mut [[i32; 5]; 512],
     minutes: &mut [[u32; 3]; 512],
 ) -> RequestRead
     requires { ⌜ (length (now guess) ≡ mostPoints) × (length (now radius) ≡ mostScans) × (length (now limit) ≡ mostScans) × (length (now numbers) ≡ mostStations) × (length (now minutes) ≡ mostStations) ⌝ }

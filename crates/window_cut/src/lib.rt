@@ -14,11 +14,11 @@ ghost use Rattle.window_cut.specs.Part.{copied, CopyReady, partOf, PartR
 // The stations of the cut, in order, with positions counted from its lower corner; and their number. Each station is put after those
 // kept, and the next takes its row if it is not on the cut.
 pub fn keep_stations(
-    kept: &mut [[i32; 3]; 512],
+    kept: &mut [[i32; 5]; 512],
     times: &mut [[u32; 3]; 512],
     t: request::Terms,
     c: request::Window,
-    numbers: &[[i32; 3]; 512],
+    numbers: &[[i32; 5]; 512],
     minutes: &[[u32; 3]; 512],
 ) -> usize
     requires { ⌜ KeepReady t (windowIn c) (now numbers) × (length (now kept) ≡ mostStations) × (length (now times) ≡ mostStations) ⌝ }

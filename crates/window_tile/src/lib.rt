@@ -60,7 +60,7 @@ pub fn whole_at_each(
     t: request::Terms,
     screen: request::Screen,
     guess: &[i32],
-    numbers: &[[i32; 3]; 512],
+    numbers: &[[i32; 5]; 512],
     minutes: &[[u32; 3]; 512],
     grid: &mut [i32],
     support: &mut [u8],

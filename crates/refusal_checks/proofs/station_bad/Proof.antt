@@ -33,16 +33,28 @@ array-read-result c = search needs
 array-read-result-2 : tie.Need-array-read-result-2
 array-read-result-2 c = search needs
 
+array-copy-out-wind-bad : tie.Need-array-copy-out-wind-bad
+array-copy-out-wind-bad c = search needs
+
+array-copy-out-wind-bad-2 : tie.Need-array-copy-out-wind-bad-2
+array-copy-out-wind-bad-2 c = search needs
+
+wind-bad-requires : tie.Need-wind-bad-requires
+wind-bad-requires c κs = search needs
+
 returns : tie.Need-returns
 unfolding badStation stationOf
 returns c =
-    let v = c .before .before in
+    let w = c .before .before .before in
+    let v = w .before .before in
     let r = v .before .before in
     let row = r .before .before .args .t1 in
     let value = toZ-ofZ {w = w32} (sfits-of {z = getD row 2 (pos 0)} (r .before .reading-bad-arg .given)) in
     let x = toZ-ofZ {w = w32} (sfits-of {z = getD row 0 (pos 0)} (v .before .value-bad-arg .given)) in
-    let y = toZ-ofZ {w = w32} (sfits-of {z = getD row 1 (pos 0)} (c .before .value-bad-arg2 .given)) in
-    rw (rw value at (r .reading-bad .ensures), rw x at (v .value-bad .ensures), rw y at (c .value-bad2 .ensures))
+    let y = toZ-ofZ {w = w32} (sfits-of {z = getD row 1 (pos 0)} (w .before .value-bad-arg2 .given)) in
+    let wind-u = toZ-ofZ {w = w32} (sfits-of {z = getD row 3 (pos 0)} (c .before .before .wind-bad-arg .given)) in
+    let wind-v = toZ-ofZ {w = w32} (sfits-of {z = getD row 4 (pos 0)} (c .before .wind-bad-arg2 .given)) in
+    rw (rw value at (r .reading-bad .ensures), rw x at (v .value-bad .ensures), rw y at (w .value-bad2 .ensures), rw (wind-u, wind-v) at (c .wind-bad .ensures))
 
 pub station-bad-spec : {M : Type 1} → statement M
 station-bad-spec =
@@ -56,4 +68,7 @@ station-bad-spec =
     value-bad-requires-2
     array-read-result
     array-read-result-2
+    array-copy-out-wind-bad
+    array-copy-out-wind-bad-2
+    wind-bad-requires
     returns)

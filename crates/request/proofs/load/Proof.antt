@@ -14,7 +14,7 @@ returns : tie.Need-returns
 returns c =
     let n = c .before .before in
     let s = n .before .before .before .before .before in
-    loads _ _ _ _ _ _ _ _ _ _ (s .pre .0 .observed) (n .load-numbers .ensures) (c .load-minutes .ensures)
+    loads _ _ _ _ _ _ _ _ _ _ _ _ (s .pre .0 .observed) (n .load-numbers .ensures) (c .load-minutes .ensures)
 
 pub load-spec : {M : Type 1} → statement M
 load-spec = tie.close (tie.spec load-numbers-requires load-minutes-requires returns)

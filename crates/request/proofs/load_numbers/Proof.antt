@@ -13,31 +13,43 @@ use Rattle.request.proofs.load_numbers.Statement.{statement}
 use Rattle.request.proofs.load_numbers.Tie as tie
 
 abbrev Inv-loop : tie.InvT-loop
-Inv-loop numbers₀ x y value k₀ numbers k = (k ≤ length x) × Filled [] (numbersAt x y value) 0 k numbers₀ numbers
+Inv-loop numbers₀ x y value wind-u wind-v k₀ numbers k = (k ≤ length x) × Filled [] (numbersAt x y value wind-u wind-v) 0 k numbers₀ numbers
 
 abbrev μ-loop : tie.MeasureT-loop
-μ-loop numbers₀ x y value k₀ numbers k = length x - k
+μ-loop numbers₀ x y value wind-u wind-v k₀ numbers k = length x - k
 
 loop-holds : tie.Need-loop-holds Inv-loop μ-loop
 loop-holds c = (omega arith, filled-none [] _ 0 0 _ refl)
 
-mul-t7 : tie.Need-mul-t7 Inv-loop μ-loop
-mul-t7 c = omega arith
+mul-t9 : tie.Need-mul-t9 Inv-loop μ-loop
+mul-t9 c = omega arith
 
-shared-slice-copy-out-t10 : tie.Need-shared-slice-copy-out-t10 Inv-loop μ-loop
-shared-slice-copy-out-t10 c = omega arith
+shared-slice-copy-out-t12 : tie.Need-shared-slice-copy-out-t12 Inv-loop μ-loop
+shared-slice-copy-out-t12 c = omega arith
 
-mul-t11 : tie.Need-mul-t11 Inv-loop μ-loop
-mul-t11 c = omega arith
+mul-t13 : tie.Need-mul-t13 Inv-loop μ-loop
+mul-t13 c = omega arith
 
-shared-slice-copy-out-t13 : tie.Need-shared-slice-copy-out-t13 Inv-loop μ-loop
-shared-slice-copy-out-t13 c = omega arith
+shared-slice-copy-out-t15 : tie.Need-shared-slice-copy-out-t15 Inv-loop μ-loop
+shared-slice-copy-out-t15 c = omega arith
 
-mul-t14 : tie.Need-mul-t14 Inv-loop μ-loop
-mul-t14 c = omega arith
+mul-t16 : tie.Need-mul-t16 Inv-loop μ-loop
+mul-t16 c = omega arith
 
-shared-slice-copy-out-t16 : tie.Need-shared-slice-copy-out-t16 Inv-loop μ-loop
-shared-slice-copy-out-t16 c = omega arith
+shared-slice-copy-out-t18 : tie.Need-shared-slice-copy-out-t18 Inv-loop μ-loop
+shared-slice-copy-out-t18 c = omega arith
+
+mul-t19 : tie.Need-mul-t19 Inv-loop μ-loop
+mul-t19 c = omega arith
+
+shared-slice-copy-out-t21 : tie.Need-shared-slice-copy-out-t21 Inv-loop μ-loop
+shared-slice-copy-out-t21 c = omega arith
+
+mul-t22 : tie.Need-mul-t22 Inv-loop μ-loop
+mul-t22 c = omega arith
+
+shared-slice-copy-out-t24 : tie.Need-shared-slice-copy-out-t24 Inv-loop μ-loop
+shared-slice-copy-out-t24 c = omega arith
 
 mul-row : tie.Need-mul-row Inv-loop μ-loop
 mul-row c = omega arith
@@ -53,11 +65,11 @@ loop-less c = omega arith
 
 loop-again : tie.Need-loop-again Inv-loop μ-loop
 loop-again c =
-    let o = c .before .before .before .before in
+    let o = c .before .before .before .before .before .before in
     let a = o .before .args in (
       omega arith,
-      filled-set [] (numbersAt (a .x .now) (a .y .now) (a .value .now)) 0 (o .loop .k) (o .loop .k + 1) (a .numbers .now) (o .loop .numbers) _
-          refl (omega arith) (omega (arith, o .loop .inv .1 .same-length)) (rw (toZ-ofZ {w = w32} (sfits-of (c .before .before .t10 .given)), toZ-ofZ {w = w32} (sfits-of (c .before .t13 .given)), toZ-ofZ {w = w32} (sfits-of (c .t16 .given)))) (o .loop .inv .1),
+      filled-set [] (numbersAt (a .x .now) (a .y .now) (a .value .now) (a .wind-u .now) (a .wind-v .now)) 0 (o .loop .k) (o .loop .k + 1) (a .numbers .now) (o .loop .numbers) _
+          refl (omega arith) (omega (arith, o .loop .inv .1 .same-length)) (rw (toZ-ofZ {w = w32} (sfits-of (c .before .before .before .before .t12 .given)), toZ-ofZ {w = w32} (sfits-of (c .before .before .before .t15 .given)), toZ-ofZ {w = w32} (sfits-of (c .before .before .t18 .given)), toZ-ofZ {w = w32} (sfits-of (c .before .t21 .given)), toZ-ofZ {w = w32} (sfits-of (c .t24 .given)))) (o .loop .inv .1),
     )
 
 returns : tie.Need-returns Inv-loop μ-loop
@@ -73,12 +85,16 @@ load-numbers-spec =
     Inv-loop
     μ-loop
     loop-holds
-    mul-t7
-    shared-slice-copy-out-t10
-    mul-t11
-    shared-slice-copy-out-t13
-    mul-t14
-    shared-slice-copy-out-t16
+    mul-t9
+    shared-slice-copy-out-t12
+    mul-t13
+    shared-slice-copy-out-t15
+    mul-t16
+    shared-slice-copy-out-t18
+    mul-t19
+    shared-slice-copy-out-t21
+    mul-t22
+    shared-slice-copy-out-t24
     mul-row
     element-set-from-row
     add-k
