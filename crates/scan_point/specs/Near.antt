@@ -1,4 +1,5 @@
--- The stations near a grid row: what each gives to a point of the row, and that those left out give nothing.
+-- The stations near a grid row, gathered in lists: those left out give nothing to its points, and sums over the others are small. What an entry of
+-- the lists gives to the point in column i is any function here, so that nothing goes by a mode.
 use Prim.Native.Nat.{ℕ, zero, suc, _+_, _*_, _≤_, _<_}
 use native.Mathlib.Omega.{arith}
 use native.Mathlib.Numerals.{add-one}
@@ -9,32 +10,36 @@ use mathlib.Core.Bool.{Bool, true, false, cond}
 use mathlib.Core.List.{List, []}
 use borrow.Author.Tests.{lt-ltb, le-ltb, eqb-true}
 use lib.Dec.{ltb}
-use lib.ListN.{length, getD, set, length-set, replicate, length-replicate}
-use lib.Seq.{getD-set-same, getD-set-other}
+use lib.ListN.{length, getD}
 use lib.IntN.{ℤ, pos, natAbs, _+ℤ_, _-ℤ_, _*ℤ_, +ℤ-idl, +ℤ-idr, +ℤ-assoc, +ℤ-comm}
 use Rattle.integers.specs.Sizes.{size-add, size-mul}
 use Rattle.lists.specs.Tests.{lt-or-le, cond-both}
 use Rattle.lists.specs.Sums.{upTo, upTo-next, upTo-same}
-use Rattle.scheme.specs.Units.{step, mostStations, mostLimit}
+use Rattle.scheme.specs.Units.{step, Wind, isNoWind, mostStations, mostLimit}
 use Rattle.scheme.specs.Verdicts.{isAccepted}
-use Rattle.scheme.specs.Weight.{scale, weight, square}
+use Rattle.scheme.specs.Weight.{scale, square}
 use Rattle.scheme.specs.Correction.{Sums, nothing, plus, gift}
-use Rattle.scheme.specs.Most.{mostAlong, mostSquare}
-use Rattle.scheme.specs.Weights.{weight-most}
-use Rattle.scheme.specs.Gifts.{weighed, gift-outside, gift-weighed, gift-size}
+use Rattle.scheme.specs.Most.{mostAlong}
+use Rattle.scheme.specs.Streaks.{Fair}
+use Rattle.scheme.specs.Gifts.{weighed, gift-outside, gift-size}
 use Rattle.scheme.specs.Adding.{plus-nothing}
 
 -- ---- from all the stations: what the one of row k gives to point (i, j)
 
--- what a correction reads of them: how many, their rows of numbers, verdicts and differences
+-- what a correction reads: the mode; of the stations how many, their rows of numbers, verdicts and differences
 pub record Stations : Type 0 where
+  pub mode : ℕ
   pub count : ℕ
   pub numbers : List (List ℤ)
   pub verdict : List ℕ
   pub d : List ℤ
 
-abbrev pub stationsWith : ℕ → List (List ℤ) → List ℕ → List ℤ → Stations
-stationsWith count numbers verdict d = record { count = count; numbers = numbers; verdict = verdict; d = d }
+abbrev pub stationsWith : (mode count : ℕ) → List (List ℤ) → List ℕ → List ℤ → Stations
+stationsWith mode count numbers verdict d = record { mode = mode; count = count; numbers = numbers; verdict = verdict; d = d }
+
+-- the wind of a row of numbers
+abbrev pub windIn : List ℤ → Wind
+windIn row = record { u = getD row 3 (pos 0); v = getD row 4 (pos 0) }
 
 module _ (all : Stations) (k : ℕ) where
   abbrev pub xAt : ℤ
@@ -42,6 +47,9 @@ module _ (all : Stations) (k : ℕ) where
 
   abbrev pub yAt : ℤ
   yAt = getD (getD (all .numbers) k []) 1 (pos 0)
+
+  abbrev pub windAt : Wind
+  windAt = windIn (getD (all .numbers) k [])
 
   abbrev pub verdictAt : ℕ
   verdictAt = getD (all .verdict) k 0
@@ -52,94 +60,77 @@ module _ (all : Stations) (k : ℕ) where
 unfoldable pub shareAt : (all : Stations) (r2 i j k : ℕ) → Sums
 shareAt all r2 i j k =
     cond (isAccepted (verdictAt all k))
-    (gift r2 (dAt all k) (xAt all k -ℤ pos (step * i)) (yAt all k -ℤ pos (step * j))) nothing
+    (gift (all .mode) r2 (windAt all k) (dAt all k) (xAt all k -ℤ pos (step * i)) (yAt all k -ℤ pos (step * j))) nothing
 
 unfoldable pub sumsOver : (all : Stations) (r2 i j : ℕ) → Sums
 sumsOver all r2 i j = upTo nothing plus (all .count) (shareAt all r2 i j)
 
--- ---- from the stations near row j: positions along the row, squared distances to it, differences
+-- ---- sizes of the sums over some entries
 
-unfoldable pub nearShare : (lx : List ℤ) (ly : List ℕ) (ld : List ℤ) (r2 i t : ℕ) → Sums
-nearShare lx ly ld r2 i t =
-    weighed (weight r2 (square (getD lx t (pos 0) -ℤ pos (step * i)) + getD ly t 0)) (getD ld t (pos 0))
+-- what one entry gives
+pub record Slight (s : Sums) : Type 0 where
+  pub weight-most : s .weights ≤ scale
+  pub pull-most : natAbs (s .pulls) ≤ mostLimit * s .weights
 
-pub record Sized (lx : List ℤ) (ly : List ℕ) (ld : List ℤ) (t : ℕ) : Type 0 where
-  pub x-small : natAbs (getD lx t (pos 0)) ≤ mostAlong
-  pub y-small : getD ly t 0 ≤ mostSquare
-  pub d-small : natAbs (getD ld t (pos 0)) ≤ mostLimit
-
--- ---- sizes of the sums over some of them
+pub weighed-slight : (w : ℕ) (d : ℤ) → w ≤ scale → natAbs d ≤ mostLimit → Slight (weighed w d)
+weighed-slight w d hw hd = record { weight-most = hw; pull-most = omega (arith, size-mul (pos w) d, mul-le-mul-left w hd) }
 
 pub record SumsSmall (n : ℕ) (s : Sums) : Type 0 where
   pub weights-most : s .weights ≤ n * scale
   pub pulls-most : natAbs (s .pulls) ≤ mostLimit * s .weights
 
-weighed-small : (w : ℕ) (d : ℤ) (n : ℕ) (s : Sums) → w ≤ scale → natAbs d ≤ mostLimit → SumsSmall n s → SumsSmall (n + 1) (plus s (weighed w d))
-weighed-small w d n s hw hd h =
-    record {
-      weights-most = omega (arith, h .weights-most);
-      pulls-most = omega (arith, h .pulls-most, size-add (s .pulls) (pos w *ℤ d), size-mul (pos w) d, mul-le-mul-left w hd);
-    }
-
-module _ (lx : List ℤ) (ly : List ℕ) (ld : List ℤ) (r2 i : ℕ) where
-  abbrev pub nearWeight : ℕ → ℕ
-  nearWeight t = weight r2 (square (getD lx t (pos 0) -ℤ pos (step * i)) + getD ly t 0)
-
-  pub near-small : (n : ℕ) → ((t : ℕ) → t < n → Sized lx ly ld t) → SumsSmall n (upTo nothing plus n (nearShare lx ly ld r2 i))
-  unfolding upTo nearShare
+-- over what the entries give to one point
+module _ (give : ℕ → Sums) where
+  pub near-small : (n : ℕ) → ((t : ℕ) → t < n → Slight (give t)) → SumsSmall n (upTo nothing plus n give)
+  unfolding upTo
   near-small zero h = record { weights-most = omega arith; pulls-most = omega arith }
   near-small (suc n) h =
-      rw (← (add-one n))
-      (weighed-small (nearWeight n) (getD ld n (pos 0)) n (upTo nothing plus n (nearShare lx ly ld r2 i)) (weight-most r2 _)
-      (h n (omega arith) .d-small) (near-small n (λ t l. h t (omega arith))))
+      let rest = near-small n (λ t l. h t (omega arith)) in
+      let here = h n (omega arith) in
+      record {
+        weights-most = omega (arith, rest .weights-most, here .weight-most);
+        pulls-most = omega (arith, rest .pulls-most, here .pull-most, size-add (upTo nothing plus n give .pulls) (give n .pulls));
+      }
 
-  -- the sums of the stations from t on, as a loop from the last to the first makes them
+  -- the sums of the entries from t on, as a loop from the last to the first makes them
   pub record Down (n t w : ℕ) (wd : ℤ) : Type 0 where
-    pub weights : upTo nothing plus n (nearShare lx ly ld r2 i) .weights ≡ upTo nothing plus t (nearShare lx ly ld r2 i) .weights + w
-    pub pulls : upTo nothing plus n (nearShare lx ly ld r2 i) .pulls ≡ upTo nothing plus t (nearShare lx ly ld r2 i) .pulls +ℤ wd
+    pub weights : upTo nothing plus n give .weights ≡ upTo nothing plus t give .weights + w
+    pub pulls : upTo nothing plus n give .pulls ≡ upTo nothing plus t give .pulls +ℤ wd
     pub kept : natAbs wd ≤ mostLimit * w
 
   pub down-none : (n : ℕ) → Down n n 0 (pos 0)
   down-none n =
       record {
-        weights = sym (add-zero (upTo nothing plus n (nearShare lx ly ld r2 i) .weights));
-        pulls = sym (+ℤ-idr (upTo nothing plus n (nearShare lx ly ld r2 i) .pulls));
+        weights = sym (add-zero (upTo nothing plus n give .weights));
+        pulls = sym (+ℤ-idr (upTo nothing plus n give .pulls));
         kept = omega arith;
       }
 
-  pub down-all : (n w : ℕ) (wd : ℤ) → Down n 0 w wd
-      → (w ≡ upTo nothing plus n (nearShare lx ly ld r2 i) .weights) × (wd ≡ upTo nothing plus n (nearShare lx ly ld r2 i) .pulls)
+  pub down-all : (n w : ℕ) (wd : ℤ) → Down n 0 w wd → (w ≡ upTo nothing plus n give .weights) × (wd ≡ upTo nothing plus n give .pulls)
   unfolding upTo
   down-all n w wd h = (sym (h .weights ∙ zero-add w), sym (h .pulls ∙ +ℤ-idl wd))
 
-  pub down-small : (n t w : ℕ) (wd : ℤ) → ((t : ℕ) → t < n → Sized lx ly ld t) → Down n t w wd → w ≤ n * scale
-  down-small n t w wd sized h = omega (arith, h .weights, near-small n sized .weights-most)
+  pub down-small : (n t w : ℕ) (wd : ℤ) → ((t : ℕ) → t < n → Slight (give t)) → Down n t w wd → w ≤ n * scale
+  down-small n t w wd slight h = omega (arith, h .weights, near-small n slight .weights-most)
 
-  -- the sums with the station t
-  pub record WithNear (t w : ℕ) (wd : ℤ) (w' : ℕ) (wd' : ℤ) : Type 0 where
-    pub weights : w' ≡ w + nearWeight t
-    pub pulls : wd' ≡ wd +ℤ pos (nearWeight t) *ℤ getD ld t (pos 0)
+  -- the sums with the entry t
+  pub record Added (t w : ℕ) (wd : ℤ) (w' : ℕ) (wd' : ℤ) : Type 0 where
+    pub weights : w' ≡ w + give t .weights
+    pub pulls : wd' ≡ wd +ℤ give t .pulls
 
-  module _ (n t : ℕ) (here : Sized lx ly ld t) (w w' : ℕ) (wd wd' : ℤ) (h : Down n (t + 1) w wd) (new : WithNear t w wd w' wd') where
-    abbrev pull : ℤ
-    pull = pos (nearWeight t) *ℤ getD ld t (pos 0)
+  module _ (n t : ℕ) (here : Slight (give t)) (w w' : ℕ) (wd wd' : ℤ) (h : Down n (t + 1) w wd) (new : Added t w wd w' wd') where
+    new-weights : upTo nothing plus n give .weights ≡ upTo nothing plus t give .weights + w'
+    new-weights = omega (arith, h .weights, new .weights, ap (λ (s : Sums). s .weights) (upTo-next nothing plus t give))
 
-    new-weights : upTo nothing plus n (nearShare lx ly ld r2 i) .weights ≡ upTo nothing plus t (nearShare lx ly ld r2 i) .weights + w'
-    unfolding nearShare
-    new-weights = omega (arith, h .weights, new .weights, ap (λ (s : Sums). s .weights) (upTo-next nothing plus t (nearShare lx ly ld r2 i)))
-
-    new-pulls : upTo nothing plus n (nearShare lx ly ld r2 i) .pulls ≡ upTo nothing plus t (nearShare lx ly ld r2 i) .pulls +ℤ wd'
-    unfolding nearShare
+    new-pulls : upTo nothing plus n give .pulls ≡ upTo nothing plus t give .pulls +ℤ wd'
     new-pulls =
         h .pulls
-        ∙ ap (λ (s : Sums). s .pulls +ℤ wd) (upTo-next nothing plus t (nearShare lx ly ld r2 i))
-        ∙ +ℤ-assoc (upTo nothing plus t (nearShare lx ly ld r2 i) .pulls) pull wd
-        ∙ ap (λ (z : ℤ). upTo nothing plus t (nearShare lx ly ld r2 i) .pulls +ℤ z) (+ℤ-comm pull wd ∙ sym (new .pulls))
+        ∙ ap (λ (s : Sums). s .pulls +ℤ wd) (upTo-next nothing plus t give)
+        ∙ +ℤ-assoc (upTo nothing plus t give .pulls) (give t .pulls) wd
+        ∙ ap (λ (z : ℤ). upTo nothing plus t give .pulls +ℤ z) (+ℤ-comm (give t .pulls) wd ∙ sym (new .pulls))
 
     new-kept : natAbs wd' ≤ mostLimit * w'
-    new-kept =
-        rw (new .pulls, new .weights)
-        (omega (arith, h .kept, size-add wd pull, size-mul (pos (nearWeight t)) (getD ld t (pos 0)), mul-le-mul-left (nearWeight t) (here .d-small)))
+    new-kept = rw (new .pulls, new .weights) (omega (arith, h .kept, size-add wd (give t .pulls), here .pull-most))
 
     pub down-next : Down n t w' wd'
     down-next = record { weights = new-weights; pulls = new-pulls; kept = new-kept }
@@ -150,35 +141,27 @@ module _ (lx : List ℤ) (ly : List ℕ) (ld : List ℤ) (r2 i : ℕ) where
 unfoldable pub rowGap : (verdict : ℕ) (y : ℤ) (j r2 : ℕ) → ℕ
 rowGap verdict y j r2 = cond (isAccepted verdict) (square (y -ℤ pos (step * j))) r2
 
--- what gathering needs: an accepted row is near the grid, and its difference within the limit
-pub record Inside (x y d : ℤ) : Type 0 where
+-- what gathering needs: an accepted row is near the grid, its difference within the limit, its wind in range or missing
+pub record Inside (x y d : ℤ) (w : Wind) : Type 0 where
   pub x-small : natAbs x ≤ mostAlong
   pub y-small : natAbs y ≤ mostAlong
   pub d-small : natAbs d ≤ mostLimit
+  pub wind-fair : isNoWind w ≡ false → Fair w
 
 pub record Ready (all : Stations) : Type 0 where
   pub few : all .count ≤ mostStations
   pub len-st : length (all .verdict) ≡ all .count
-  pub inside : (k : ℕ) → k < all .count → verdictAt all k ≡ 0 → Inside (xAt all k) (yAt all k) (dAt all k)
+  pub inside : (k : ℕ) → k < all .count → verdictAt all k ≡ 0 → Inside (xAt all k) (yAt all k) (dAt all k) (windAt all k)
 
-pub record Roomy (lx : List ℤ) (ly : List ℕ) (ld : List ℤ) : Type 0 where
-  pub x-long : length lx ≡ mostStations
-  pub y-long : length ly ≡ mostStations
-  pub d-long : length ld ≡ mostStations
-
-pub roomy-new : Roomy (replicate mostStations (pos 0)) (replicate mostStations 0) (replicate mostStations (pos 0))
-roomy-new =
-    record { x-long = length-replicate mostStations (pos 0); y-long = length-replicate {A = ℕ} mostStations 0; d-long = length-replicate mostStations (pos 0) }
-
--- the n near ones among the first k rows give to each point of row j what the k rows give
-pub record Near (lx : List ℤ) (ly : List ℕ) (ld : List ℤ) (n : ℕ) (all : Stations) (r2 j k : ℕ) : Type 0 where
+-- the n near ones among the first k rows, of which each entry is fine, give to each point of row j what the k rows give
+pub record Near (give : ℕ → ℕ → Sums) (Fine : ℕ → Type 0) (n : ℕ) (all : Stations) (r2 j k : ℕ) : Type 0 where
   pub no-more : n ≤ k
-  pub sized : (t : ℕ) → t < n → Sized lx ly ld t
-  pub same : (i : ℕ) → upTo nothing plus n (nearShare lx ly ld r2 i) ≡ upTo nothing plus k (shareAt all r2 i j)
+  pub sized : (t : ℕ) → t < n → Fine t
+  pub same : (i : ℕ) → upTo nothing plus n (give i) ≡ upTo nothing plus k (shareAt all r2 i j)
 
-pub near-none : (lx : List ℤ) (ly : List ℕ) (ld : List ℤ) (all : Stations) (r2 j : ℕ) → Near lx ly ld 0 all r2 j 0
+pub near-none : (give : ℕ → ℕ → Sums) (Fine : ℕ → Type 0) (all : Stations) (r2 j : ℕ) → Near give Fine 0 all r2 j 0
 unfolding upTo
-near-none lx ly ld all r2 j = record { no-more = omega arith; sized = λ t h. absurd (omega arith); same = λ i. refl }
+near-none give Fine all r2 j = record { no-more = omega arith; sized = λ t h. absurd (omega arith); same = λ i. refl }
 
 -- a row that is not nearer than R to the grid row gives nothing
 far-gives-nothing : (all : Stations) (r2 i j k : ℕ) → r2 ≤ rowGap (verdictAt all k) (yAt all k) j r2
@@ -192,12 +175,12 @@ far-gives-nothing all r2 i j k h = go (isAccepted (verdictAt all k)) h
     dy : ℤ
     dy = yAt all k -ℤ pos (step * j)
 
-    go : (b : Bool) → r2 ≤ cond b (square dy) r2 → cond b (gift r2 (dAt all k) dx dy) nothing ≡ nothing
-    go true l = gift-outside r2 (dAt all k) dx dy (omega arith)
+    go : (b : Bool) → r2 ≤ cond b (square dy) r2 → cond b (gift (all .mode) r2 (windAt all k) (dAt all k) dx dy) nothing ≡ nothing
+    go true l = gift-outside (all .mode) r2 (windAt all k) (dAt all k) dx dy (omega arith)
     go false l = refl
 
 -- one that is nearer is accepted
-near-is-accepted : (verdict : ℕ) (y : ℤ) (j r2 : ℕ) → rowGap verdict y j r2 < r2 → (verdict ≡ 0) × (rowGap verdict y j r2 ≡ square (y -ℤ pos (step * j)))
+pub near-is-accepted : (verdict : ℕ) (y : ℤ) (j r2 : ℕ) → rowGap verdict y j r2 < r2 → (verdict ≡ 0) × (rowGap verdict y j r2 ≡ square (y -ℤ pos (step * j)))
 unfolding rowGap
 near-is-accepted verdict y j r2 h = go (isAccepted verdict) (eqb-true verdict 0) h
   where
@@ -206,60 +189,23 @@ near-is-accepted verdict y j r2 h = go (isAccepted verdict) (eqb-true verdict 0)
     go true f l = (f refl, refl)
     go false f l = absurd (omega arith)
 
--- a row of room is a row of room after a store
-roomy-set : (lx : List ℤ) (ly : List ℕ) (ld : List ℤ) (n : ℕ) (x : ℤ) (y : ℕ) (d : ℤ) → Roomy lx ly ld → Roomy (set lx n x) (set ly n y) (set ld n d)
-roomy-set lx ly ld n x y d r =
-    record {
-      x-long = length-set lx n x ∙ r .x-long;
-      y-long = length-set ly n y ∙ r .y-long;
-      d-long = length-set ld n d ∙ r .d-long;
-    }
-
-module _ (all : Stations) (r2 j : ℕ) (bounded : r2 ≤ mostSquare) (ok : Ready all)
-    (lx : List ℤ) (ly : List ℕ) (ld : List ℤ) (room : Roomy lx ly ld) (n k : ℕ) (turn : k < all .count) (near : Near lx ly ld n all r2 j k) where
+-- a turn: the entries gathered before stay, and a row that is near becomes the next
+module _ {all : Stations} {r2 j n k : ℕ} {give give' : ℕ → ℕ → Sums} {Fine Fine' : ℕ → Type 0} (near : Near give Fine n all r2 j k)
+    (kept : (i t : ℕ) → t < n → give' i t ≡ give i t) (kept-fine : (t : ℕ) → t < n → Fine t → Fine' t)
+    (new : rowGap (verdictAt all k) (yAt all k) j r2 < r2 → (i : ℕ) → give' i n ≡ shareAt all r2 i j k)
+    (new-fine : rowGap (verdictAt all k) (yAt all k) j r2 < r2 → Fine' n) where
   abbrev gap : ℕ
   gap = rowGap (verdictAt all k) (yAt all k) j r2
 
-  abbrev lx' : List ℤ
-  lx' = set lx n (xAt all k)
-
-  abbrev ly' : List ℕ
-  ly' = set ly n gap
-
-  abbrev ld' : List ℤ
-  ld' = set ld n (dAt all k)
-
-  pub n-room : n < mostStations
-  n-room = omega (arith, near .no-more, ok .few)
-
-  -- the stations gathered before are where they were
-  kept-sized : (t : ℕ) → t < n → Sized lx' ly' ld' t
-  kept-sized t h =
-      let o : (t ≡ n) → ⊥ = λ (e : t ≡ n). omega arith in
-      let s = near .sized t h in
-      record {
-        x-small = rw (getD-set-other lx n t (xAt all k) (pos 0) o) (s .x-small);
-        y-small = rw (getD-set-other ly n t gap 0 o) (s .y-small);
-        d-small = rw (getD-set-other ld n t (dAt all k) (pos 0) o) (s .d-small);
-      }
-
-  kept-sums : (i : ℕ) → upTo nothing plus n (nearShare lx' ly' ld' r2 i) ≡ upTo nothing plus k (shareAt all r2 i j)
-  unfolding nearShare
-  kept-sums i =
-      upTo-same nothing plus n (nearShare lx' ly' ld' r2 i) (nearShare lx ly ld r2 i) same ∙ near .same i
-    where
-      same : (t : ℕ) → t < n → nearShare lx' ly' ld' r2 i t ≡ nearShare lx ly ld r2 i t
-      same t h =
-          let o : (t ≡ n) → ⊥ = λ (e : t ≡ n). omega arith in
-          unfold nearShare in
-          (rw (getD-set-other lx n t (xAt all k) (pos 0) o, getD-set-other ly n t gap 0 o, getD-set-other ld n t (dAt all k) (pos 0) o))
+  kept-sums : (i : ℕ) → upTo nothing plus n (give' i) ≡ upTo nothing plus k (shareAt all r2 i j)
+  kept-sums i = upTo-same nothing plus n (give' i) (give i) (kept i) ∙ near .same i
 
   -- a far row is written over
-  far-step : r2 ≤ gap → Near lx' ly' ld' n all r2 j (k + 1)
+  far-step : r2 ≤ gap → Near give' Fine' n all r2 j (k + 1)
   far-step h =
       record {
         no-more = omega (arith, near .no-more);
-        sized = kept-sized;
+        sized = λ t l. kept-fine t l (near .sized t l);
         same =
             λ i. kept-sums i
             ∙ sym (upTo-next nothing plus k (shareAt all r2 i j)
@@ -268,62 +214,37 @@ module _ (all : Stations) (r2 j : ℕ) (bounded : r2 ≤ mostSquare) (ok : Ready
       }
 
   -- a near row is gathered
-  module _ (close : gap < r2) where
-    accepted : verdictAt all k ≡ 0
-    accepted = near-is-accepted (verdictAt all k) (yAt all k) j r2 close .0
+  near-gathered : gap < r2 → Near give' Fine' (n + 1) all r2 j (k + 1)
+  near-gathered close =
+      record {
+        no-more = omega (arith, near .no-more);
+        sized = sized;
+        same =
+            λ i. upTo-next nothing plus n (give' i)
+            ∙ ap (λ (s : Sums). plus s (give' i n)) (kept-sums i)
+            ∙ ap (plus (upTo nothing plus k (shareAt all r2 i j))) (new close i)
+            ∙ sym (upTo-next nothing plus k (shareAt all r2 i j));
+      }
+    where
+      sized : (t : ℕ) → t < n + 1 → Fine' t
+      sized t h = go (lt-or-le t n)
+        where
+          go : (t < n) ⊎ (n ≤ t) → Fine' t
+          go (inl l) = kept-fine t l (near .sized t l)
+          go (inr l) = let e : t ≡ n = omega arith in rw e (new-fine close)
 
-    new-x : getD lx' n (pos 0) ≡ xAt all k
-    new-x = getD-set-same lx n (xAt all k) (pos 0) (omega (arith, room .x-long, n-room))
-
-    new-y : getD ly' n 0 ≡ gap
-    new-y = getD-set-same ly n gap 0 (omega (arith, room .y-long, n-room))
-
-    new-d : getD ld' n (pos 0) ≡ dAt all k
-    new-d = getD-set-same ld n (dAt all k) (pos 0) (omega (arith, room .d-long, n-room))
-
-    new-share : (i : ℕ) → nearShare lx' ly' ld' r2 i n ≡ shareAt all r2 i j k
-    unfolding nearShare shareAt
-    new-share i =
-        rw (new-x, new-y, new-d, near-is-accepted (verdictAt all k) (yAt all k) j r2 close .1, accepted)
-        (sym (gift-weighed r2 (dAt all k) (xAt all k -ℤ pos (step * i)) (yAt all k -ℤ pos (step * j))))
-
-    new-sized : (t : ℕ) → t < n + 1 → Sized lx' ly' ld' t
-    new-sized t h = go (lt-or-le t n)
-      where
-        go : (t < n) ⊎ (n ≤ t) → Sized lx' ly' ld' t
-        go (inl l) = kept-sized t l
-        go (inr l) =
-            let e : t ≡ n = omega arith in
-            let c = ok .inside k turn accepted in
-            rw e (record {
-              x-small = rw new-x (c .x-small);
-              y-small = rw new-y (omega arith);
-              d-small = rw new-d (c .d-small);
-            })
-
-    near-gathered : Near lx' ly' ld' (n + 1) all r2 j (k + 1)
-    near-gathered =
-        record {
-          no-more = omega (arith, near .no-more);
-          sized = new-sized;
-          same =
-              λ i. upTo-next nothing plus n (nearShare lx' ly' ld' r2 i)
-              ∙ ap (λ (s : Sums). plus s (nearShare lx' ly' ld' r2 i n)) (kept-sums i)
-              ∙ ap (plus (upTo nothing plus k (shareAt all r2 i j))) (new-share i)
-              ∙ sym (upTo-next nothing plus k (shareAt all r2 i j));
-        }
-
-  near-step : Near lx' ly' ld' (n + cond (ltb gap r2) 1 0) all r2 j (k + 1)
+  pub near-step : Near give' Fine' (n + cond (ltb (rowGap (verdictAt all k) (yAt all k) j r2) r2) 1 0) all r2 j (k + 1)
   near-step = go (lt-or-le gap r2)
     where
-      go : (gap < r2) ⊎ (r2 ≤ gap) → Near lx' ly' ld' (n + cond (ltb gap r2) 1 0) all r2 j (k + 1)
+      go : (gap < r2) ⊎ (r2 ≤ gap) → Near give' Fine' (n + cond (ltb gap r2) 1 0) all r2 j (k + 1)
       go (inl h) = rw (lt-ltb gap r2 h) (near-gathered h)
       go (inr h) = rw (le-ltb gap r2 h, add-zero n) (far-step h)
 
-  -- a turn, of the values that the code has
-  pub near-turn : {x d : ℤ} {g one : ℕ} → x ≡ xAt all k → d ≡ dAt all k → g ≡ gap → one ≡ cond (ltb g r2) 1 0
-      → Roomy (set lx n x) (set ly n g) (set ld n d) × Near (set lx n x) (set ly n g) (set ld n d) (n + one) all r2 j (k + 1)
-  near-turn ex ed eg eo = rw (eo, eg, ex, ed) (roomy-set lx ly ld n (xAt all k) gap (dAt all k) room, near-step)
+-- what an accepted row gives
+pub accepted-shares : (all : Stations) (r2 i j k : ℕ) → verdictAt all k ≡ 0
+    → shareAt all r2 i j k ≡ gift (all .mode) r2 (windAt all k) (dAt all k) (xAt all k -ℤ pos (step * i)) (yAt all k -ℤ pos (step * j))
+unfolding shareAt
+accepted-shares all r2 i j k e = rw e
 
 -- the sums over all rows are small too
 module _ (all : Stations) (r2 i j : ℕ) (ok : Ready all) where
@@ -331,7 +252,7 @@ module _ (all : Stations) (r2 i j : ℕ) (ok : Ready all) where
   unfolding shareAt
   share-small k h =
       cond-both (λ (s : Sums). natAbs (s .pulls) ≤ mostLimit * s .weights) (isAccepted (verdictAt all k)) _ nothing
-      (λ e. gift-size r2 mostLimit (dAt all k) _ _ (ok .inside k h (eqb-true (verdictAt all k) 0 e) .d-small)) (λ e. omega arith)
+      (λ e. gift-size (all .mode) r2 (windAt all k) (dAt all k) _ _ mostLimit (ok .inside k h (eqb-true (verdictAt all k) 0 e) .d-small)) (λ e. omega arith)
 
   some-small : (n : ℕ) → n ≤ all .count
       → natAbs (upTo nothing plus n (shareAt all r2 i j) .pulls) ≤ mostLimit * upTo nothing plus n (shareAt all r2 i j) .weights

@@ -15,44 +15,52 @@ use Rattle.scheme.specs.Units.{mostSide, Field, stored, fieldOf, mostStations, 
 use Rattle.scheme.specs.Correction.{Sums, nothing, plus, correction}
 use Rattle.scheme.specs.Most.{mostPoints, mostSquare, mostWeights, mostField}
 use Rattle.scheme.specs.Accepted.{Shaped}
-use Rattle.scan_point.specs.Near.{nearShare, Sized, near-small, Stations, sumsOver, Ready, Near}
+use Rattle.scan_point.specs.Near.{Slight, near-small, Stations, sumsOver, Ready, Near}
 
 -- ---- one row, whose points stand at base, base + 1, ..
 
-abbrev pub rowSums : (lx : List ℤ) (ly : List ℕ) (ld : List ℤ) (n r2 i : ℕ) → Sums
-rowSums lx ly ld n r2 i = upTo nothing plus n (nearShare lx ly ld r2 i)
+-- what the n entries of the lists give to the point in column i
+abbrev pub rowSums : (give : ℕ → ℕ → Sums) (n i : ℕ) → Sums
+rowSums give n i = upTo nothing plus n (give i)
 
 -- the new value and the new support byte at place k
-unfoldable pub rowZ : (z : List ℤ) (lx : List ℤ) (ly : List ℕ) (ld : List ℤ) (n r2 base k : ℕ) → ℤ
-rowZ z lx ly ld n r2 base k = getD z k (pos 0) +ℤ correction (rowSums lx ly ld n r2 (k - base))
+unfoldable pub rowZ : (z : List ℤ) (give : ℕ → ℕ → Sums) (n base k : ℕ) → ℤ
+rowZ z give n base k = getD z k (pos 0) +ℤ correction (rowSums give n (k - base))
 
-unfoldable pub rowS : (sup : List ℕ) (lx : List ℤ) (ly : List ℕ) (ld : List ℤ) (n r2 bit base k : ℕ) → ℕ
-rowS sup lx ly ld n r2 bit base k = getD sup k 0 + cond (ltb 0 (rowSums lx ly ld n r2 (k - base) .weights)) bit 0
+unfoldable pub rowS : (sup : List ℕ) (give : ℕ → ℕ → Sums) (n bit base k : ℕ) → ℕ
+rowS sup give n bit base k = getD sup k 0 + cond (ltb 0 (rowSums give n (k - base) .weights)) bit 0
 
-pub record RowReady (z : List ℤ) (sup : List ℕ) (base nx : ℕ) (lx : List ℤ) (ly : List ℕ) (ld : List ℤ) (n r2 bit : ℕ) : Type 0 where
+-- a point whose value and support can be set
+pub record PointReady (z : List ℤ) (sup : List ℕ) (p bit : ℕ) : Type 0 where
+  pub inside : p < length z
+  pub both : p < length sup
+  pub short : p < mostPoints
+  pub low : natAbs (getD z p (pos 0)) ≤ mostField
+  pub free : getD sup p 0 + bit < 256
+
+pub record RowReady (z : List ℤ) (sup : List ℕ) (base nx : ℕ) (give : ℕ → ℕ → Sums) (n bit : ℕ) : Type 0 where
   pub few : n ≤ mostStations
   pub narrow : nx ≤ mostSide
   pub inside : base + nx ≤ length z
   pub short : length z ≤ mostPoints
   pub both : length sup ≡ length z
-  pub close : r2 ≤ mostSquare
-  pub sized : (t : ℕ) → t < n → Sized lx ly ld t
+  pub slight : (i t : ℕ) → t < n → Slight (give i t)
   pub low : (k : ℕ) → base ≤ k → natAbs (getD z k (pos 0)) ≤ mostField
   pub free : (k : ℕ) → base ≤ k → getD sup k 0 + bit < 256
 
 -- a turn along the row: w and wd are the sums at column i
-module _ {z₀ : List ℤ} {sup₀ : List ℕ} {base nx : ℕ} {lx : List ℤ} {ly : List ℕ} {ld : List ℤ} {n r2 bit : ℕ}
-    (ok : RowReady z₀ sup₀ base nx lx ly ld n r2 bit) {z : List ℤ} {sup : List ℕ} {i : ℕ} (turn : i < nx)
-    (pz : Filled (pos 0) (rowZ z₀ lx ly ld n r2 base) base (base + i) z₀ z) (ps : Filled 0 (rowS sup₀ lx ly ld n r2 bit base) base (base + i) sup₀ sup) where
-  pub place-in : (base + i < length z) × (base + i < length sup) × (base + i < mostPoints)
-  place-in =
-      (omega (arith, pz .same-length, ok .inside), omega (arith, ps .same-length, ok .both, ok .inside), omega (arith, ok .inside, ok .short))
-
-  pub value-low : natAbs (getD z (base + i) (pos 0)) ≤ mostField
-  value-low = rw (pz .rest (base + i) (omega arith)) (ok .low (base + i) (omega arith))
-
-  pub bit-free : getD sup (base + i) 0 + bit < 256
-  bit-free = rw (ps .rest (base + i) (omega arith)) (ok .free (base + i) (omega arith))
+module _ {z₀ : List ℤ} {sup₀ : List ℕ} {base nx : ℕ} {give : ℕ → ℕ → Sums} {n bit : ℕ}
+    (ok : RowReady z₀ sup₀ base nx give n bit) {z : List ℤ} {sup : List ℕ} {i : ℕ} (turn : i < nx)
+    (pz : Filled (pos 0) (rowZ z₀ give n base) base (base + i) z₀ z) (ps : Filled 0 (rowS sup₀ give n bit base) base (base + i) sup₀ sup) where
+  pub point-ready : PointReady z sup (base + i) bit
+  point-ready =
+      record {
+        inside = omega (arith, pz .same-length, ok .inside);
+        both = omega (arith, ps .same-length, ok .both, ok .inside);
+        short = omega (arith, ok .inside, ok .short);
+        low = rw (pz .rest (base + i) (omega arith)) (ok .low (base + i) (omega arith));
+        free = rw (ps .rest (base + i) (omega arith)) (ok .free (base + i) (omega arith));
+      }
 
   column : base + i - base ≡ i
   column = omega arith
@@ -60,26 +68,26 @@ module _ {z₀ : List ℤ} {sup₀ : List ℕ} {base nx : ℕ} {lx : List ℤ} {
   next-place : base + (i + 1) ≡ base + i + 1
   next-place = omega arith
 
-  module _ {w : ℕ} {wd : ℤ} (w-is : w ≡ rowSums lx ly ld n r2 i .weights) (wd-is : wd ≡ rowSums lx ly ld n r2 i .pulls) where
+  module _ {w : ℕ} {wd : ℤ} (w-is : w ≡ rowSums give n i .weights) (wd-is : wd ≡ rowSums give n i .pulls) where
     pub sums-small : (w ≤ mostWeights) × (natAbs wd ≤ mostLimit * w)
     sums-small =
-        let h = near-small lx ly ld r2 i n (ok .sized) in
+        let h = near-small (give i) n (ok .slight i) in
         rw (w-is, wd-is) (omega (arith, h .weights-most, ok .few), h .pulls-most)
 
     pub next-value : (v : ℤ) → v ≡ getD z (base + i) (pos 0) +ℤ correction (record { weights = w; pulls = wd })
-        → Filled (pos 0) (rowZ z₀ lx ly ld n r2 base) base (base + (i + 1)) z₀ (set z (base + i) v)
+        → Filled (pos 0) (rowZ z₀ give n base) base (base + (i + 1)) z₀ (set z (base + i) v)
     next-value v e =
-        filled-set (pos 0) (rowZ z₀ lx ly ld n r2 base) base (base + i) (base + (i + 1)) z₀ z v next-place (omega arith) (place-in .0) (e ∙ same) pz
+        filled-set (pos 0) (rowZ z₀ give n base) base (base + i) (base + (i + 1)) z₀ z v next-place (omega arith) (point-ready .inside) (e ∙ same) pz
       where
-        same : getD z (base + i) (pos 0) +ℤ correction (record { weights = w; pulls = wd }) ≡ rowZ z₀ lx ly ld n r2 base (base + i)
+        same : getD z (base + i) (pos 0) +ℤ correction (record { weights = w; pulls = wd }) ≡ rowZ z₀ give n base (base + i)
         same = unfold rowZ in (rw (column, w-is, wd-is, pz .rest (base + i) (omega arith)))
 
     pub next-support : (b : ℕ) → b ≡ getD sup (base + i) 0 + cond (ltb 0 w) bit 0
-        → Filled 0 (rowS sup₀ lx ly ld n r2 bit base) base (base + (i + 1)) sup₀ (set sup (base + i) b)
+        → Filled 0 (rowS sup₀ give n bit base) base (base + (i + 1)) sup₀ (set sup (base + i) b)
     next-support b e =
-        filled-set 0 (rowS sup₀ lx ly ld n r2 bit base) base (base + i) (base + (i + 1)) sup₀ sup b next-place (omega arith) (place-in .1) (e ∙ same) ps
+        filled-set 0 (rowS sup₀ give n bit base) base (base + i) (base + (i + 1)) sup₀ sup b next-place (omega arith) (point-ready .both) (e ∙ same) ps
       where
-        same : getD sup (base + i) 0 + cond (ltb 0 w) bit 0 ≡ rowS sup₀ lx ly ld n r2 bit base (base + i)
+        same : getD sup (base + i) 0 + cond (ltb 0 w) bit 0 ≡ rowS sup₀ give n bit base (base + i)
         same = unfold rowS in (rw (column, w-is, ps .rest (base + i) (omega arith)))
 
 -- ---- the whole grid
@@ -126,8 +134,9 @@ module _ {z₀ : List ℤ} {sup₀ : List ℕ} {nx ny : ℕ} {all : Stations} {r
 
   module _ {j : ℕ} (hj : j < ny) {z : List ℤ} {sup : List ℕ}
       (pz : Filled (pos 0) (passZ z₀ nx all r2) 0 (j * nx) z₀ z) (ps : Filled 0 (passS sup₀ nx all r2 bit) 0 (j * nx) sup₀ sup)
-      {lx : List ℤ} {ly : List ℕ} {ld : List ℤ} {n : ℕ} (near : Near lx ly ld n all r2 j (all .count)) where
-    pub row-ready : RowReady z sup (j * nx) nx lx ly ld n r2 bit
+      {give : ℕ → ℕ → Sums} {Fine : ℕ → Type 0} {n : ℕ} (fine : (i t : ℕ) → Fine t → Slight (give i t))
+      (near : Near give Fine n all r2 j (all .count)) where
+    pub row-ready : RowReady z sup (j * nx) nx give n bit
     row-ready =
         record {
           few = omega (arith, near .no-more, ok .stations .few);
@@ -135,8 +144,7 @@ module _ {z₀ : List ℤ} {sup₀ : List ℕ} {nx ny : ℕ} {all : Stations} {r
           inside = omega (arith, row-in j hj, pz .same-length, ok .shape .whole);
           short = omega (arith, pz .same-length, short);
           both = ps .same-length ∙ ok .both ∙ sym (pz .same-length);
-          close = r2-close;
-          sized = near .sized;
+          slight = λ i t h. fine i t (near .sized t h);
           low = λ k h. rw (pz .rest k h) (ok .low k);
           free = λ k h. rw (ps .rest k h) (ok .free k);
         }
@@ -152,12 +160,12 @@ module _ {z₀ : List ℤ} {sup₀ : List ℕ} {nx ny : ℕ} {all : Stations} {r
       at-row : k / nx ≡ j
       at-row = ap (λ (m : ℕ). m / nx) split ∙ digits-div j (omega arith)
 
-      same-z : rowZ z lx ly ld n r2 (j * nx) k ≡ passZ z₀ nx all r2 k
+      same-z : rowZ z give n (j * nx) k ≡ passZ z₀ nx all r2 k
       unfolding rowZ corrected fieldOf sumsOver
       same-z =
           rw (at-column, at-row, ← split) (rw (pz .rest k h, near .same (k - j * nx)))
 
-      same-s : rowS sup lx ly ld n r2 bit (j * nx) k ≡ passS sup₀ nx all r2 bit k
+      same-s : rowS sup give n bit (j * nx) k ≡ passS sup₀ nx all r2 bit k
       unfolding rowS backed fieldOf sumsOver
       same-s =
           rw (at-column, at-row, ← split) (rw (ps .rest k h, near .same (k - j * nx)))
@@ -165,17 +173,17 @@ module _ {z₀ : List ℤ} {sup₀ : List ℕ} {nx ny : ℕ} {all : Stations} {r
     next-row : j * nx + nx ≡ (j + 1) * nx
     next-row = omega (arith, suc-mul j nx)
 
-    pub next-z : (z' : List ℤ) → Filled (pos 0) (rowZ z lx ly ld n r2 (j * nx)) (j * nx) (j * nx + nx) z z'
+    pub next-z : (z' : List ℤ) → Filled (pos 0) (rowZ z give n (j * nx)) (j * nx) (j * nx + nx) z z'
         → Filled (pos 0) (passZ z₀ nx all r2) 0 ((j + 1) * nx) z₀ z'
     next-z z' p =
         rw (← next-row)
-        (filled-join (pos 0) (passZ z₀ nx all r2) (rowZ z lx ly ld n r2 (j * nx)) 0 (j * nx) (j * nx + nx) z₀ z z' (omega arith) (omega arith) same-z pz p)
+        (filled-join (pos 0) (passZ z₀ nx all r2) (rowZ z give n (j * nx)) 0 (j * nx) (j * nx + nx) z₀ z z' (omega arith) (omega arith) same-z pz p)
 
-    pub next-s : (sup' : List ℕ) → Filled 0 (rowS sup lx ly ld n r2 bit (j * nx)) (j * nx) (j * nx + nx) sup sup'
+    pub next-s : (sup' : List ℕ) → Filled 0 (rowS sup give n bit (j * nx)) (j * nx) (j * nx + nx) sup sup'
         → Filled 0 (passS sup₀ nx all r2 bit) 0 ((j + 1) * nx) sup₀ sup'
     next-s sup' p =
         rw (← next-row)
-        (filled-join 0 (passS sup₀ nx all r2 bit) (rowS sup lx ly ld n r2 bit (j * nx)) 0 (j * nx) (j * nx + nx) sup₀ sup sup' (omega arith) (omega arith) same-s ps p)
+        (filled-join 0 (passS sup₀ nx all r2 bit) (rowS sup give n bit (j * nx)) 0 (j * nx) (j * nx + nx) sup₀ sup sup' (omega arith) (omega arith) same-s ps p)
 
   -- all rows
   pub all-z : (z : List ℤ) → Filled (pos 0) (passZ z₀ nx all r2) 0 (ny * nx) z₀ z → z ≡ stored nx ny (corrected z₀ nx all r2)

@@ -1,23 +1,37 @@
-// Sums and corrections at the points of a grid (document 01, "One scan", Correction).
+// Sums and corrections at the points of a grid row (document 01, "One scan", Correction): what both modes share, and those by the round weight.
 ghost use mathlib.Core.Path.{_≡_};
 ghost use Prim.Native.Nat.{ℕ, _+_, _*_, _≤_, _<_};
 ghost use mathlib.Core.Bool.{cond};
 ghost use lib.Dec.{ltb};
+ghost use lib.ListN.{getD, set};
 ghost use lib.IntN.{pos, natAbs, _+ℤ_, _*ℤ_};
 ghost use Rattle.lists.specs.Sums.{upTo};
 ghost use Rattle.lists.specs.Filled.{Filled};
-ghost use Rattle.scheme.specs.Units.{mostSide, stored, mostStations, mostLimit};
-ghost use Rattle.scheme.specs.Weight.{weight};
+ghost use Rattle.scheme.specs.Units.{mostSide, mostStations, mostLimit, roundMode};
+ghost use Rattle.scheme.specs.Weight.{scale, weight};
 ghost use Rattle.scheme.specs.Correction.{nothing, plus, correction};
 ghost use Rattle.scheme.specs.Most.{mostAlong, mostSquare, mostWeights, mostPulls, mostField};
-ghost use Rattle.scan_point.specs.Near.{nearShare, Sized, WithNear, rowGap, stationsWith, Ready, Roomy, Near};
-ghost use Rattle.scan_point.specs.Pass.{rowZ, rowS, RowReady, PassReady, corrected, backed};
-use request::Terms;
+ghost use Rattle.scan_point.specs.Near.{Added, rowGap, stationsWith, Ready, Near};
+ghost use Rattle.scan_point.specs.Round.{nearShare, Sized, Roomy};
+ghost use Rattle.scan_point.specs.Pass.{rowZ, rowS, PointReady, RowReady};
 
 // The sum of weights, and the sum of weight·D.
 pub struct Sums {
     pub w: u64,
     pub wd: i64,
+}
+
+// The sums with one more station, of that weight and difference d.
+pub fn added(w: u64, wd: i64, weight: u32, d: i64) -> Sums
+    requires { ⌜ (w ≤ mostWeights) × (natAbs wd ≤ mostPulls) × (weight ≤ scale) × (natAbs d ≤ mostLimit) ⌝ }
+    ensures { λ s. ⌜ (s .w ≡ w + weight) × (s .wd ≡ wd +ℤ pos weight *ℤ d) ⌝ }
+{
+    let weights = w + (weight as u64);
+    let pulls = wd + (weight as i64) * d;
+    Sums {
+        w: weights,
+        wd: pulls,
+    }
 }
 
 // The sums with one more station, of difference d at squared distance d2.
@@ -28,13 +42,7 @@ fn more(w: u64, wd: i64, r2: u32, d2: u32, d: i64) -> Sums
     if r2 <= d2 {
         return Sums { w, wd };
     }
-    let q = scan_weight::weight(r2, d2);
-    let weights = w + (q as u64);
-    let pulls = wd + (q as i64) * d;
-    Sums {
-        w: weights,
-        wd: pulls,
-    }
+    added(w, wd, scan_weight::weight(r2, d2), d)
 }
 
 // The sums at column i of a grid row with one more of the stations near that row, the one at t.
@@ -49,7 +57,7 @@ fn with_near(
     r2: u32,
 ) -> Sums
     requires { ⌜ (w ≤ mostWeights) × (natAbs wd ≤ mostPulls) × (t < mostStations) × (i < mostSide) × (r2 ≤ mostSquare) × Sized (now lx) (now ly) (now ld) t ⌝ }
-    ensures { λ s. ⌜ WithNear (now (lx .entry)) (now (ly .entry)) (now (ld .entry)) r2 i t w wd (s .w) (s .wd) ⌝ }
+    ensures { λ s. ⌜ Added (nearShare (now (lx .entry)) (now (ly .entry)) (now (ld .entry)) r2 i) t w wd (s .w) (s .wd) ⌝ }
 {
     let px = (64 * i) as i32;
     more(
@@ -107,7 +115,7 @@ fn with_bit(b: u8, w: u64, bit: u8) -> u8
 }
 
 // The squared distance of a station to grid row j; the squared radius for one that is not accepted.
-fn row_gap(verdict: u8, y: i32, j: usize, r2: u32) -> u32
+pub fn row_gap(verdict: u8, y: i32, j: usize, r2: u32) -> u32
     requires { ⌜ (j < mostSide) × (verdict ≡ 0 → natAbs y ≤ mostAlong) ⌝ }
     ensures { λ r. ⌜ r ≡ rowGap verdict y j r2 ⌝ }
 {
@@ -118,14 +126,15 @@ fn row_gap(verdict: u8, y: i32, j: usize, r2: u32) -> u32
     }
 }
 
-fn one_if_below(gap: u32, r2: u32) -> usize
+// 1 for a station that is near by its squared distance to the row, and else 0: what it adds to the number of those gathered.
+pub fn one_if_below(gap: u32, r2: u32) -> usize
     ensures { λ r. ⌜ r ≡ cond (ltb gap r2) 1 0 ⌝ }
 {
     if gap < r2 { 1 } else { 0 }
 }
 
 // Gathers the stations near grid row j, once for all its points: each turn stores at the next free place, which only a near one takes.
-fn near_row(
+pub fn near_row(
     lx: &mut [i32; 512],
     ly: &mut [u32; 512],
     ld: &mut [i64; 512],
@@ -136,9 +145,9 @@ fn near_row(
     r2: u32,
     j: usize,
 ) -> usize
-    requires { ⌜ (r2 ≤ mostSquare) × (j < mostSide) × Ready (stationsWith stations (now numbers) (now verdict) (now d)) × Roomy (now lx) (now ly) (now ld) ⌝ }
+    requires { ⌜ (r2 ≤ mostSquare) × (j < mostSide) × Ready (stationsWith roundMode stations (now numbers) (now verdict) (now d)) × Roomy (now lx) (now ly) (now ld) ⌝ }
     ensures { λ n. ⌜ Roomy (now (lx .exit)) (now (ly .exit)) (now (ld .exit))
-        × Near (now (lx .exit)) (now (ly .exit)) (now (ld .exit)) n (stationsWith stations (now (numbers .entry)) (now (verdict .entry)) (now (d .entry))) r2 j stations ⌝ }
+        × Near (nearShare (now (lx .exit)) (now (ly .exit)) (now (ld .exit)) r2) (Sized (now (lx .exit)) (now (ly .exit)) (now (ld .exit))) n (stationsWith roundMode stations (now (numbers .entry)) (now (verdict .entry)) (now (d .entry))) r2 j stations ⌝ }
 {
     let mut n: usize = 0;
     let mut k: usize = 0;
@@ -154,8 +163,18 @@ fn near_row(
     n
 }
 
+// A point's new value and support, at its place in the grid.
+pub fn set_point(z: &mut [i32], support: &mut [u8], p: usize, w: u64, wd: i64, bit: u8)
+    requires { ⌜ PointReady (now z) (now support) p bit × (w ≤ mostWeights) × (natAbs wd ≤ mostLimit * w) ⌝ }
+    ensures { λ u. ⌜ (now (z .exit) ≡ set (now (z .entry)) p (getD (now (z .entry)) p (pos 0) +ℤ correction (record { weights = w; pulls = wd })))
+        × (now (support .exit) ≡ set (now (support .entry)) p (getD (now (support .entry)) p 0 + cond (ltb 0 w) bit 0)) ⌝ }
+{
+    z[p] = moved(z[p], w, wd);
+    support[p] = with_bit(support[p], w, bit);
+}
+
 // One grid row, whose points stand at base, base + 1, ..: each is corrected by the stations near the row.
-fn correct_row(
+pub fn correct_row(
     z: &mut [i32],
     support: &mut [u8],
     base: usize,
@@ -167,44 +186,14 @@ fn correct_row(
     r2: u32,
     bit: u8,
 )
-    requires { ⌜ RowReady (now z) (now support) base nx (now lx) (now ly) (now ld) n r2 bit ⌝ }
-    ensures { λ u. ⌜ Filled (pos 0) (rowZ (now (z .entry)) (now (lx .entry)) (now (ly .entry)) (now (ld .entry)) n r2 base) base (base + nx) (now (z .entry)) (now (z .exit))
-        × Filled 0 (rowS (now (support .entry)) (now (lx .entry)) (now (ly .entry)) (now (ld .entry)) n r2 bit base) base (base + nx) (now (support .entry)) (now (support .exit)) ⌝ }
+    requires { ⌜ RowReady (now z) (now support) base nx (nearShare (now lx) (now ly) (now ld) r2) n bit × (r2 ≤ mostSquare) × ((t : ℕ) → t < n → Sized (now lx) (now ly) (now ld) t) ⌝ }
+    ensures { λ u. ⌜ Filled (pos 0) (rowZ (now (z .entry)) (nearShare (now (lx .entry)) (now (ly .entry)) (now (ld .entry)) r2) n base) base (base + nx) (now (z .entry)) (now (z .exit))
+        × Filled 0 (rowS (now (support .entry)) (nearShare (now (lx .entry)) (now (ly .entry)) (now (ld .entry)) r2) n bit base) base (base + nx) (now (support .entry)) (now (support .exit)) ⌝ }
 {
     let mut i: usize = 0;
     while i < nx {
         let s = point_sums(lx, ly, ld, n, i, r2);
-        let p = base + i;
-        z[p] = moved(z[p], s.w, s.wd);
-        support[p] = with_bit(support[p], s.w, bit);
+        set_point(z, support, base + i, s.w, s.wd, bit);
         i += 1;
-    }
-}
-
-// One correction of the whole grid, in place: the differences d were all taken before, so that no point sees another's correction. The lists
-// are room for the stations near a row, lent so that they are cleared once for all scans.
-pub fn correct(
-    z: &mut [i32],
-    support: &mut [u8],
-    verdict: &[u8],
-    d: &[i64; 512],
-    t: Terms,
-    numbers: &[[i32; 5]; 512],
-    lx: &mut [i32; 512],
-    ly: &mut [u32; 512],
-    ld: &mut [i64; 512],
-    radius: u32,
-    bit: u8,
-)
-    requires { ⌜ PassReady (now z) (now support) (t .nx) (t .ny) (stationsWith (t .stations) (now numbers) (now verdict) (now d)) radius bit × Roomy (now lx) (now ly) (now ld) ⌝ }
-    ensures { λ u. ⌜ Roomy (now (lx .exit)) (now (ly .exit)) (now (ld .exit)) × (now (z .exit) ≡ stored (t .nx) (t .ny) (corrected (now (z .entry)) (t .nx) (stationsWith (t .stations) (now (numbers .entry)) (now (verdict .entry)) (now (d .entry))) (radius * radius)))
-        × (now (support .exit) ≡ stored (t .nx) (t .ny) (backed (now (support .entry)) (t .nx) (stationsWith (t .stations) (now (numbers .entry)) (now (verdict .entry)) (now (d .entry))) (radius * radius) bit)) ⌝ }
-{
-    let r2 = radius * radius;
-    let mut j: usize = 0;
-    while j < t.ny {
-        let n = near_row(lx, ly, ld, t.stations, numbers, verdict, d, r2, j);
-        correct_row(z, support, j * t.nx, t.nx, lx, ly, ld, n, r2, bit);
-        j += 1;
     }
 }

@@ -14,7 +14,7 @@ use request::Terms;
 
 // The value that a row's observation is held to: on the grid the field's as the scan finds it, and a post's the first guess's at the nearest
 // place.
-fn value_for(row: [i32; 3], guess: &[i32], z: &[i32], nx: usize, ny: usize) -> i64
+fn value_for(row: [i32; 5], guess: &[i32], z: &[i32], nx: usize, ny: usize) -> i64
     requires { ⌜ Shaped nx ny (length (now guess)) × Shaped nx ny (length (now z)) × Small (now guess) × Small (now z) ⌝ }
     ensures { λ r. ⌜ (r ≡ valueFor (now (guess .entry)) (now (z .entry)) nx ny row) × (natAbs r ≤ mostField) ⌝ }
 {
@@ -30,7 +30,7 @@ fn value_for(row: [i32; 3], guess: &[i32], z: &[i32], nx: usize, ny: usize) -> i
 }
 
 // The observation less that value; 0 for a row that is not accepted, whose observation may be missing.
-fn difference(verdict: u8, row: [i32; 3], guess: &[i32], z: &[i32], nx: usize, ny: usize) -> i64
+fn difference(verdict: u8, row: [i32; 5], guess: &[i32], z: &[i32], nx: usize, ny: usize) -> i64
     requires { ⌜ Shaped nx ny (length (now guess)) × Shaped nx ny (length (now z)) × Small (now guess) × Small (now z) × (verdict ≡ 0 → Heard row) ⌝ }
     ensures { λ r. ⌜ (r ≡ diffOf (now (guess .entry)) (now (z .entry)) nx ny verdict row) × (natAbs r ≤ mostDifference) ⌝ }
 {

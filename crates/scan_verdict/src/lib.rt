@@ -36,7 +36,7 @@ fn out_of_service(minutes: [u32; 3], time: u32) -> bool
 
 // The verdict before the first scan: the first that fits, or 0 for a row that starts as accepted.
 pub fn first_verdict(
-    numbers: [i32; 3],
+    numbers: [i32; 5],
     minutes: [u32; 3],
     nx: usize,
     ny: usize,

@@ -1,2 +1,3 @@
--- What the code of the weight computes, tied to document 01's definition. Proved.
+-- What the code of the weights computes, tied to the definitions of documents 01 and 02. Proved.
 pub mod Product
+pub mod Along

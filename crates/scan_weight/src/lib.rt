@@ -1,9 +1,11 @@
-// The weight of a station at a point (document 01, "One scan", Weight; document 02, 3).
+// The weight of a station at a point (document 01, "One scan", Weight; document 02, 3): the round one, and the one stretched along a wind
+// (document 02, 5).
 ghost use mathlib.Core.Path.{_≡_};
-ghost use Prim.Native.Nat.{_+_, _≤_};
+ghost use Prim.Native.Nat.{_+_, _*_, _≤_, _<_};
 ghost use lib.IntN.{natAbs, _-ℤ_};
 ghost use Rattle.scheme.specs.Weight.{square, weight};
 ghost use Rattle.scheme.specs.Most.{mostSquare};
+ghost use Rattle.scan_weight.specs.Along.{weightBy, mostStrength, mostAcross};
 
 // A weight is in parts of this.
 const SCALE: u64 = 10000;
@@ -35,4 +37,49 @@ pub fn weight(r2: u32, d2: u32) -> u32
         return 0;
     }
     (2 * SCALE * (r2 as u64) / ((r2 + d2) as u64) - SCALE) as u32
+}
+
+// ---- along a wind
+
+// The square of a number of at most 2^20 in size.
+fn squared(z: i32) -> u64
+    requires { ⌜ natAbs z ≤ 1048576 ⌝ }
+    ensures { λ r. ⌜ (r ≡ square z) × (r ≤ 1099511627776) ⌝ }
+{
+    let wide = z as i64;
+    (wide * wide) as u64
+}
+
+// Up to here 10,000 times a number fits a u64: one division does.
+const FEW: u64 = 1844674407370955;
+
+// The whole part of 10,000(p - q)/(p + q). Where that product would not fit, two steps of long division give it exactly.
+fn whole_part(p: u64, q: u64) -> u32
+    requires { ⌜ (q ≤ p) × (0 < p) × (100 * (p + q) < 9223372036854775808) ⌝ }
+    ensures { λ r. ⌜ r ≡ weight p q ⌝ }
+{
+    let upper = p - q;
+    let lower = p + q;
+    if upper <= FEW {
+        return (SCALE * upper / lower) as u32;
+    }
+    let n = 100 * upper;
+    (100 * (n / lower) + 100 * (n % lower) / lower) as u32
+}
+
+// The weight at squared distance d2 for squared radius r2, of a station whose wind has V = w2 and q = u·dx + v·dy. A calm wind, or one that is
+// missing, has V = 0.
+pub fn stretched(r2: u32, d2: u32, w2: u32, q: i32) -> u32
+    requires { ⌜ (r2 ≤ mostSquare) × (w2 ≤ mostStrength) × (d2 < r2 → natAbs q ≤ mostAcross) ⌝ }
+    ensures { λ r. ⌜ r ≡ weightBy r2 d2 w2 q ⌝ }
+{
+    if r2 <= d2 {
+        return 0;
+    }
+    let far = d2 as u64;
+    let gust = (w2 as u64) * far;
+    if gust == 0 {
+        return weight(r2, d2);
+    }
+    whole_part((r2 as u64) * (gust + squared(q)), gust * far)
 }

@@ -48,6 +48,8 @@ countedRow w numbers =
     (getD numbers 0 (pos 0) -ℤ pos (step * w .columns .first))
     ∷ (getD numbers 1 (pos 0) -ℤ pos (step * w .rows .first))
     ∷ getD numbers 2 (pos 0)
+    ∷ getD numbers 3 (pos 0)
+    ∷ getD numbers 4 (pos 0)
     ∷ []
 
 -- positions as a station's may be

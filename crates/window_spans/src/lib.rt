@@ -74,7 +74,7 @@ fn on_span(n: usize, first: usize, last: usize, x: i32) -> bool
 }
 
 // 1 for a station of the cut, on a grid of nx columns and ny rows, and else 0: what it adds to the number of those kept.
-pub fn one_if_on_cut(nx: usize, ny: usize, c: request::Window, numbers: [i32; 3]) -> usize
+pub fn one_if_on_cut(nx: usize, ny: usize, c: request::Window, numbers: [i32; 5]) -> usize
     requires { ⌜ Shaped nx ny (nx * ny) × OnGrid mostSide mostSide (windowIn c) ⌝ }
     ensures { λ r. ⌜ r ≡ cond (rowOn nx ny (windowIn c) numbers) 1 0 ⌝ }
 {
@@ -92,7 +92,7 @@ fn from_corner(x: i32, first: usize) -> i32
 }
 
 // A station's row, with both positions counted from there.
-pub fn counted(numbers: [i32; 3], c: request::Window) -> [i32; 3]
+pub fn counted(numbers: [i32; 5], c: request::Window) -> [i32; 5]
     requires { ⌜ Placed numbers × OnGrid mostSide mostSide (windowIn c) ⌝ }
     ensures { λ r. ⌜ r ≡ countedRow (windowIn c) numbers ⌝ }
 {
@@ -100,5 +100,7 @@ pub fn counted(numbers: [i32; 3], c: request::Window) -> [i32; 3]
         from_corner(numbers[request::X], c.left),
         from_corner(numbers[request::Y], c.top),
         numbers[request::VALUE],
+        numbers[request::WIND_U],
+        numbers[request::WIND_V],
     ]
 }

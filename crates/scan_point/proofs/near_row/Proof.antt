@@ -2,20 +2,21 @@
 use Prim.Native.Nat.{ℕ, _-_, _≤_, _<_}
 use native.Mathlib.Omega.{arith}
 use borrow.Author.Needs.{needs, sfits-of}
-use mathlib.Core.Path.{_≡_, ap, _∙_}
+use mathlib.Core.Path.{_≡_, refl, ap, _∙_}
 use mathlib.Core.Bool.{Bool, true, false, cond}
 use lib.Dec.{ltb}
 use lib.IntN.{ℤ}
 use mir.Syntax.{w32, w64}
 use mir.Facts.{toZ-ofZ}
-use Rattle.scheme.specs.Units.{mostStations}
-use Rattle.scan_point.specs.Near.{Stations, stationsWith, xAt, yAt, verdictAt, dAt, rowGap, Roomy, Near, near-none, near-turn}
+use Rattle.scheme.specs.Units.{mostStations, roundMode}
+use Rattle.scan_point.specs.Near.{Stations, stationsWith, xAt, yAt, verdictAt, dAt, rowGap, Near, near-none}
+use Rattle.scan_point.specs.Round.{nearShare, Sized, Roomy, near-turn}
 use Rattle.scan_point.proofs.near_row.Statement.{statement}
 use Rattle.scan_point.proofs.near_row.Tie as tie
 
 abbrev Inv-loop : tie.InvT-loop
 Inv-loop lx₀ ly₀ ld₀ stations numbers verdict d r2 j n₀ k₀ lx ly ld n k =
-    (k ≤ stations) × Roomy lx ly ld × Near lx ly ld n (stationsWith stations numbers verdict d) r2 j k
+    (k ≤ stations) × Roomy lx ly ld × Near (nearShare lx ly ld r2) (Sized lx ly ld) n (stationsWith roundMode stations numbers verdict d) r2 j k
 
 abbrev μ-loop : tie.MeasureT-loop
 μ-loop lx₀ ly₀ ld₀ stations numbers verdict d r2 j n₀ k₀ lx ly ld n k = stations - k
@@ -26,7 +27,7 @@ module _ (c : tie.In-loop Inv-loop μ-loop) where
   start = c .before .before .before
 
   abbrev all : Stations
-  all = stationsWith (start .args .stations) (start .args .numbers .now) (start .args .verdict .now) (start .args .d .now)
+  all = stationsWith roundMode (start .args .stations) (start .args .numbers .now) (start .args .verdict .now) (start .args .d .now)
 
   abbrev k : ℕ
   k = c .before .loop .k
@@ -48,7 +49,7 @@ turn c = c .before .before .before .before .before .before .before
 loop-holds : tie.Need-loop-holds Inv-loop μ-loop
 loop-holds c =
     let a = c .before .args in
-    (omega arith, c .before .pre .3, near-none (a .lx .now) (a .ly .now) (a .ld .now) (stationsWith (a .stations) (a .numbers .now) (a .verdict .now) (a .d .now)) (a .r2) (a .j))
+    (omega arith, c .before .pre .3, near-none _ _ (stationsWith roundMode (a .stations) (a .numbers .now) (a .verdict .now) (a .d .now)) (a .r2) (a .j))
 
 mul-row : tie.Need-mul-row Inv-loop μ-loop
 mul-row c = omega (arith, few c)
@@ -114,7 +115,7 @@ loop-again c =
     let g = c .before .before .before in
     let y-is = toZ-ofZ {w = w32} (sfits-of {z = yAt (all t) (k t)} (g .before .row-gap-arg .given)) in
     let (roomy, near) =
-    near-turn (all t) (start t .args .r2) (start t .args .j) (p .0) (p .2) (l .lx) (l .ly) (l .ld) (l .inv .1) (l .n) (k t) (t .loop-test .taken) (l .inv .2)
+    near-turn (all t) (start t .args .r2) (start t .args .j) (p .0) (p .2) (l .lx) (l .ly) (l .ld) (l .inv .1) (l .n) (k t) (t .loop-test .taken) (l .inv .2 .no-more) refl (l .inv .2)
     (toZ-ofZ {w = w32} (sfits-of {z = xAt (all t) (k t)} (c .before .before .lx .given))) (toZ-ofZ {w = w64} (sfits-of {z = dAt (all t) (k t)} (c .before .ld .given)))
     (g .row-gap .ensures ∙ ap (λ (y : ℤ). rowGap (verdictAt (all t) (k t)) y (start t .args .j) (start t .args .r2)) y-is) (c .one-if-below .ensures) in
     (omega (arith, t .loop-test .taken), roomy, near)

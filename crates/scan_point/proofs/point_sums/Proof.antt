@@ -9,12 +9,14 @@ use mir.Val.{toZ, ofZ}
 use Rattle.integers.specs.Words.{bits-back}
 use Rattle.scheme.specs.Units.{mostSide, mostStations}
 use Rattle.scheme.specs.Most.{mostSquare, mostWeights, mostPulls}
-use Rattle.scan_point.specs.Near.{Sized, Down, WithNear, down-none, down-all, down-small, down-next}
+use Rattle.scheme.specs.Correction.{Sums}
+use Rattle.scan_point.specs.Near.{Slight, Down, Added, down-none, down-all, down-small, down-next}
+use Rattle.scan_point.specs.Round.{nearShare, Sized, round-slight}
 use Rattle.scan_point.proofs.point_sums.Statement.{statement}
 use Rattle.scan_point.proofs.point_sums.Tie as tie
 
 abbrev Inv-loop : tie.InvT-loop
-Inv-loop lx ly ld n i r2 s₀ t₀ s t = (t ≤ n) × Down lx ly ld r2 i n t (s .w) (s .wd)
+Inv-loop lx ly ld n i r2 s₀ t₀ s t = (t ≤ n) × Down (nearShare lx ly ld r2 i) n t (s .w) (s .wd)
 
 abbrev μ-loop : tie.MeasureT-loop
 μ-loop lx ly ld n i r2 s₀ t₀ s t = t
@@ -39,9 +41,15 @@ module _ (s : tie.Start Inv-loop μ-loop) where
   abbrev r2 : ℕ
   r2 = s .args .r2
 
-  module _ (t : ℕ) (w : ℕ) (wd : ℤ) (above : ℕ) (next-is : above ≡ t + 1) (inside : above ≤ n) (behind : Down lx ly ld r2 i n above w wd) where
+  abbrev give : ℕ → Sums
+  give = nearShare lx ly ld r2 i
+
+  slight : (t : ℕ) → t < n → Slight (give t)
+  slight t h = round-slight lx ly ld r2 i t (s .pre .3 t h)
+
+  module _ (t : ℕ) (w : ℕ) (wd : ℤ) (above : ℕ) (next-is : above ≡ t + 1) (inside : above ≤ n) (behind : Down give n above w wd) where
     w-small : w ≤ mostWeights
-    w-small = omega (arith, down-small lx ly ld r2 i n above w wd (s .pre .3) behind, s .pre .0)
+    w-small = omega (arith, down-small give n above w wd slight behind, s .pre .0)
 
     wd-small : natAbs wd ≤ mostPulls
     wd-small = omega (arith, w-small, behind .kept)
@@ -55,11 +63,11 @@ module _ (s : tie.Start Inv-loop μ-loop) where
     ready : (w ≤ mostWeights) × (natAbs (toZ w64 (ofZ w64 wd)) ≤ mostPulls) × (t < mostStations) × (i < mostSide) × (r2 ≤ mostSquare) × Sized lx ly ld t
     ready = (w-small, rw wd-back wd-small, omega (arith, s .pre .0), s .pre .1, s .pre .2, here)
 
-    next : (w' : ℕ) (wd' : ℤ) → WithNear lx ly ld r2 i t w (toZ w64 (ofZ w64 wd)) w' wd' → Down lx ly ld r2 i n t w' wd'
-    next w' wd' h = down-next lx ly ld r2 i n t here w w' wd wd' (rw next-is at behind) (rw wd-back at h)
+    next : (w' : ℕ) (wd' : ℤ) → Added give t w (toZ w64 (ofZ w64 wd)) w' wd' → Down give n t w' wd'
+    next w' wd' h = down-next give n t (slight t (omega arith)) w w' wd wd' (rw next-is at behind) (rw wd-back at h)
 
 loop-holds : tie.Need-loop-holds Inv-loop μ-loop
-loop-holds c = (omega arith, down-none (lx c) (ly c) (ld c) (r2 c) (i c) (n c))
+loop-holds c = (omega arith, down-none (give c) (n c))
 
 sub-with-near : tie.Need-sub-with-near Inv-loop μ-loop
 sub-with-near c = let h = c .loop-test .taken in omega arith
@@ -70,7 +78,7 @@ with-near-requires c κs =
     let h = c .before .loop-test .taken in
     ready (c .before .before .before) (l .t - 1) (l .s .w) (l .s .wd) (l .t) (omega arith) (l .inv .0) (l .inv .1)
 
-after-first : (c : tie.After-with-near Inv-loop μ-loop) → (let s = c .before .before .before .before in Down (lx s) (ly s) (ld s) (r2 s) (i s) (n s) (c .before .before .before .loop .t - 1) (c .with-near .result .w) (c .with-near .result .wd))
+after-first : (c : tie.After-with-near Inv-loop μ-loop) → (let s = c .before .before .before .before in Down (give s) (n s) (c .before .before .before .loop .t - 1) (c .with-near .result .w) (c .with-near .result .wd))
 after-first c =
     let l = c .before .before .before .loop in
     let h = c .before .before .loop-test .taken in
@@ -112,14 +120,14 @@ returns c =
     let l = d .before .before .loop in
     let s = d .before .before .before in
     let one : l .t ≡ 0 + 1 = (let h = d .if1 .taken in let g = d .before .loop-test .left in omega arith) in
-    down-all (lx s) (ly s) (ld s) (r2 s) (i s) (n s) _ _ (next s 0 (l .s .w) (l .s .wd) (l .t) one (l .inv .0) (l .inv .1) _ _ (c .with-near3 .ensures))
+    down-all (give s) (n s) _ _ (next s 0 (l .s .w) (l .s .wd) (l .t) one (l .inv .0) (l .inv .1) _ _ (c .with-near3 .ensures))
 
 returns-2 : tie.Need-returns-2 Inv-loop μ-loop
 returns-2 c =
     let l = c .before .before .loop in
     let s = c .before .before .before in
     let e : l .t ≡ 0 = (let h = c .if1 .left in omega arith) in
-    down-all (lx s) (ly s) (ld s) (r2 s) (i s) (n s) _ _ (rw e at (l .inv .1))
+    down-all (give s) (n s) _ _ (rw e at (l .inv .1))
 
 pub point-sums-spec : {M : Type 1} → statement M
 point-sums-spec =

@@ -10,7 +10,7 @@ use mir.Val.{toZ, ofZ}
 use mir.Facts.{toZ-pos, toZ-ofZ}
 use Rattle.integers.specs.Words.{bits-back}
 use Rattle.scheme.specs.Units.{step}
-use Rattle.scan_point.specs.Near.{Sized}
+use Rattle.scan_point.specs.Round.{nearShare, Sized}
 use Rattle.scan_point.proofs.with_near.Statement.{statement}
 use Rattle.scan_point.proofs.with_near.Tie as tie
 use Rattle.scan_point.proofs.with_near.Reads as reads
@@ -75,6 +75,7 @@ more-requires c κs =
     (s .pre .0, rw (wd-back s) (s .pre .1), s .pre .4, rw (d-back s) (here s .d-small))
 
 returns : tie.Need-returns
+unfolding nearShare
 returns c =
     let g = c .before .before .squared-distance in
     let s = c .before .before .before .before .before in
