@@ -11,11 +11,11 @@ use lib.Dec.{leb, ltb, eqb}
 use lib.IntN.{ℤ, pos, natAbs, _+ℤ_, _*ℤ_}
 use Rattle.integers.specs.Sizes.{size-add, size-mul}
 use Rattle.integers.specs.Fractions.{two-steps}
-use Rattle.lists.specs.Tests.{lt-or-le, true-or-false}
+use Rattle.lists.specs.Tests.{lt-or-le, true-or-false, cond-both}
 use Rattle.scheme.specs.Units.{mostRadius, Wind, mostWind, isNoWind, windMode}
-use Rattle.scheme.specs.Weight.{weight, square, squares, along, strength, stretched, blows, weightAt}
+use Rattle.scheme.specs.Weight.{scale, weight, square, squares, along, strength, stretched, blows, weightAt}
 use Rattle.scheme.specs.Most.{mostSquare}
-use Rattle.scheme.specs.Weights.{weight-beyond}
+use Rattle.scheme.specs.Weights.{weight-beyond, weight-most}
 use Rattle.scheme.specs.Streaks.{no-weight-outside, weight-inside, round-if-still, still-if-missing, Fair}
 
 -- a missing wind gives the round weight, as a calm one does
@@ -40,6 +40,12 @@ module _ (r2 d2 w2 : ℕ) (q : ℤ) where
   pub windy : d2 < r2 → 0 < w2 * d2 → weightBy r2 d2 w2 q ≡ weight (r2 * (w2 * d2 + square q)) (w2 * d2 * d2)
   unfolding weightBy
   windy h some = rw (lt-leb r2 d2 h, ne-eqb (w2 * d2) 0 (λ e. omega arith))
+
+pub weightBy-most : (r2 d2 w2 : ℕ) (q : ℤ) → weightBy r2 d2 w2 q ≤ scale
+unfolding weightBy
+weightBy-most r2 d2 w2 q =
+    cond-both (λ (n : ℕ). n ≤ scale) (leb r2 d2) 0 _ (λ e. omega arith)
+    (λ e. cond-both (λ (n : ℕ). n ≤ scale) (eqb (w2 * d2) 0) (weight r2 d2) (weight (r2 * (w2 * d2 + square q)) (w2 * d2 * d2)) (λ f. weight-most r2 d2) (λ f. weight-most _ _))
 
 -- ---- it is the weight of mode 1
 
