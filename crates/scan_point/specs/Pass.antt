@@ -2,7 +2,7 @@
 use Prim.Native.Nat.{ℕ, _+_, _-_, _*_, _/_, _%_, _≤_, _<_}
 use native.Mathlib.Omega.{arith}
 use native.Mathlib.Nat.{mul-le-mul, mul-le-mul-right, suc-mul, mul-comm}
-use mathlib.Core.Path.{_≡_, sym, ap, _∙_}
+use mathlib.Core.Path.{_≡_, sym, ap, _∙_, fun-ext}
 use mathlib.Core.Bool.{cond}
 use mathlib.Core.List.{List}
 use lib.Arith.{digits-div, digits-mod}
@@ -11,10 +11,10 @@ use lib.ListN.{length, getD, set}
 use lib.IntN.{ℤ, pos, natAbs, _+ℤ_}
 use Rattle.lists.specs.Sums.{upTo}
 use Rattle.lists.specs.Filled.{Filled, filled-set, filled-join, filled-all}
-use Rattle.scheme.specs.Units.{mostSide, Field, stored, fieldOf, mostStations, mostRadius, mostLimit}
+use Rattle.scheme.specs.Units.{mostSide, Field, stored, fieldOf, mostStations, mostRadius, mostLimit, windMode}
 use Rattle.scheme.specs.Correction.{Sums, nothing, plus, correction}
 use Rattle.scheme.specs.Most.{mostPoints, mostSquare, mostWeights, mostField}
-use Rattle.scheme.specs.Accepted.{Shaped}
+use Rattle.scheme.specs.Accepted.{Shaped, same-shape}
 use Rattle.scan_point.specs.Near.{Slight, near-small, Stations, sumsOver, Ready, Near}
 
 -- ---- one row, whose points stand at base, base + 1, ..
@@ -90,6 +90,67 @@ module _ {z₀ : List ℤ} {sup₀ : List ℕ} {base nx : ℕ} {give : ℕ → �
         same : getD sup (base + i) 0 + cond (ltb 0 w) bit 0 ≡ rowS sup₀ give n bit base (base + i)
         same = unfold rowS in (rw (column, w-is, ps .rest (base + i) (omega arith)))
 
+-- ---- a grid row, from all the stations
+
+-- the new value and the new support byte at place k of grid row j, whose points stand at base, base + 1, ..
+unfoldable pub rowValue : (z : List ℤ) (all : Stations) (r2 j base k : ℕ) → ℤ
+rowValue z all r2 j base k = getD z k (pos 0) +ℤ correction (sumsOver all r2 (k - base) j)
+
+unfoldable pub rowSupport : (sup : List ℕ) (all : Stations) (r2 bit j base k : ℕ) → ℕ
+rowSupport sup all r2 bit j base k = getD sup k 0 + cond (ltb 0 (sumsOver all r2 (k - base) j .weights)) bit 0
+
+pub record RowPass (z : List ℤ) (sup : List ℕ) (nx ny : ℕ) (all : Stations) (r2 bit j : ℕ) : Type 0 where
+  pub shape : Shaped nx ny (length z)
+  pub both : length sup ≡ length z
+  pub row : j < ny
+  pub close : r2 ≤ mostSquare
+  pub stations : Ready all
+  pub known : all .mode ≤ windMode
+  pub low : (k : ℕ) → j * nx ≤ k → natAbs (getD z k (pos 0)) ≤ mostField
+  pub free : (k : ℕ) → j * nx ≤ k → getD sup k 0 + bit < 256
+
+row-in : (nx ny j : ℕ) → j < ny → j * nx + nx ≤ nx * ny
+row-in nx ny j h = omega (arith, mul-le-mul-right nx h)
+
+few-points : {nx ny len : ℕ} → Shaped nx ny len → len ≤ mostPoints
+few-points shape = rw (shape .whole) (mul-le-mul (shape .few-columns) (shape .few-rows))
+
+-- the lists gathered for the row serve it
+module _ {z : List ℤ} {sup : List ℕ} {nx ny : ℕ} {all : Stations} {r2 bit j : ℕ} (ok : RowPass z sup nx ny all r2 bit j) where
+  pub row-place : j * nx + nx ≤ mostPoints
+  row-place = omega (arith, row-in nx ny j (ok .row), few-points (ok .shape), ok .shape .whole)
+
+  module _ {give : ℕ → ℕ → Sums} {Fine : ℕ → Type 0} {n : ℕ} (fine : (i t : ℕ) → Fine t → Slight (give i t))
+      (near : Near give Fine n all r2 j (all .count)) where
+    pub row-ready : RowReady z sup (j * nx) nx give n bit
+    row-ready =
+        record {
+          few = omega (arith, near .no-more, ok .stations .few);
+          narrow = ok .shape .few-columns;
+          inside = omega (arith, row-in nx ny j (ok .row), ok .shape .whole);
+          short = few-points (ok .shape);
+          both = ok .both;
+          slight = λ i t h. fine i t (near .sized t h);
+          low = ok .low;
+          free = ok .free;
+        }
+
+    same-values : rowZ z give n (j * nx) ≡ rowValue z all r2 j (j * nx)
+    unfolding rowZ rowValue sumsOver
+    same-values = fun-ext (λ k. rw (near .same (k - j * nx)))
+
+    same-supports : rowS sup give n bit (j * nx) ≡ rowSupport sup all r2 bit j (j * nx)
+    unfolding rowS rowSupport sumsOver
+    same-supports = fun-ext (λ k. rw (near .same (k - j * nx)))
+
+    pub row-values : {z' : List ℤ} → Filled (pos 0) (rowZ z give n (j * nx)) (j * nx) (j * nx + nx) z z'
+        → Filled (pos 0) (rowValue z all r2 j (j * nx)) (j * nx) (j * nx + nx) z z'
+    row-values p = rw same-values at p
+
+    pub row-supports : {sup' : List ℕ} → Filled 0 (rowS sup give n bit (j * nx)) (j * nx) (j * nx + nx) sup sup'
+        → Filled 0 (rowSupport sup all r2 bit j (j * nx)) (j * nx) (j * nx + nx) sup sup'
+    row-supports p = rw same-supports at p
+
 -- ---- the whole grid
 
 -- the field after the corrections, and the support with its new bit, from the stations
@@ -110,6 +171,7 @@ pub record PassReady (z : List ℤ) (sup : List ℕ) (nx ny : ℕ) (all : Statio
   pub both : length sup ≡ length z
   pub close : radius ≤ mostRadius
   pub stations : Ready all
+  pub known : all .mode ≤ windMode
   pub low : (k : ℕ) → natAbs (getD z k (pos 0)) ≤ mostField
   pub free : (k : ℕ) → getD sup k 0 + bit < 256
 
@@ -123,28 +185,17 @@ module _ {z₀ : List ℤ} {sup₀ : List ℕ} {nx ny : ℕ} {all : Stations} {r
   pub r2-close : r2 ≤ mostSquare
   r2-close = mul-le-mul (ok .close) (ok .close)
 
-  row-in : (j : ℕ) → j < ny → j * nx + nx ≤ nx * ny
-  row-in j h = omega (arith, mul-le-mul-right nx h)
-
-  pub short : length z₀ ≤ mostPoints
-  short = rw (ok .shape .whole) (mul-le-mul (ok .shape .few-columns) (ok .shape .few-rows))
-
-  pub row-place : (j : ℕ) → j < ny → j * nx + nx ≤ mostPoints
-  row-place j h = omega (arith, row-in j h, short, ok .shape .whole)
-
   module _ {j : ℕ} (hj : j < ny) {z : List ℤ} {sup : List ℕ}
-      (pz : Filled (pos 0) (passZ z₀ nx all r2) 0 (j * nx) z₀ z) (ps : Filled 0 (passS sup₀ nx all r2 bit) 0 (j * nx) sup₀ sup)
-      {give : ℕ → ℕ → Sums} {Fine : ℕ → Type 0} {n : ℕ} (fine : (i t : ℕ) → Fine t → Slight (give i t))
-      (near : Near give Fine n all r2 j (all .count)) where
-    pub row-ready : RowReady z sup (j * nx) nx give n bit
-    row-ready =
+      (pz : Filled (pos 0) (passZ z₀ nx all r2) 0 (j * nx) z₀ z) (ps : Filled 0 (passS sup₀ nx all r2 bit) 0 (j * nx) sup₀ sup) where
+    pub row-pass : RowPass z sup nx ny all (radius * radius) bit j
+    row-pass =
         record {
-          few = omega (arith, near .no-more, ok .stations .few);
-          narrow = ok .shape .few-columns;
-          inside = omega (arith, row-in j hj, pz .same-length, ok .shape .whole);
-          short = omega (arith, pz .same-length, short);
+          shape = same-shape (ok .shape) (length z) (pz .same-length ∙ ok .shape .whole);
           both = ps .same-length ∙ ok .both ∙ sym (pz .same-length);
-          slight = λ i t h. fine i t (near .sized t h);
+          row = hj;
+          close = r2-close;
+          stations = ok .stations;
+          known = ok .known;
           low = λ k h. rw (pz .rest k h) (ok .low k);
           free = λ k h. rw (ps .rest k h) (ok .free k);
         }
@@ -160,30 +211,28 @@ module _ {z₀ : List ℤ} {sup₀ : List ℕ} {nx ny : ℕ} {all : Stations} {r
       at-row : k / nx ≡ j
       at-row = ap (λ (m : ℕ). m / nx) split ∙ digits-div j (omega arith)
 
-      same-z : rowZ z give n (j * nx) k ≡ passZ z₀ nx all r2 k
-      unfolding rowZ corrected fieldOf sumsOver
-      same-z =
-          rw (at-column, at-row, ← split) (rw (pz .rest k h, near .same (k - j * nx)))
+      same-z : rowValue z all r2 j (j * nx) k ≡ passZ z₀ nx all r2 k
+      unfolding rowValue corrected fieldOf
+      same-z = rw (at-column, at-row, ← split) (rw (pz .rest k h))
 
-      same-s : rowS sup give n bit (j * nx) k ≡ passS sup₀ nx all r2 bit k
-      unfolding rowS backed fieldOf sumsOver
-      same-s =
-          rw (at-column, at-row, ← split) (rw (ps .rest k h, near .same (k - j * nx)))
+      same-s : rowSupport sup all r2 bit j (j * nx) k ≡ passS sup₀ nx all r2 bit k
+      unfolding rowSupport backed fieldOf
+      same-s = rw (at-column, at-row, ← split) (rw (ps .rest k h))
 
     next-row : j * nx + nx ≡ (j + 1) * nx
     next-row = omega (arith, suc-mul j nx)
 
-    pub next-z : (z' : List ℤ) → Filled (pos 0) (rowZ z give n (j * nx)) (j * nx) (j * nx + nx) z z'
+    pub next-z : (z' : List ℤ) → Filled (pos 0) (rowValue z all r2 j (j * nx)) (j * nx) (j * nx + nx) z z'
         → Filled (pos 0) (passZ z₀ nx all r2) 0 ((j + 1) * nx) z₀ z'
     next-z z' p =
         rw (← next-row)
-        (filled-join (pos 0) (passZ z₀ nx all r2) (rowZ z give n (j * nx)) 0 (j * nx) (j * nx + nx) z₀ z z' (omega arith) (omega arith) same-z pz p)
+        (filled-join (pos 0) (passZ z₀ nx all r2) (rowValue z all r2 j (j * nx)) 0 (j * nx) (j * nx + nx) z₀ z z' (omega arith) (omega arith) same-z pz p)
 
-    pub next-s : (sup' : List ℕ) → Filled 0 (rowS sup give n bit (j * nx)) (j * nx) (j * nx + nx) sup sup'
+    pub next-s : (sup' : List ℕ) → Filled 0 (rowSupport sup all r2 bit j (j * nx)) (j * nx) (j * nx + nx) sup sup'
         → Filled 0 (passS sup₀ nx all r2 bit) 0 ((j + 1) * nx) sup₀ sup'
     next-s sup' p =
         rw (← next-row)
-        (filled-join 0 (passS sup₀ nx all r2 bit) (rowS sup give n bit (j * nx)) 0 (j * nx) (j * nx + nx) sup₀ sup sup' (omega arith) (omega arith) same-s ps p)
+        (filled-join 0 (passS sup₀ nx all r2 bit) (rowSupport sup all r2 bit j (j * nx)) 0 (j * nx) (j * nx + nx) sup₀ sup sup' (omega arith) (omega arith) same-s ps p)
 
   -- all rows
   pub all-z : (z : List ℤ) → Filled (pos 0) (passZ z₀ nx all r2) 0 (ny * nx) z₀ z → z ≡ stored nx ny (corrected z₀ nx all r2)
