@@ -75,6 +75,9 @@ pub record RoomyAlong (lx : List ℤ) (ly : List ℕ) (ld : List ℤ) (lw : List
   pub roomy : Roomy lx ly ld
   pub w-long : length lw ≡ mostStations
 
+pub roomy-along-new : RoomyAlong (replicate mostStations (pos 0)) (replicate mostStations 0) (replicate mostStations (pos 0)) (replicate mostStations (replicate 3 (pos 0)))
+roomy-along-new = record { roomy = roomy-new; w-long = length-replicate mostStations (replicate 3 (pos 0)) }
+
 module _ (all : Stations) (r2 j : ℕ) (bounded : r2 ≤ mostSquare) (ok : Ready all) (lx : List ℤ) (ly : List ℕ) (ld : List ℤ) (lw : List (List ℤ))
     (room : RoomyAlong lx ly ld lw) (n k : ℕ) (turn : k < all .count) (few : n ≤ k) (windy : all .mode ≡ windMode)
     (streak : List ℤ) (streak-is : verdictAt all k ≡ 0 → streak ≡ streakAt (getD (all .numbers) k []) j) where

@@ -3,7 +3,7 @@ use Prim.Native.Nat.{ℕ, _+_, _-_, _*_, _≤_, _<_, _^_}
 use native.Mathlib.Omega.{arith}
 use mathlib.Core.Path.{_≡_, sym, ap, _∙_}
 use mathlib.Core.Bool.{Bool, true, false, cond}
-use mathlib.Core.List.{List}
+use mathlib.Core.List.{List, []}
 use borrow.Author.Tests.{eqb-true, eq-eqb}
 use lib.ListN.{length, getD}
 use lib.IntN.{ℤ, pos, natAbs}
@@ -12,18 +12,19 @@ use mir.Val.{toZ, ofZ}
 use Rattle.integers.specs.Sizes.{size-add}
 use Rattle.integers.specs.Words.{bits-back}
 use Rattle.lists.specs.Filled.{Filled, filled-all}
-use Rattle.scheme.specs.Units.{Field, stored, fieldOf, mostStations, mostScans, mostLimit, R, E}
+use Rattle.scheme.specs.Units.{Field, stored, fieldOf, isNoWind, mostStations, mostScans, mostLimit, windMode, R, E}
 use Rattle.scheme.specs.Correction.{correction}
 use Rattle.scheme.specs.Smoothing.{smoothed}
 use Rattle.scheme.specs.Accepted.{Shaped, same-shape}
 use Rattle.scheme.specs.Accepted as accepted
+use Rattle.scheme.specs.Streaks.{Fair}
 use Rattle.scheme.specs.Most.{mostField}
 use Rattle.scheme.specs.Bounds.{Small, passed, was-accepted, correction-size}
 use Rattle.scheme.specs.Stored.{Same, length-stored, field-stored, stored-same, smoothed-same, stored-all}
 use Rattle.request.specs.declared.Terms.{Terms}
 use Rattle.request.specs.Tables.{planIn}
 use Rattle.scan_station.specs.Judge.{AcceptedHeard, JudgeReady, diffOf, diffAt, verdictAt}
-use Rattle.scan_point.specs.Near.{Stations, stationsWith, xAt, yAt, dAt, Inside, Ready, sumsOver, over-small}
+use Rattle.scan_point.specs.Near.{Stations, stationsWith, windIn, xAt, yAt, windAt, dAt, Inside, Ready, sumsOver, over-small}
 use Rattle.scan_point.specs.Pass.{corrected, backed, PassReady}
 use Rattle.scans.specs.Scanned.{r2In, Scanned}
 
@@ -53,6 +54,8 @@ pub record ScanReady (t : Terms) (guess : List ℤ) (numbers : List (List ℤ)) 
   pub entry : EntryIn t m
   pub bit-is : bit ≡ 2 ^ m
   pub heard : AcceptedHeard t numbers st
+  pub known : t .mode ≤ windMode
+  pub winds : (k : ℕ) → k < t .stations → isNoWind (windIn (getD numbers k [])) ≡ false → Fair (windIn (getD numbers k []))
 
 -- smoothing, if it is on
 unfoldable pub smoothedIf : Terms → List ℤ → List ℤ
@@ -77,9 +80,9 @@ module _ {t : Terms} {guess : List ℤ} {numbers : List (List ℤ)} {m bit : ℕ
   module _ {st' : List ℕ} {ds : List ℤ} (vf : Filled 0 (verdictAt guess z t numbers st (m + 1) (E (planIn t) m)) 0 (t .stations) st st')
       (df : Filled (pos 0) (diffAt guess z t numbers st) 0 (t .stations) ds₀ ds) where
     abbrev all : Stations
-    all = stationsWith (t .stations) numbers st' ds
+    all = stationsWith (t .mode) (t .stations) numbers st' ds
 
-    inside : (k : ℕ) → k < t .stations → getD st' k 0 ≡ 0 → Inside (xAt all k) (yAt all k) (dAt all k)
+    inside : (k : ℕ) → k < t .stations → getD st' k 0 ≡ 0 → Inside (xAt all k) (yAt all k) (dAt all k) (windAt all k)
     unfolding diffOf
     inside k h e =
         let a = eq-eqb _ 0 (sym (vf .new k (omega arith) h) ∙ e) in
@@ -89,6 +92,7 @@ module _ {t : Terms} {guess : List ℤ} {numbers : List (List ℤ)} {m bit : ℕ
           x-small = o .x;
           y-small = o .y;
           d-small = rw (df .new k (omega arith) h, w) (omega (arith, passed (m + 1) (E (planIn t) m) _ (getD st k 0) a, ok .entry .1 .limit-most));
+          wind-fair = ok .winds k h;
         }
 
     stations : Ready all
@@ -101,6 +105,7 @@ module _ {t : Terms} {guess : List ℤ} {numbers : List (List ℤ)} {m bit : ℕ
           both = ok .both;
           close = ok .entry .1 .radius-most;
           stations = stations;
+          known = ok .known;
           low = λ k. omega (arith, ok .low k);
           free = ok .free;
         }

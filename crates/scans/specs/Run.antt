@@ -4,20 +4,23 @@ use native.Mathlib.Omega.{arith}
 use native.Mathlib.Nat.{pow-le-pow-right}
 use native.Mathlib.Numerals.{add-one}
 use mathlib.Core.Path.{_≡_, sym, ap, subst, _∙_}
-use mathlib.Core.List.{List, map}
+use mathlib.Core.Bool.{false}
+use mathlib.Core.List.{List, [], map}
 use lib.ListN.{length, getD}
 use lib.IntN.{ℤ, pos, natAbs}
-use Rattle.lists.specs.Tab.{tab, length-tab, map-tab, tab-getD}
-use Rattle.scheme.specs.Units.{mostStations, mostScans, Request}
+use Rattle.lists.specs.Tab.{tab, length-tab, getD-tab, map-tab, tab-getD}
+use Rattle.scheme.specs.Units.{isNoWind, mostStations, mostScans, Request}
 use Rattle.scheme.specs.Difference.{Row}
 use Rattle.scheme.specs.Scan.{afterWithin, after, atEnd, analysis}
 use Rattle.scheme.specs.Promises.{slices}
-use Rattle.scheme.specs.Accepted.{same-shape}
+use Rattle.scheme.specs.Accepted.{same-shape, noStation, Stationed}
 use Rattle.scheme.specs.Bounds.{first-guess-small, after-within}
+use Rattle.scheme.specs.Streaks.{Fair}
 use Rattle.scheme.specs.Support.{support-small}
 use Rattle.scheme.specs.Stored.{length-stored, stored-all}
 use Rattle.request.specs.declared.Terms.{Terms}
-use Rattle.request.specs.Tables.{stationIn, requestIn}
+use Rattle.request.specs.Tables.{stationOf, stationIn, requestIn}
+use Rattle.scan_point.specs.Near.{windIn}
 use Rattle.scan_start.specs.Reached.{rowIn, Reached}
 use Rattle.scans.specs.Scanned.{Scanned, scan-holds, scan-heard}
 use Rattle.scans.specs.Ready.{mostBefore, ScanReady}
@@ -32,6 +35,13 @@ module _ {t : Terms} {guess : List ℤ} {numbers : List (List ℤ)} {minutes : L
 
   pub sup-long : length sup ≡ t .nx * t .ny
   sup-long = ap length (now .holds .support) ∙ length-stored (t .nx) (t .ny) (after q m .support)
+
+  -- a wind is in range or missing
+  winds : (k : ℕ) → k < t .stations → isNoWind (windIn (getD numbers k [])) ≡ false → Fair (windIn (getD numbers k []))
+  unfolding stationOf
+  winds k h =
+      let e : getD (q .stations) k noStation ≡ stationIn numbers minutes k = getD-tab (t .stations) (stationIn numbers minutes) k noStation h in
+      subst Stationed e (now .sound .stations k (omega (arith, h, length-tab (t .stations) (stationIn numbers minutes)))) .wind
 
   -- a further scan
   module _ (turn : m < t .scans) where
@@ -56,6 +66,8 @@ module _ {t : Terms} {guess : List ℤ} {numbers : List (List ℤ)} {minutes : L
           entry = (few-scans, now .sound .plan .scan m turn);
           bit-is = bit-is;
           heard = now .heard;
+          known = now .sound .plan .known;
+          winds = winds;
         }
       where
         low : (k : ℕ) → natAbs (getD z k (pos 0)) ≤ mostBefore

@@ -39,8 +39,8 @@ r2In t m = R (planIn t) m * R (planIn t) m
 pub record Scanned (t : Terms) (guess : List ℤ) (numbers : List (List ℤ)) (m : ℕ) (z : List ℤ) (sup st : List ℕ) (z' : List ℤ) (sup' st' : List ℕ) (ds : List ℤ) : Type 0 where
   pub verdicts : st' ≡ tab (t .stations) (verdictAt guess z t numbers st (m + 1) (E (planIn t) m))
   pub differences : (k : ℕ) → k < t .stations → getD ds k (pos 0) ≡ diffAt guess z t numbers st k
-  pub supports : sup' ≡ stored (t .nx) (t .ny) (backed sup (t .nx) (stationsWith (t .stations) numbers st' ds) (r2In t m) (2 ^ m))
-  pub values : (f : Field ℤ) → Same (t .nx) (t .ny) (corrected z (t .nx) (stationsWith (t .stations) numbers st' ds) (r2In t m)) f
+  pub supports : sup' ≡ stored (t .nx) (t .ny) (backed sup (t .nx) (stationsWith (t .mode) (t .stations) numbers st' ds) (r2In t m) (2 ^ m))
+  pub values : (f : Field ℤ) → Same (t .nx) (t .ny) (corrected z (t .nx) (stationsWith (t .mode) (t .stations) numbers st' ds) (r2In t m)) f
       → z' ≡ stored (t .nx) (t .ny) (cond (t .smooth) (smoothed (t .nx) (t .ny) f) f)
 
 -- ---- the tie
@@ -52,7 +52,7 @@ module _ (t : Terms) (guess : List ℤ) (numbers : List (List ℤ)) (minutes : L
   q = requestIn t guess numbers minutes
 
   abbrev all : Stations
-  all = stationsWith (t .stations) numbers st' ds
+  all = stationsWith (t .mode) (t .stations) numbers st' ds
 
   abbrev D : ℕ → ℤ
   D k = differences q s (stationIn numbers minutes k)
@@ -102,7 +102,7 @@ module _ (t : Terms) (guess : List ℤ) (numbers : List (List ℤ)) (minutes : L
   unfolding diffOf
   d-is k h e = did .differences k h ∙ rw (still k h e) (same-difference k)
 
-  same-share : (i j k : ℕ) → k < t .stations → shareAt all (r2In t m) i j k ≡ share (R (planIn t) m) (differences q s) i j (rowIn numbers minutes st' k)
+  same-share : (i j k : ℕ) → k < t .stations → shareAt all (r2In t m) i j k ≡ share (t .mode) (R (planIn t) m) (differences q s) i j (rowIn numbers minutes st' k)
   unfolding shareAt share stationOf
   same-share i j k h = ⊎-elim (λ e. rw (d-is k h e)) (λ e. rw e) (true-or-false (isAccepted (getD st' k 0)))
 
@@ -110,8 +110,8 @@ module _ (t : Terms) (guess : List ℤ) (numbers : List (List ℤ)) (minutes : L
   unfolding sumsOver sumsAt
   same-sums i j =
       upTo-same nothing plus (t .stations) _ _ (same-share i j)
-      ∙ sym (ap (total nothing plus (share (R (planIn t) m) (differences q s) i j)) same-rows
-      ∙ total-tab nothing plus nothing-plus plus-nothing plus-assoc (share (R (planIn t) m) (differences q s) i j) (t .stations) (rowIn numbers minutes st'))
+      ∙ sym (ap (total nothing plus (share (t .mode) (R (planIn t) m) (differences q s) i j)) same-rows
+      ∙ total-tab nothing plus nothing-plus plus-nothing plus-assoc (share (t .mode) (R (planIn t) m) (differences q s) i j) (t .stations) (rowIn numbers minutes st'))
 
   same-corrected : Same (t .nx) (t .ny) (corrected z (t .nx) all (r2In t m)) (paper.corrected q m s)
   unfolding corrected paper.corrected
