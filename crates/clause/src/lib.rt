@@ -2,7 +2,7 @@
 // columns once, and hand the request on; nothing is written before it is accepted. They answer refusal·65,536 + place.
 ghost use Rattle.scheme.specs.Units.{asking};
 ghost use Rattle.scheme.specs.Refusals.{windowAt};
-ghost use Rattle.scheme.specs.Promises.{sixColumns, slices, Analyses, tile, Queries, fourColumns, QueriesEach, ReadsKind, ReadsValue, Summarises};
+ghost use Rattle.scheme.specs.Promises.{eightColumns, slices, Analyses, tile, Queries, fourColumns, QueriesEach, ReadsKind, ReadsValue, Summarises};
 use request::Window;
 use scheme::Summary;
 
@@ -17,17 +17,20 @@ pub extern "C" fn sosnyavik_analyse(
     observed: &[u32],
     from: &[u32],
     until: &[u32],
+    wind_u: &[i32],
+    wind_v: &[i32],
     count: u32,
     radius: &[i32],
     limit: &[i32],
     smooth: bool,
+    mode: u32,
     time: u32,
     age: u32,
     grid: &mut [i32],
     support: &mut [u8],
     verdict: &mut [u8],
 ) -> u32
-    ensures { λ r. ⌜ Analyses (asking nx ny (now (guess .entry)) (sixColumns (now (x .entry)) (now (y .entry)) (now (value .entry)) (now (observed .entry)) (now (from .entry)) (now (until .entry))) count (now (radius .entry)) (now (limit .entry)) smooth time age) (slices (now (grid .entry)) (now (support .entry)) (now (verdict .entry))) r (slices (now (grid .exit)) (now (support .exit)) (now (verdict .exit))) ⌝ }
+    ensures { λ r. ⌜ Analyses (asking nx ny (now (guess .entry)) (eightColumns (now (x .entry)) (now (y .entry)) (now (value .entry)) (now (observed .entry)) (now (from .entry)) (now (until .entry)) (now («wind_u» .entry)) (now («wind_v» .entry))) count (now (radius .entry)) (now (limit .entry)) smooth mode time age) (slices (now (grid .entry)) (now (support .entry)) (now (verdict .entry))) r (slices (now (grid .exit)) (now (support .exit)) (now (verdict .exit))) ⌝ }
 {
     let l = refusal_shapes::lengths_of(
         nx,
@@ -39,15 +42,18 @@ pub extern "C" fn sosnyavik_analyse(
         observed,
         from,
         until,
+        wind_u,
+        wind_v,
         count,
         radius,
         limit,
+        mode,
     );
     let refused = refusal::of_lengths(l, grid.len(), support.len(), verdict.len());
     if refused != 0 {
         return refused;
     }
-    let mut numbers = [[0i32; 3]; 512];
+    let mut numbers = [[0i32; 5]; 512];
     let mut minutes = [[0u32; 3]; 512];
     request::load(
         &mut numbers,
@@ -58,8 +64,21 @@ pub extern "C" fn sosnyavik_analyse(
         observed,
         from,
         until,
+        wind_u,
+        wind_v,
     );
-    let t = request::terms_of(nx, ny, x.len(), count, radius, limit, smooth, time, age);
+    let t = request::terms_of(
+        nx,
+        ny,
+        x.len(),
+        count,
+        radius,
+        limit,
+        smooth,
+        mode,
+        time,
+        age,
+    );
     analysis::settled(t, guess, &numbers, &minutes, grid, support, verdict)
 }
 
@@ -78,16 +97,19 @@ pub extern "C" fn sosnyavik_window(
     observed: &[u32],
     from: &[u32],
     until: &[u32],
+    wind_u: &[i32],
+    wind_v: &[i32],
     count: u32,
     radius: &[i32],
     limit: &[i32],
     smooth: bool,
+    mode: u32,
     time: u32,
     age: u32,
     grid: &mut [i32],
     support: &mut [u8],
 ) -> u32
-    ensures { λ r. ⌜ Queries (asking nx ny (now (guess .entry)) (sixColumns (now (x .entry)) (now (y .entry)) (now (value .entry)) (now (observed .entry)) (now (from .entry)) (now (until .entry))) count (now (radius .entry)) (now (limit .entry)) smooth time age) (windowAt left right top bottom) (tile (now (grid .entry)) (now (support .entry))) r (tile (now (grid .exit)) (now (support .exit))) ⌝ }
+    ensures { λ r. ⌜ Queries (asking nx ny (now (guess .entry)) (eightColumns (now (x .entry)) (now (y .entry)) (now (value .entry)) (now (observed .entry)) (now (from .entry)) (now (until .entry)) (now («wind_u» .entry)) (now («wind_v» .entry))) count (now (radius .entry)) (now (limit .entry)) smooth mode time age) (windowAt left right top bottom) (tile (now (grid .entry)) (now (support .entry))) r (tile (now (grid .exit)) (now (support .exit))) ⌝ }
 {
     let l = refusal_shapes::lengths_of(
         nx,
@@ -99,9 +121,12 @@ pub extern "C" fn sosnyavik_window(
         observed,
         from,
         until,
+        wind_u,
+        wind_v,
         count,
         radius,
         limit,
+        mode,
     );
     let w = Window {
         left: left as usize,
@@ -113,7 +138,7 @@ pub extern "C" fn sosnyavik_window(
     if refused != 0 {
         return refused;
     }
-    let mut numbers = [[0i32; 3]; 512];
+    let mut numbers = [[0i32; 5]; 512];
     let mut minutes = [[0u32; 3]; 512];
     request::load(
         &mut numbers,
@@ -124,8 +149,21 @@ pub extern "C" fn sosnyavik_window(
         observed,
         from,
         until,
+        wind_u,
+        wind_v,
     );
-    let t = request::terms_of(nx, ny, x.len(), count, radius, limit, smooth, time, age);
+    let t = request::terms_of(
+        nx,
+        ny,
+        x.len(),
+        count,
+        radius,
+        limit,
+        smooth,
+        mode,
+        time,
+        age,
+    );
     window::settled(t, w, guess, &numbers, &minutes, grid, support)
 }
 
@@ -144,16 +182,19 @@ pub extern "C" fn sosnyavik_windows(
     observed: &[u32],
     from: &[u32],
     until: &[u32],
+    wind_u: &[i32],
+    wind_v: &[i32],
     count: u32,
     radius: &[i32],
     limit: &[i32],
     smooth: bool,
+    mode: u32,
     time: u32,
     age: u32,
     grid: &mut [i32],
     support: &mut [u8],
 ) -> u32
-    ensures { λ r. ⌜ QueriesEach (asking nx ny (now (guess .entry)) (sixColumns (now (x .entry)) (now (y .entry)) (now (value .entry)) (now (observed .entry)) (now (from .entry)) (now (until .entry))) count (now (radius .entry)) (now (limit .entry)) smooth time age) (fourColumns (now (left .entry)) (now (right .entry)) (now (top .entry)) (now (bottom .entry))) (tile (now (grid .entry)) (now (support .entry))) r (tile (now (grid .exit)) (now (support .exit))) ⌝ }
+    ensures { λ r. ⌜ QueriesEach (asking nx ny (now (guess .entry)) (eightColumns (now (x .entry)) (now (y .entry)) (now (value .entry)) (now (observed .entry)) (now (from .entry)) (now (until .entry)) (now («wind_u» .entry)) (now («wind_v» .entry))) count (now (radius .entry)) (now (limit .entry)) smooth mode time age) (fourColumns (now (left .entry)) (now (right .entry)) (now (top .entry)) (now (bottom .entry))) (tile (now (grid .entry)) (now (support .entry))) r (tile (now (grid .exit)) (now (support .exit))) ⌝ }
 {
     let l = refusal_shapes::lengths_of(
         nx,
@@ -165,9 +206,12 @@ pub extern "C" fn sosnyavik_windows(
         observed,
         from,
         until,
+        wind_u,
+        wind_v,
         count,
         radius,
         limit,
+        mode,
     );
     let unequal = refusal::of_screen_columns(l, left.len(), right.len(), top.len(), bottom.len());
     if unequal != 0 {
@@ -178,7 +222,7 @@ pub extern "C" fn sosnyavik_windows(
     if refused != 0 {
         return refused;
     }
-    let mut numbers = [[0i32; 3]; 512];
+    let mut numbers = [[0i32; 5]; 512];
     let mut minutes = [[0u32; 3]; 512];
     request::load(
         &mut numbers,
@@ -189,8 +233,21 @@ pub extern "C" fn sosnyavik_windows(
         observed,
         from,
         until,
+        wind_u,
+        wind_v,
     );
-    let t = request::terms_of(nx, ny, x.len(), count, radius, limit, smooth, time, age);
+    let t = request::terms_of(
+        nx,
+        ny,
+        x.len(),
+        count,
+        radius,
+        limit,
+        smooth,
+        mode,
+        time,
+        age,
+    );
     window_screen::settled(t, screen, guess, &numbers, &minutes, grid, support)
 }
 

@@ -9,7 +9,7 @@ use lib.ListN.{length, take, drop, length-append, length-map}
 use lib.Seq.{sets-eq, length-take-le}
 use Rattle.lists.specs.First.{Found, nowhere, at}
 use Rattle.lists.specs.Members.{All, none, more}
-use Rattle.scheme.specs.Units.{Station, mostScans, Request}
+use Rattle.scheme.specs.Units.{Station, mostScans, windMode, Request}
 use Rattle.scheme.specs.Refusals.{Refusal, accepted, refused, numberOf, placeOf, asOne, unlessRefused, inOrder, refusedWith, refusedAt, badScans, fromFive}
 use Rattle.scheme.specs.Scan.{Analysis, analysis}
 use Rattle.scheme.specs.Text.{mostBytes, firstTwo, analysisText, replyText}
@@ -111,6 +111,7 @@ module _ (q : Request) (formed : Formed q) where
         le-leb (q .plan .scans) mostScans (formed .scans-few),
         le-ltb (length (q .plan .radius)) (q .plan .scans) (formed .radii),
         le-ltb (length (q .plan .limit)) (q .plan .scans) (formed .limits),
+        le-ltb windMode (q .plan .mode) (formed .known),
       )
 
   abbrev f : Refusal

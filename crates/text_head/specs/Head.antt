@@ -6,7 +6,7 @@ use mathlib.Core.List.{List}
 use lib.Dec.{eqb}
 use lib.ListN.{drop}
 use lib.IntN.{ℤ}
-use Rattle.scheme.specs.Units.{leastSide, mostSide, mostScans, Request}
+use Rattle.scheme.specs.Units.{leastSide, mostSide, mostScans, roundMode, Request}
 use Rattle.scheme.specs.Text.{defaultAge}
 use Rattle.scheme.specs.Text.Reader.{fails, _>>=_, gives, _or_}
 use Rattle.scheme.specs.Text.Lines.{gridLine}
@@ -52,4 +52,4 @@ Heads s (NotHead k) = (next : (nx ny time age : ℕ) → Bool → (scans : ℕ) 
 -- a request whose head was read, as terms
 abbrev pub termsRead : Head → ℕ → (radius limit : List ℤ) → Terms
 termsRead h n radius limit =
-    record { nx = h .nx; ny = h .ny; stations = n; scans = h .scans; radius = radius; limit = limit; smooth = h .smooth; time = h .time; age = h .age }
+    record { nx = h .nx; ny = h .ny; stations = n; scans = h .scans; radius = radius; limit = limit; smooth = h .smooth; mode = roundMode; time = h .time; age = h .age }

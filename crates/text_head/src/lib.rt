@@ -86,7 +86,7 @@ pub fn head_lines(s: &[u8]) -> HeadRead
     HeadRead::Value(h)
 }
 
-// A request whose head was read, as terms.
+// A request whose head was read, as terms. A text's weights are round.
 pub fn terms_read(h: Head, stations: u32, radius: [i32; 6], limit: [i32; 6]) -> Terms
     ensures { λ t. ⌜ t ≡ termsRead h stations radius limit ⌝ }
 {
@@ -98,6 +98,7 @@ pub fn terms_read(h: Head, stations: u32, radius: [i32; 6], limit: [i32; 6]) -> 
         radius,
         limit,
         smooth: h.smooth,
+        mode: request::ROUND,
         time: h.time,
         age: h.age,
     }

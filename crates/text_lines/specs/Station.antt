@@ -6,7 +6,7 @@ use mathlib.Core.List.{List, [], _∷_}
 use lib.ListN.{length, drop, getD, set, length-set}
 use lib.Seq.{getD-set-same, getD-set-other}
 use lib.IntN.{ℤ}
-use Rattle.scheme.specs.Units.{mostStations, Station}
+use Rattle.scheme.specs.Units.{missingMark, mostStations, Station}
 use Rattle.scheme.specs.Text.Reader.{fails, reads, onward, _>>=_, _>>_, gives, _before_}
 use Rattle.scheme.specs.Text.Pieces.{Piece, ascii, word, comma, lineFeed, unsigned, signed}
 use Rattle.scheme.specs.Text.Lines.{stationLine, observation, end}
@@ -21,7 +21,7 @@ stationNumbers = do
   x ← signed before comma
   y ← signed before comma
   value ← observation before comma
-  gives (x ∷ y ∷ value ∷ [])
+  gives (x ∷ y ∷ value ∷ missingMark ∷ missingMark ∷ [])
 
 unfoldable pub stationMinutes : Piece (List ℕ)
 stationMinutes = do

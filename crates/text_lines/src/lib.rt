@@ -103,7 +103,7 @@ fn end_at(s: &[u8], at: usize) -> UnsignedRead
     }
 }
 
-// x, y and value of a station, into row k.
+// x, y and value of a station, into row k. A text has no winds.
 fn numbers_at(s: &[u8], at: usize, k: usize, numbers: &mut [[i32; 5]; 512]) -> WordRead
     requires { ⌜ (k < mostStations) × (length (now numbers) ≡ mostStations) ⌝ }
     ensures { λ r. ⌜ RowIs stationNumbers (now (s .entry)) at k (now (numbers .entry)) (now (numbers .exit)) r ⌝ }
@@ -121,7 +121,7 @@ fn numbers_at(s: &[u8], at: usize, k: usize, numbers: &mut [[i32; 5]; 512]) -> W
     else {
         return WordRead::NotInForm;
     };
-    let row = [x, y, value];
+    let row = [x, y, value, request::MISSING, request::MISSING];
     numbers[k] = row;
     WordRead::At(next)
 }

@@ -55,6 +55,7 @@ module _ (guess radius limit : List ℤ) (numbers : List (List ℤ)) (minutes : 
               record {
                 scans = refl;
                 smooth = refl;
+                mode = refl;
                 radii = λ m l. sym (getD-take (h .scans) radius m (pos 0) l);
                 limits = λ m l. sym (getD-take (h .scans) limit m (pos 0) l);
               };
@@ -78,6 +79,7 @@ module _ (guess radius limit : List ℤ) (numbers : List (List ℤ)) (minutes : 
           scans-few = limits .scans-few;
           radii = omega (arith, limits .scans-few);
           limits = omega (arith, limits .scans-few);
+          known = omega arith;
         }
 
     -- and so does the request itself
@@ -90,6 +92,7 @@ module _ (guess radius limit : List ℤ) (numbers : List (List ℤ)) (minutes : 
           scans-few = formed .scans-few;
           radii = omega (arith, length-take-le (h .scans) radius (formed .radii));
           limits = omega (arith, length-take-le (h .scans) limit (formed .limits));
+          known = omega arith;
         }
 
     same-reply : replyText (requestRead guess radius limit numbers minutes h n) ≡ replyText (requestIn (termsRead h n radius limit) front numbers minutes)

@@ -39,7 +39,7 @@ fn reply_to_text(text: &[u8], out: &mut [u8]) -> usize
     let mut guess = [0i32; 4096];
     let mut radius = [0i32; 6];
     let mut limit = [0i32; 6];
-    let mut numbers = [[0i32; 3]; 512];
+    let mut numbers = [[0i32; 5]; 512];
     let mut minutes = [[0u32; 3]; 512];
     let read = text_request::read_request(
         text,

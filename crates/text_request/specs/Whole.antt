@@ -9,7 +9,7 @@ use lib.ListN.{length, take, drop, getD, drop-of-length-le}
 use lib.Seq.{drop-cons, length-take-le, getD-take}
 use lib.IntN.{ℤ, pos}
 use Rattle.lists.specs.Tab.{tab, is-tab, map-tab}
-use Rattle.scheme.specs.Units.{mostStations, Station, mostScans, Request, asking}
+use Rattle.scheme.specs.Units.{mostStations, roundMode, Station, mostScans, Request, asking}
 use Rattle.scheme.specs.Text.Reader.{fails, reads, onward, _>>=_, _>>_, gives}
 use Rattle.scheme.specs.Text.{requestLines}
 use Rattle.scheme.specs.Text.Lines.{Entry, scanLine, rowLine, stationLine}
@@ -29,7 +29,7 @@ use Rattle.text_request.specs.Told.{Read, linesTold, entryAt, ScansAre, 
 -- what all lines say
 abbrev gathered : (nx ny time age : ℕ) → Bool → (scans : ℕ) → List Entry → List ℤ → List Station → Request
 gathered nx ny time age smooth scans plan guess stations =
-    asking nx ny guess stations scans (map (λ t. t .radius) plan) (map (λ t. t .limit) plan) smooth time age
+    asking nx ny guess stations scans (map (λ t. t .radius) plan) (map (λ t. t .limit) plan) smooth roundMode time age
 
 -- the scans and the first guess, and then what they call for
 abbrev gridThen : (nx ny scans : ℕ) → (List Entry → List ℤ → Text Request) → Text Request
@@ -93,7 +93,7 @@ pub record StationsAre (s : List ℕ) (at : ℕ) (h : Head) (numbers : List (Lis
 -- the request, its lists the fronts of what was lent
 abbrev pub requestRead : List ℤ → List ℤ → List ℤ → List (List ℤ) → List (List ℕ) → Head → ℕ → Request
 requestRead guess radius limit numbers minutes h n =
-    asking (h .nx) (h .ny) (take (h .ny * h .nx) guess) (tab n (stationIn numbers minutes)) (h .scans) (take (h .scans) radius) (take (h .scans) limit) (h .smooth) (h .time) (h .age)
+    asking (h .nx) (h .ny) (take (h .ny * h .nx) guess) (tab n (stationIn numbers minutes)) (h .scans) (take (h .scans) radius) (take (h .scans) limit) (h .smooth) roundMode (h .time) (h .age)
 
 abbrev pub requestTold : List ℤ → List ℤ → List ℤ → List (List ℤ) → List (List ℕ) → RequestRead → Read Request
 requestTold guess radius limit numbers minutes (RequestValue h n) = reads (requestRead guess radius limit numbers minutes h n) (afterAll h n, [])

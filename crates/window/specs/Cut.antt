@@ -110,6 +110,7 @@ cutTerms t wide high stations =
       radius = t .radius;
       limit = t .limit;
       smooth = t .smooth;
+      mode = t .mode;
       time = t .time;
       age = t .age;
     }

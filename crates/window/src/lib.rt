@@ -24,6 +24,7 @@ fn cut_terms(t: request::Terms, wide: usize, high: usize, stations: usize) -> re
         radius,
         limit,
         smooth: t.smooth,
+        mode: t.mode,
         time: t.time,
         age: t.age,
     }
@@ -63,7 +64,7 @@ pub fn work(
     let high = c.bottom - c.top + 1;
     let points = wide * high;
     window_cut::part_of_values(&mut part[..points], guess, t.nx, c.left, c.top, wide, high);
-    let mut kept = [[0i32; 3]; 512];
+    let mut kept = [[0i32; 5]; 512];
     let mut times = [[0u32; 3]; 512];
     let stations = window_cut::keep_stations(&mut kept, &mut times, t, c, numbers, minutes);
     window_tile::whole_at_each(

@@ -4,7 +4,7 @@ use mathlib.Core.Path.{_≡_, refl}
 use lib.ListN.{length}
 use Rattle.scheme.specs.Units.{Call, asking}
 use Rattle.scheme.specs.Refusals.{inOrder}
-use Rattle.scheme.specs.Promises.{sixColumns, slices}
+use Rattle.scheme.specs.Promises.{eightColumns, slices}
 use Rattle.refusal_shapes.specs.Tested.{lengthsOf}
 use Rattle.refusal.specs.Coded.{Coded, refuses}
 use Rattle.refusal.specs.Lengths.{analysisLengths, Passed, analysis-passed, analysis-refused}
@@ -16,7 +16,7 @@ use Rattle.clause.proofs.sosnyavik_analyse.Tie as tie
 abbrev call : tie.Start → Call
 call s =
     let a = s .args in
-    asking (a .nx) (a .ny) (a .guess .now) (sixColumns (a .x .now) (a .y .now) (a .value .now) (a .observed .now) (a .from .now) (a .until .now)) (a .count) (a .radius .now) (a .limit .now) (a .smooth) (a .time) (a .age)
+    asking (a .nx) (a .ny) (a .guess .now) (eightColumns (a .x .now) (a .y .now) (a .value .now) (a .observed .now) (a .from .now) (a .until .now) (a .wind-u .now) (a .wind-v .now)) (a .count) (a .radius .now) (a .limit .now) (a .smooth) (a .mode) (a .time) (a .age)
 
 lengths-of-requires : tie.Need-lengths-of-requires
 lengths-of-requires c κs = search needs

@@ -4,7 +4,7 @@ use mathlib.Core.Path.{_≡_, refl}
 use lib.ListN.{length}
 use Rattle.scheme.specs.Units.{Call, asking}
 use Rattle.scheme.specs.Refusals.{inOrder, Window, windowAt}
-use Rattle.scheme.specs.Promises.{sixColumns, tile}
+use Rattle.scheme.specs.Promises.{eightColumns, tile}
 use Rattle.refusal_shapes.specs.Tested.{lengthsOf}
 use Rattle.refusal.specs.Coded.{Coded, refuses}
 use Rattle.refusal.specs.Lengths.{windowLengths, WindowPassed, window-passed, window-refused}
@@ -16,7 +16,7 @@ use Rattle.clause.proofs.sosnyavik_window.Tie as tie
 abbrev call : tie.Start → Call
 call s =
     let a = s .args in
-    asking (a .nx) (a .ny) (a .guess .now) (sixColumns (a .x .now) (a .y .now) (a .value .now) (a .observed .now) (a .from .now) (a .until .now)) (a .count) (a .radius .now) (a .limit .now) (a .smooth) (a .time) (a .age)
+    asking (a .nx) (a .ny) (a .guess .now) (eightColumns (a .x .now) (a .y .now) (a .value .now) (a .observed .now) (a .from .now) (a .until .now) (a .wind-u .now) (a .wind-v .now)) (a .count) (a .radius .now) (a .limit .now) (a .smooth) (a .mode) (a .time) (a .age)
 
 abbrev window : tie.Start → Window
 window s = let a = s .args in windowAt (a .left) (a .right) (a .top) (a .bottom)

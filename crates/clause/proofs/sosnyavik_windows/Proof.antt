@@ -8,7 +8,7 @@ use lib.ListN.{length}
 use Rattle.lists.specs.Tab.{tab-tells}
 use Rattle.scheme.specs.Units.{Call, asking}
 use Rattle.scheme.specs.Refusals.{inOrder, Screen, windowsOf}
-use Rattle.scheme.specs.Promises.{sixColumns, fourColumns, tile}
+use Rattle.scheme.specs.Promises.{eightColumns, fourColumns, tile}
 use Rattle.scheme.specs.Accepted.{Shaped, EqualScreen}
 use Rattle.request.specs.Tables.{windowsIn}
 use Rattle.refusal_shapes.specs.Tested.{lengthsOf}
@@ -22,7 +22,7 @@ use Rattle.clause.proofs.sosnyavik_windows.Tie as tie
 abbrev call : tie.Start → Call
 call s =
     let a = s .args in
-    asking (a .nx) (a .ny) (a .guess .now) (sixColumns (a .x .now) (a .y .now) (a .value .now) (a .observed .now) (a .from .now) (a .until .now)) (a .count) (a .radius .now) (a .limit .now) (a .smooth) (a .time) (a .age)
+    asking (a .nx) (a .ny) (a .guess .now) (eightColumns (a .x .now) (a .y .now) (a .value .now) (a .observed .now) (a .from .now) (a .until .now) (a .wind-u .now) (a .wind-v .now)) (a .count) (a .radius .now) (a .limit .now) (a .smooth) (a .mode) (a .time) (a .age)
 
 abbrev screen : tie.Start → Screen
 screen s = let a = s .args in fourColumns (a .left .now) (a .right .now) (a .top .now) (a .bottom .now)

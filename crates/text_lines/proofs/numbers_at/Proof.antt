@@ -7,6 +7,7 @@ use lib.ListN.{drop}
 use mir.Syntax.{w32}
 use mir.Val.{SFits}
 use mir.Facts.{toZ-ofZ}
+use Rattle.scheme.specs.Units.{missingMark}
 use Rattle.scheme.specs.Text.Reader.{reads, _before_}
 use Rattle.scheme.specs.Text.Pieces.{ascii, word, comma, signed}
 use Rattle.text_pieces.specs.Told.{wordTold, signedTold, before-told}
@@ -132,7 +133,7 @@ returns-5 c =
     let y : SFits w32 (m .y .given .0 .0) = record { sfits = n .before .before .before .before .known-told3 .given .0 .1 } in
     let v : SFits w32 (n .value .given .0 .0) = record { sfits = c .known-told4 .given .0 .1 } in
     rw (toZ-ofZ x, toZ-ofZ y, toZ-ofZ v)
-    (row-read stationNumbers (text k) (s .args .at) (s .args .k) (s .args .numbers .now) (s .pre .1) (l .x .given .0 .0 ∷ m .y .given .0 .0 ∷ n .value .given .0 .0 ∷ []) (n .value .given .0 .1 .0) (s .pre .0)
+    (row-read stationNumbers (text k) (s .args .at) (s .args .k) (s .args .numbers .now) (s .pre .1) (l .x .given .0 .0 ∷ m .y .given .0 .0 ∷ n .value .given .0 .0 ∷ missingMark ∷ missingMark ∷ []) (n .value .given .0 .1 .0) (s .pre .0)
     (rw (
       key-read k,
       x-read l,
