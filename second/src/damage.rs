@@ -2,7 +2,7 @@
 //! and queries broken on purpose. `damage_screen` breaks screens, `damage_text`
 //! texts.
 
-use crate::call::{Call, Query, Window};
+use crate::call::{Call, Query, Window, Winds};
 use crate::rng::Rng;
 use crate::units::{BORDER, MISSING, MOST_STATIONS, NO_END};
 
@@ -101,6 +101,8 @@ fn set_rows(call: &mut Call, rows: usize) {
     resize(&mut call.observed, rows, call.time);
     resize(&mut call.from, rows, 0);
     resize(&mut call.until, rows, NO_END);
+    let winds = call.winds.iter_mut().flat_map(Winds::columns_mut);
+    winds.for_each(|column| resize(column, rows, MISSING));
     call.verdict_len = rows;
 }
 

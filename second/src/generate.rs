@@ -231,7 +231,7 @@ pub fn guess_at(call: &Call, x: i32, y: i32) -> i32 {
     }
 }
 
-/// Adds a row that is in service for good and fresh.
+/// Adds a row that is in service for good and fresh, without a wind.
 pub fn push_station(call: &mut Call, x: i32, y: i32, value: i32) {
     call.x.push(x);
     call.y.push(y);
@@ -239,6 +239,7 @@ pub fn push_station(call: &mut Call, x: i32, y: i32, value: i32) {
     call.observed.push(call.time);
     call.from.push(0);
     call.until.push(NO_END);
+    call.winds.iter_mut().for_each(|winds| winds.push((MISSING, MISSING)));
 }
 
 /// The first guess at the place and a deviation of about the limits' size.

@@ -330,13 +330,8 @@ fn feeding(call: &Call, scan: usize, verdict: &[u8], grid: &mut [i32], support: 
     let shape = call.shape();
     for point in 0..shape.points() {
         let rows = (0..verdict.len()).filter(|row| verdict[*row] == 0);
-        let accepted: Vec<Accepted> = rows
-            .map(|row| Accepted {
-                x: call.x[row].into(),
-                y: call.y[row].into(),
-                difference: difference(call, grid, row),
-            })
-            .collect();
+        let accepted: Vec<Accepted> =
+            rows.map(|row| Accepted::new(call, row, difference(call, grid, row))).collect();
         let (i, j) = (point % shape.nx, point / shape.nx);
         let (weights, weighted) = sums(i, j, call.radius[scan], WEIGHT_SCALE, &accepted);
         if weights > 0 {

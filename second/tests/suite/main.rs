@@ -24,6 +24,7 @@ mod trial;
 mod weight_sorts;
 mod weights;
 mod windows;
+mod winds;
 
 use second::call::Call;
 use second::text::parse;
