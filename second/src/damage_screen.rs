@@ -34,7 +34,7 @@ pub fn break_screen(
             if rng.one_in(3) {
                 break_windows_too(rng, &call, &mut screen);
             }
-            break_call(rng, &mut call, number);
+            break_call(rng, &mut call, number, way);
         }
     }
     (call, screen)
