@@ -3,7 +3,7 @@
 //! texts.
 
 use crate::call::{Call, Query, Window, Winds};
-use crate::damage_winds::{break_by_wind, REFUSALS};
+use crate::damage_winds::break_by_wind;
 use crate::rng::Rng;
 use crate::units::{BORDER, MISSING, MOST_STATIONS, NO_END};
 
@@ -11,12 +11,10 @@ const SIDES: [u32; 4] = [0, 1, 65, u32::MAX];
 const BAD_VALUES: [i32; 4] = [1_000_001, -1_000_001, i32::MAX, i32::MIN + 1];
 const EDGE_VALUES: [i32; 4] = [1_000_000, -1_000_000, MISSING, 32_767];
 
-/// Breaks a call so that it earns a refusal, sometimes in a second way too. What
-/// winds and modes can earn is earned by them every other time; their ways come
-/// in turn and have second faults of their own.
-pub fn break_call(rng: &mut Rng, call: &mut Call, number: u32, way: u64) {
-    if REFUSALS.contains(&number) && way % 2 == 1 {
-        break_by_wind(rng, call, number, way / 2);
+/// Breaks a call so that it earns a refusal, sometimes in a second way too. Winds
+/// and modes have their turns, and second faults of their own.
+pub fn break_call(rng: &mut Rng, call: &mut Call, number: u32, turn: u64) {
+    if break_by_wind(rng, call, number, turn) {
         return;
     }
     break_one(rng, call, number);

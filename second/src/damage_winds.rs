@@ -7,20 +7,21 @@ use crate::rng::Rng;
 use crate::units::{BORDER, MISSING, MOST_STATIONS, WIND};
 use crate::verdicts::{before_first_scan, ACCEPTED};
 
-/// The numbers of the refusals that winds and modes can earn.
-pub const REFUSALS: [u32; 3] = [4, 5, 8];
-
-/// Breaks the winds or the mode of a good call, so that it earns a refusal.
-pub fn break_by_wind(rng: &mut Rng, call: &mut Call, number: u32, way: u64) {
-    match number {
-        4 => break_columns(rng, call, way),
-        5 => break_mode(rng, call, way),
-        _ => break_rows(rng, call, way),
+/// Breaks the winds or the mode of a good call, so that it earns a refusal that
+/// these can earn: 4 and 5 in every other turn, and 8, which has the most ways, in
+/// two of three. Says whether it did.
+pub fn break_by_wind(rng: &mut Rng, call: &mut Call, number: u32, turn: u64) -> bool {
+    match (number, turn % 2, turn % 3) {
+        (4, 1, _) => break_columns(rng, call, turn / 2),
+        (5, 1, _) => break_mode(rng, call, turn / 2),
+        (8, _, third @ 1..) => break_rows(rng, call, turn / 3 * 2 + third - 1),
+        _ => return false,
     }
+    true
 }
 
-/// One wind column or both one short, one long, empty, or too long by far; in
-/// every third request the mode is at fault too, which comes later.
+/// One wind column or both one short, one long, empty, or too long by far; in a
+/// third of the requests the mode is at fault too, which is tested later.
 fn break_columns(rng: &mut Rng, call: &mut Call, way: u64) {
     let rows = call.x.len();
     let over = MOST_STATIONS + 1 + rng.pick(&[0, 0, 88]);
@@ -43,14 +44,17 @@ fn break_columns(rng: &mut Rng, call: &mut Call, way: u64) {
     let columns = call.winds_mut().columns_mut();
     let broken = columns.into_iter().enumerate().filter(|(at, _)| column.is_none_or(|c| c == *at));
     broken.for_each(|(_, column)| column.resize(length, 0));
-    if way.is_multiple_of(3) {
+    if (way + way / 12).is_multiple_of(3) {
         call.mode = bad_mode(rng);
     }
 }
 
-/// Modes that there are none of, some of which look like one in fewer bits.
+/// Modes that there are none of, and that are like 0 or 1 in fewer bits.
+const WRAPPING: [u32; 6] = [256, 257, 65_536, 65_537, 1 << 31, (1 << 31) + 1];
+
 fn bad_mode(rng: &mut Rng) -> u32 {
-    rng.pick(&[2, 2, 3, 256, 257, 65_536, 65_537, 1 << 31, (1 << 31) + 1, u32::MAX])
+    let wrapping = rng.pick(&WRAPPING);
+    rng.pick(&[2, 3, wrapping, u32::MAX])
 }
 
 /// The mode alone, or beside a fault that is tested before it or after it.
@@ -59,13 +63,14 @@ fn break_mode(rng: &mut Rng, call: &mut Call, way: u64) {
         0 | 1 => 2,
         2 => 3,
         3 => u32::MAX,
+        4 | 5 => rng.pick(&WRAPPING),
         _ => bad_mode(rng),
     };
     match way % 10 {
         6 => break_one(rng, call, 5),
         7 => break_one(rng, call, 4),
         8 => break_one(rng, call, 6),
-        9 => break_one(rng, call, if way.is_multiple_of(4) { 7 } else { 8 }),
+        9 => break_one(rng, call, 7 + (way / 10 % 2) as u32),
         _ => (),
     }
 }

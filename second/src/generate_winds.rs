@@ -2,6 +2,7 @@
 //! each station's wind lies to its offset from a point.
 
 use crate::call::{Call, Window, Winds};
+use crate::generate_rims::add_silent;
 use crate::rng::Rng;
 use crate::units::{ALONG_WIND, MISSING, RADIUS, ROUND, STEP, WIND};
 
@@ -45,15 +46,21 @@ const ALL: [Blows; 12] = [
     Blows::Any,
 ];
 
+/// From about here on strong winds make products that outgrow 64 bits. Such radii
+/// are rare, and so they have mode 1 and winds more often.
+const WIDE: i32 = 512;
 /// The greatest number of a wind.
 const MOST: i32 = *WIND.end();
 
-/// Gives a request its mode and winds. Three in eight stay with the round weight
-/// and have no wind at all. Whatever else is drawn for the request stays; so a
-/// part of the grid is named, round whose points the winds are to blow.
+/// Gives a request its mode and winds, which are to blow round the points of a part
+/// of the grid. Over a third stay with the round weight and have no wind at all.
+/// Some of mode 1 have a station more, which is heard by its wind alone. Whatever
+/// else is drawn for the request stays.
 pub fn blow(rng: &Rng, call: &mut Call, part: &Window) {
     let rng = &mut rng.beside();
-    let (mode, given) = match rng.below(24) {
+    let is_wide = call.radius.first().is_some_and(|radius| *radius >= WIDE);
+    let turn = rng.below(24).max(if is_wide { rng.below(24) } else { 0 });
+    let (mode, given) = match turn {
         0..=6 => (ROUND, Given::LeftOut),
         7 | 8 => (ROUND, Given::Missing),
         9..=12 => (ROUND, Given::Blown),
@@ -61,6 +68,11 @@ pub fn blow(rng: &Rng, call: &mut Call, part: &Window) {
         14 => (ALONG_WIND, Given::Missing),
         _ => (ALONG_WIND, Given::Blown),
     };
+    if mode == ALONG_WIND && rng.one_in(4) {
+        let rows = call.x.len();
+        add_silent(rng, call, part);
+        call.verdict_len += call.x.len() - rows;
+    }
     call.mode = mode;
     call.winds = match given {
         Given::LeftOut => None,

@@ -58,5 +58,6 @@ pub mod trial;
 pub mod units;
 pub mod verdicts;
 pub mod weight_sorts;
+pub mod wind_sorts;
 pub mod window;
 pub mod write;

@@ -12,10 +12,14 @@ const SEED: u64 = 41;
 
 /// The window's numbers out of a part of the grid around it.
 pub fn from_part(call: &Call, ends: &Window, part: &Window) -> WindowAnswer {
-    let cut = cut(call, part);
+    picked_from(&cut(call, part), ends, part)
+}
+
+/// The same, out of a part that is cut already.
+pub fn picked_from(cut: &Call, ends: &Window, part: &Window) -> WindowAnswer {
     let (left, top) = (ends.left - part.left, ends.top - part.top);
     let (right, bottom) = (ends.right - part.left, ends.bottom - part.top);
-    let analysis = analyse(&cut).expect("a cut of an accepted request is accepted");
+    let analysis = analyse(cut).expect("a cut of an accepted request is accepted");
     pick(cut.shape(), &analysis, &Window::new(left, right, top, bottom))
 }
 

@@ -1,12 +1,18 @@
 //! The stretched weight: the rules of request 5 worked by hand, and faults of
 //! winds that the harness must see early and make small.
 
+use crate::faulty::{Fault, Faulty};
+use crate::faulty_winds::{WindFault, OF_REFUSALS, OF_WEIGHTS};
+use crate::posts::{run_cases, seen_within};
 use crate::{changed, lone_station, sample};
 use second::call::{Call, Winds};
+use second::cases::{AnalysisCase, WindowCase};
 use second::generate::push_station;
+use second::impossible::{moved_by_wind, out_of_bounds, wrong_weight};
 use second::rng::Rng;
 use second::scan::{weight, weight_at, Effective};
 use second::scheme::{analyse, run};
+use second::screen_case::ScreenCase;
 use second::units::{HUNDREDTHS, MISSING, RADIUS, WEIGHT_SCALE};
 
 fn stretched(radius: i64, offset: (i64, i64), wind: (i64, i64)) -> i64 {
@@ -150,4 +156,55 @@ fn the_wind_alone_may_give_support() {
     assert_eq!((run(&call).support, run(&call).grid), (vec![1, 0, 0, 0], vec![100, 0, 0, 0]));
     call.winds = Some(Winds { u: vec![1], v: vec![-1] });
     assert_eq!(run(&call).support[0], 0, "at right angles");
+}
+
+#[test]
+fn what_no_answer_may_hold_is_seen() {
+    let call = blown([10, 10, MISSING], [0, 0, MISSING], 0);
+    let (round, along) = (run(&call), run(&Call { mode: 1, ..call.clone() }));
+    assert_eq!(moved_by_wind(&call, &round), None);
+    let said = "in mode 0 the winds change the answer";
+    assert_eq!(moved_by_wind(&call, &along).as_deref(), Some(said));
+    assert_eq!(moved_by_wind(&Call { mode: 1, ..call.clone() }, &along), None);
+    assert_eq!(moved_by_wind(&Call { winds: None, ..call.clone() }, &along), None, "not looked at");
+    assert_eq!(wrong_weight(&Call { mode: 1, ..call }, &along.verdict), None);
+    for (round, along) in [(0, 0), (0, 1), (588, 588), (588, 2_558), (10_000, 10_000)] {
+        assert_eq!(out_of_bounds(round, along), None);
+    }
+    let said = "a weight is 587 along the wind, and 588 without it";
+    assert_eq!(out_of_bounds(588, 587).as_deref(), Some(said));
+    assert!(out_of_bounds(588, 10_001).is_some() && out_of_bounds(0, -1).is_some());
+}
+
+/// So many generated requests of each kind, of any seed, show each fault of winds.
+/// Over 20 seeds the first that did was case 415 at the latest.
+const ENOUGH: u64 = 500;
+
+fn faults() -> Vec<Fault> {
+    OF_WEIGHTS.into_iter().chain(OF_REFUSALS).map(Fault::Winds).collect()
+}
+
+#[test]
+fn faults_of_winds_are_seen_early() {
+    seen_within::<AnalysisCase>(ENOUGH, &faults());
+    let of_cuts = [Fault::Winds(WindFault::CutWithTheFirstWinds)];
+    seen_within::<WindowCase>(ENOUGH, &[faults(), of_cuts.to_vec()].concat());
+    seen_within::<ScreenCase>(ENOUGH, &[faults(), of_cuts.to_vec()].concat());
+}
+
+#[test]
+fn faults_of_winds_are_made_small() {
+    for fault in OF_WEIGHTS {
+        let failure = run_cases::<AnalysisCase>(&Faulty(Fault::Winds(fault)), ENOUGH).failure;
+        let call = failure.expect("seen").smallest.0;
+        assert!(call.x.len() <= 2 && call.first_guess.len() <= 9, "{fault:?}: {call:?}");
+        assert!(call.scans <= 2 && call.mode == 1, "{fault:?}: {call:?}");
+    }
+    for fault in OF_REFUSALS {
+        let failure = run_cases::<AnalysisCase>(&Faulty(Fault::Winds(fault)), ENOUGH).failure;
+        let call = failure.expect("seen").smallest.0;
+        assert!(call.x.len() <= 2 && call.first_guess.len() <= 4, "{fault:?}: {call:?}");
+        let winds = call.winds.unwrap_or_default();
+        assert!(winds.columns().iter().all(|column| column.len() <= 2), "{fault:?}: {winds:?}");
+    }
 }
