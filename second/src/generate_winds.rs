@@ -61,9 +61,9 @@ pub fn blow(rng: &Rng, call: &mut Call, part: &Window) {
     let is_wide = call.radius.first().is_some_and(|radius| *radius >= WIDE);
     let turn = rng.below(24).max(if is_wide { rng.below(24) } else { 0 });
     let (mode, given) = match turn {
-        0..=6 => (ROUND, Given::LeftOut),
-        7 | 8 => (ROUND, Given::Missing),
-        9..=12 => (ROUND, Given::Blown),
+        0..=7 => (ROUND, Given::LeftOut),
+        8 | 9 => (ROUND, Given::Missing),
+        10..=12 => (ROUND, Given::Blown),
         13 => (ALONG_WIND, Given::LeftOut),
         14 => (ALONG_WIND, Given::Missing),
         _ => (ALONG_WIND, Given::Blown),
@@ -124,7 +124,9 @@ fn offset(rng: &mut Rng, call: &Call, part: &Window, row: usize) -> Option<(i32,
             STEP * at.clamp(low.into(), high.into())
         };
         let (dx, dy) = (x - near(x, part.left, part.right), y - near(y, part.top, part.bottom));
-        if dx * dx + dy * dy >= i64::from(radius).pow(2) {
+        // A position may be any i32 here: its square is formed only where it is near.
+        let far = dx.abs().max(dy.abs()) >= i64::from(radius);
+        if far || dx * dx + dy * dy >= i64::from(radius).pow(2) {
             return None;
         }
         let (u, v) = reduced(dx as i32, dy as i32)?;

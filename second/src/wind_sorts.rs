@@ -95,6 +95,14 @@ pub fn window_floors() -> Vec<Floor> {
     [floors(), inside, floors_in_order(CUT, &[1_200])].concat()
 }
 
+/// The real stations are asked for in both modes, the second time with winds of
+/// some sorts.
+pub fn real_floors() -> Vec<Floor> {
+    let given = [0, 5].map(|n| Floor::fixed(GIVEN, n, 6));
+    let winds = [0, 1, 8].map(|n| Floor::fixed(WINDS[1], n, 6));
+    [&given[..], &winds].concat()
+}
+
 /// The sorts of an accepted request with the windows that are asked for, if any.
 pub fn of_accepted(call: &Call, analysis: &Analysis, windows: &[Window]) -> Vec<Sort> {
     let mode = call.mode as usize;
