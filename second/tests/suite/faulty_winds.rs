@@ -35,7 +35,8 @@ pub enum WindFault {
     CutWithTheFirstWinds,
     UMissingPasses,
     VMissingPasses,
-    PastTheBoundPasses,
+    /// A wind of 101.
+    OnePastTheBoundPasses,
     TwoIsOne,
     OtherModesAreRound,
     ModeInOneByte,
@@ -70,7 +71,7 @@ pub const OF_WEIGHTS: [WindFault; 14] = [
 pub const OF_REFUSALS: [WindFault; 13] = [
     UMissingPasses,
     VMissingPasses,
-    PastTheBoundPasses,
+    OnePastTheBoundPasses,
     TwoIsOne,
     OtherModesAreRound,
     ModeInOneByte,
@@ -114,13 +115,13 @@ fn counted(call: &Call, is_fitted: fn(usize) -> bool) -> Call {
 fn as_tested(call: &Call, fault: WindFault) -> Call {
     let none = (MISSING, MISSING);
     let within = |number: i32| match number {
-        MISSING => MISSING,
-        number => number.clamp(*WIND.start(), *WIND.end()),
+        -101 | 101 => number.clamp(*WIND.start(), *WIND.end()),
+        number => number,
     };
     match fault {
         UMissingPasses => with_winds(call, |u, v| if u == MISSING { none } else { (u, v) }),
         VMissingPasses => with_winds(call, |u, v| if v == MISSING { none } else { (u, v) }),
-        PastTheBoundPasses => with_winds(call, |u, v| (within(u), within(v))),
+        OnePastTheBoundPasses => with_winds(call, |u, v| (within(u), within(v))),
         TestedInMode1Only if call.mode != ALONG_WIND => with_winds(call, |_, _| none),
         TwoIsOne if call.mode == 2 => Call { mode: ALONG_WIND, ..call.clone() },
         OtherModesAreRound => Call { mode: ROUND, ..call.clone() },

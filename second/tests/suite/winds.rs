@@ -14,6 +14,7 @@ use second::scan::{weight, weight_at, Effective};
 use second::scheme::{analyse, run};
 use second::screen_case::ScreenCase;
 use second::units::{HUNDREDTHS, MISSING, RADIUS, WEIGHT_SCALE};
+use second::write::rerun_form;
 
 fn stretched(radius: i64, offset: (i64, i64), wind: (i64, i64)) -> i64 {
     weight_at(WEIGHT_SCALE, radius * radius, offset, Some(wind))
@@ -207,4 +208,41 @@ fn faults_of_winds_are_made_small() {
         let winds = call.winds.unwrap_or_default();
         assert!(winds.columns().iter().all(|column| column.len() <= 2), "{fault:?}: {winds:?}");
     }
+}
+
+/// Winds and modes are made small too: what does not count is left out.
+#[test]
+fn winds_and_modes_are_made_small() {
+    let smallest = |fault| {
+        let failure = run_cases::<AnalysisCase>(&Faulty(Fault::Winds(fault)), ENOUGH).failure;
+        failure.expect("seen").smallest.0
+    };
+    let half = smallest(WindFault::UMissingPasses);
+    assert_eq!((half.winds, half.mode), (Some(Winds { u: vec![MISSING], v: vec![0] }), 0));
+    let past = smallest(WindFault::OnePastTheBoundPasses).winds.expect("given");
+    assert_eq!(past.u[0].abs().max(past.v[0].abs()), 101);
+    assert_eq!(past.u[0].abs().min(past.v[0].abs()), 0);
+    let two = smallest(WindFault::TwoIsOne);
+    assert_eq!((two.winds, two.mode, two.x.len()), (None, 2, 0));
+    let other = smallest(WindFault::OtherModesAreRound);
+    assert_eq!((other.winds, other.mode, other.x.len()), (None, 2, 0));
+    let byte = smallest(WindFault::ModeInOneByte);
+    assert!(byte.winds.is_none() && byte.mode > 255, "{byte:?}");
+}
+
+/// The new columns and the mode stand where the C calls have them.
+#[test]
+fn winds_are_listed_in_the_order_of_the_c_calls() {
+    let listed = rerun_form(&blown([10, 10, MISSING], [0, 0, MISSING], 1));
+    let keys: Vec<&str> = listed.lines().filter_map(|line| line.split('=').next()).collect();
+    let stations = ["nx,ny", "first_guess", "x", "y", "value", "observed", "from", "until"];
+    let rest = ["wind_u", "wind_v", "scans", "radius", "limit", "smooth", "mode", "time,age"];
+    assert_eq!(keys[..8], stations);
+    assert_eq!(keys[8..16], rest);
+    assert!(listed.contains("\nwind_u=10,10,-2147483648\nwind_v=0,0,-2147483648\nscans=1\n"));
+    let left_out = rerun_form(&changed(|call| call.mode = 1));
+    assert!(left_out.contains("\nuntil=4294967295,4294967295,995\nscans=1\n"), "{left_out}");
+    let round = rerun_form(&blown([MISSING; 3], [MISSING; 3], 0));
+    assert!(round.contains("\nmode=0\n"), "winds that are given are not for a text");
+    assert!(rerun_form(&sample()).starts_with("grid=3,3\n"));
 }
