@@ -61,38 +61,38 @@ const TO_COME: &str = "bad wind in a row with the verdict to come, by its number
 /// The least of each sort in a full run of analyses.
 pub fn floors() -> Vec<Floor> {
     let accepted: [(&str, &[u64]); 11] = [
-        (GIVEN, &[1_500, 220, 500, 400, 800, 1_800]),
-        (WINDS[0], &[220, 250, 320, 320, 100, 90, 100, 100, 650]),
-        (WINDS[1], &[500, 600, 700, 700, 220, 220, 220, 220, 1_500]),
-        (LIES[0], &[220, 200, 600, 250]),
-        (LIES[1], &[550, 450, 1_400, 650]),
-        (GAINED, &[60, 35]),
-        (OUTSIDE, &[550, 1_200]),
-        (WIDE, &[100, 80]),
-        (FRACTION, &[1_500, 1_000, 1_400]),
-        (WHOLE, &[1_500, 90]),
-        (UNLIKE, &[650, 100, 45]),
+        (GIVEN, &[1_600, 220, 500, 400, 550, 1_900]),
+        (WINDS[0], &[160, 180, 220, 220, 65, 65, 65, 65, 450]),
+        (WINDS[1], &[550, 600, 750, 750, 240, 240, 240, 240, 1_600]),
+        (LIES[0], &[170, 150, 450, 200]),
+        (LIES[1], &[600, 500, 1_500, 700]),
+        (GAINED, &[60, 40]),
+        (OUTSIDE, &[550, 1_300]),
+        (WIDE, &[150, 130]),
+        (FRACTION, &[1_600, 1_100, 1_500]),
+        (WHOLE, &[1_600, 100]),
+        (UNLIKE, &[700, 110, 50]),
     ];
     let refused: [(&str, &[u64]); 8] = [
-        (COLUMN, &[6; 8]),
-        (BOTH, &[7, 9, 12]),
-        (MODE, &[30, 14, 11, 12]),
-        (MODE_TOO, &[50, 11, 9, 5, 4]),
-        (ROW[0], &[6; 7]),
-        (ROW[1], &[5; 7]),
-        (AT, &[20, 90]),
-        (ORDER, &[16; 3]),
+        (COLUMN, &[9; 8]),
+        (BOTH, &[9, 12, 20]),
+        (MODE, &[40, 20, 20, 40]),
+        (MODE_TOO, &[85, 20, 20, 10, 9]),
+        (ROW[0], &[10; 7]),
+        (ROW[1], &[9; 7]),
+        (AT, &[30, 140]),
+        (ORDER, &[24; 3]),
     ];
     let in_order = |(name, least): (&'static str, &[u64])| floors_in_order(name, least);
-    let to_come = (1..).zip([8, 20, 15, 7, 20]);
+    let to_come = (1..).zip([12, 22, 20, 7, 28]);
     let to_come = to_come.map(|(verdict, least)| Floor::times(TO_COME, verdict, least));
     accepted.into_iter().chain(refused).flat_map(in_order).chain(to_come).collect()
 }
 
 /// The same in a full run of windows or screens, with what only these have.
 pub fn window_floors() -> Vec<Floor> {
-    let inside = floors_in_order(UNLIKE_INSIDE, &[500, 85]);
-    [floors(), inside, floors_in_order(CUT, &[1_200])].concat()
+    let inside = floors_in_order(UNLIKE_INSIDE, &[550, 95]);
+    [floors(), inside, floors_in_order(CUT, &[1_300])].concat()
 }
 
 /// The real stations are asked for in both modes, the second time with winds of
