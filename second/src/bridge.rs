@@ -164,8 +164,8 @@ fn put_plain(bytes: &mut Vec<u8>, call: &Call) {
     put_numbers(bytes, &[call.winds.is_some().into()]);
 }
 
-/// Wind columns that are left out are sent as empty ones, after word that they
-/// are.
+/// Wind columns that are left out are sent as empty ones; that they are has been
+/// said before.
 fn put_columns(bytes: &mut Vec<u8>, call: &Call) {
     let none = Winds::default();
     let winds = call.winds.as_ref().unwrap_or(&none);

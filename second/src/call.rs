@@ -78,8 +78,8 @@ impl Call {
         (u != MISSING).then_some((u.into(), v.into()))
     }
 
-    /// The wind columns, as one without a wind in each row of x where they were
-    /// left out.
+    /// The wind columns; where they were left out, columns of marks as long as x
+    /// take their place.
     pub fn winds_mut(&mut self) -> &mut Winds {
         let rows = self.x.len();
         self.winds.get_or_insert_with(|| Winds::missing(rows))

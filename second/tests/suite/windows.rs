@@ -49,9 +49,10 @@ pub fn accepted(seed: u64, count: u64) -> impl Iterator<Item = (u64, Call, Windo
 
 #[test]
 fn the_cut_agrees_with_the_whole() {
-    let (mut held, mut smaller) = (0, 0);
+    let (mut held, mut smaller, mut along) = (0, 0, 0);
     for (index, call, ends) in accepted(SEED, 6000) {
         held += 1;
+        along += usize::from(call.mode == 1 && call.winds.is_some());
         let part = widened(&call, &ends, reach(&call));
         smaller += usize::from(part.area() < call.first_guess.len());
         assert!(part_agrees(&call, &ends, &part), "case {index} of seed {SEED}");
@@ -59,6 +60,7 @@ fn the_cut_agrees_with_the_whole() {
     }
     assert!(held > 3000, "{held} windows were accepted");
     assert!(smaller > 1500, "{smaller} cuts were smaller than the grid");
+    assert!(along > 1200, "{along} windows went along the wind");
 }
 
 /// A part of the grid that somebody might take for the cut.

@@ -7,6 +7,7 @@ use crate::posts::{run_cases, seen_within};
 use crate::{changed, lone_station, sample};
 use second::call::{Call, Winds};
 use second::cases::{AnalysisCase, WindowCase};
+use second::compare::Case;
 use second::generate::push_station;
 use second::impossible::{moved_by_wind, out_of_bounds, wrong_weight};
 use second::rng::Rng;
@@ -77,6 +78,14 @@ fn pairs(count: u64) -> impl Iterator<Item = (i64, (i64, i64), (i64, i64))> {
     })
 }
 
+/// The weight by long division, as the readings have it: in 64 bits throughout.
+fn in_two_steps(r2: i64, (dx, dy): (i64, i64), (u, v): (i64, i64)) -> i64 {
+    let (d2, strength, along) = (dx * dx + dy * dy, u * u + v * v, u * dx + v * dy);
+    let (p, q) = (r2 * (strength * d2 + along * along), strength * d2 * d2);
+    let (hundreds, rest) = (100 * (p - q) / (p + q), 100 * (p - q) % (p + q));
+    100 * hundreds + 100 * rest / (p + q)
+}
+
 #[test]
 fn a_stretched_weight_is_between_the_round_one_and_the_scale() {
     let (mut more, mut inside) = (0, 0);
@@ -87,6 +96,9 @@ fn a_stretched_weight_is_between_the_round_one_and_the_scale() {
         assert_eq!(along, stretched(radius, offset, (-wind.0, -wind.1)));
         let hundredths = weight_at(HUNDREDTHS, r2, offset, Some(wind));
         assert_eq!(along / 100, hundredths, "a hundredth of it, cut, is that in hundredths");
+        if 0 < d2 && d2 < r2 && wind != (0, 0) {
+            assert_eq!(along, in_two_steps(r2, offset, wind), "{radius} {offset:?} {wind:?}");
+        }
         inside += u32::from(d2 < r2);
         more += u32::from(along > round);
     }
@@ -175,6 +187,24 @@ fn what_no_answer_may_hold_is_seen() {
     let said = "a weight is 587 along the wind, and 588 without it";
     assert_eq!(out_of_bounds(588, 587).as_deref(), Some(said));
     assert!(out_of_bounds(588, 10_001).is_some() && out_of_bounds(0, -1).is_some());
+}
+
+/// The old requests are not crowded out.
+fn a_third_is_round<C: Case>(call: fn(C) -> Call) {
+    let calls = (0..3_000).map(|index| call(C::generate(3, index)));
+    let is_round = |call: &Call| {
+        let winds = call.winds.iter().flat_map(Winds::columns);
+        call.mode == 0 && winds.flatten().all(|number| *number == MISSING)
+    };
+    let round = calls.filter(is_round).count();
+    assert!((1_000..1_400).contains(&round), "{round} of 3,000 {}", C::KIND);
+}
+
+#[test]
+fn a_third_of_the_requests_have_no_wind_and_mode_0() {
+    a_third_is_round::<AnalysisCase>(|case| case.0);
+    a_third_is_round::<WindowCase>(|case| case.call);
+    a_third_is_round::<ScreenCase>(|case| case.call);
 }
 
 /// So many generated requests of each kind, of any seed, show each fault of winds.
