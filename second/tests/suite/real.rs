@@ -16,6 +16,7 @@ use second::units::HUNDREDTHS;
 
 const GRID: Shape = Shape { nx: 21, ny: 27 };
 const GAIN: &str = "points that gain support over a run in hundredths";
+const MOVED: &str = "points that mode 0 leaves otherwise";
 
 fn cases() -> Cases {
     stations(DATA).and_then(|stations| Cases::new(&stations)).expect("as they should be")
@@ -104,6 +105,7 @@ fn the_cases_are_counted() {
         &format!("smoothing off: 96 of 405 rejected; 88 of the 405 are posts; {GAIN}: 1\n"),
         &format!("smoothing off: 322 of 405 rejected; 88 of the 405 are posts; {GAIN}: 10\n"),
         &format!("smoothing on: 330 of 405 rejected; 88 of the 405 are posts; {GAIN}: 8\n"),
+        &format!("327 of 405 rejected; 88 of the 405 are posts; {GAIN}: 1; {MOVED}: 516\n"),
         "\nreal analysis, 13 cases\n",
         "\nreal window, 409 cases\n",
         "\nreal windows, 122 cases\n",
