@@ -6,16 +6,18 @@
  * the function asks for:
  *
  *   0, greet     nothing. The answer is GREETING.
- *   1, analyse   whether empty slices get null; the byte that fills results and guards; nx, ny, scans, smooth, time,
- *                age; the nine columns in the order of enum column_name; the lengths of grid, support and verdict. The
- *                answer is what the archive returned, the flags, and grid, support and verdict as they are then.
- *   2, window    the same, with left, right, top and bottom after age, and without verdict.
+ *   1, analyse   whether empty slices get null; the byte that fills results and guards; nx, ny, scans, smooth, mode,
+ *                time, age; whether the winds are given; the eleven columns in the order of enum column_name; the
+ *                lengths of grid, support and verdict. Winds that are not given are empty columns here, and left to the
+ *                header's default. The answer is what the archive returned, the flags, and grid, support and verdict as
+ *                they are then.
+ *   2, window    the same, with left, right, top and bottom after whether the winds are given, and without verdict.
  *   3, kind      whether empty slices get null; nx, ny, x, y; the column field; the column support, of bytes. The
  *                answer is what the archive returned, and the flags.
  *   4, value     the same. The answer is the double as it lies in memory, and the flags.
  *   5, summary   whether empty slices get null; nx, ny; the column field. The answer is refusal, place and the three
  *                doubles as they lie in memory, and the flags.
- *   6, windows   as analyse, with the columns left, right, top and bottom after the nine, and without verdict.
+ *   6, windows   as analyse, with the columns left, right, top and bottom after the eleven, and without verdict.
  *
  * Bit r of the flags is set where the archive wrote outside result r, and bit RESULTS + c where it changed column c.
  * A reading and a summary have no results, and bit c stands for column c: field, then support.
@@ -26,7 +28,11 @@
 
 enum function { GREET = 0, ANALYSE = 1, WINDOW = 2, KIND = 3, VALUE_AT = 4, SUMMARY = 5, WINDOWS = 6 };
 /* Only a screen has the last four. */
-enum column_name { FIRST_GUESS, X, Y, VALUE, OBSERVED, FROM, UNTIL, RADIUS, LIMIT, LEFT, RIGHT, TOP, BOTTOM, COLUMNS };
+/* clang-format off */
+enum column_name {
+    FIRST_GUESS, X, Y, VALUE, OBSERVED, FROM, UNTIL, WIND_U, WIND_V, RADIUS, LIMIT, LEFT, RIGHT, TOP, BOTTOM, COLUMNS
+};
+/* clang-format on */
 enum result_name { GRID, SUPPORT, VERDICT, RESULTS };
 
 static const uint32_t GREETING = 0x536F736E;
@@ -90,6 +96,19 @@ static struct sosnyavik_u32_column unsigned_column(const struct column *column) 
     return (struct sosnyavik_u32_column){column->address, column->length};
 }
 
+/* Two wind columns at null are left out, whatever their lengths: so says the header. Winds that are given, and empty
+ * beside stations, must not be taken for that, so both get an address. With the one empty and the other not, the empty
+ * one may well be null. */
+static void give_winds(struct request *q) {
+    struct column *u = &q->columns[WIND_U], *v = &q->columns[WIND_V];
+    if (u->length == 0 && v->length == 0) {
+        u->address = u->lent;
+        v->address = v->lent;
+    }
+    q->asked.wind_u = signed_column(u);
+    q->asked.wind_v = signed_column(v);
+}
+
 static void take_columns(struct request *q, bool null) {
     struct column *in = q->columns;
     for (size_t c = 0; c < q->columns_lent; c++)
@@ -109,9 +128,10 @@ static void take_columns(struct request *q, bool null) {
     q->screen.bottom = unsigned_column(&in[BOTTOM]);
 }
 
-/* Every member comes, and none is left to its default. */
+/* Every member comes, but for winds that are not given: these are left to their default. */
 static struct request take_request(enum function function) {
-    struct request q = {.columns_lent = function == WINDOWS ? COLUMNS : LEFT,
+    struct request q = {.asked = SOSNYAVIK_REQUEST(),
+                        .columns_lent = function == WINDOWS ? COLUMNS : LEFT,
                         .results_lent = function == ANALYSE ? RESULTS : VERDICT};
     bool null = take_number() != 0;
     unsigned char pattern = (unsigned char)take_number();
@@ -119,11 +139,15 @@ static struct request take_request(enum function function) {
     q.asked.ny = take_number();
     q.asked.scans = take_number();
     q.asked.smooth = take_number() != 0;
+    q.asked.mode = take_number();
     q.asked.time = take_number();
     q.asked.age = take_number();
+    bool with_winds = take_number() != 0;
     if (function == WINDOW)
         q.ends = take_ends();
     take_columns(&q, null);
+    if (with_winds)
+        give_winds(&q);
     for (size_t r = 0; r < q.results_lent; r++)
         q.results[r] = take_result(r == GRID ? sizeof(int32_t) : sizeof(uint8_t), pattern, null);
     return q;

@@ -2,7 +2,7 @@
 //! runs on any processor, so its calls are made by a program of their own,
 //! the bridge, over pipes. `bridge/bridge.c` has the protocol.
 
-use crate::call::{Call, Query, Screen, Window};
+use crate::call::{Call, Query, Screen, Window, Winds};
 use crate::compare::{Answer, Results, Subject};
 use crate::patterned::BYTE_PATTERN;
 use crate::running::{put_numbers, read_number, Greeting, Lasting};
@@ -20,8 +20,19 @@ static GREETING: Greeting = Greeting { name: "the bridge", number: 0x536F_736E }
 /// What the lowest bits of the flags stand for; one for each result, then one
 /// for each column.
 const RESULTS: [&str; 3] = ["grid", "support", "verdict"];
-const COLUMNS: &[&str] =
-    &["first_guess", "x", "y", "value", "observed", "from", "until", "radius", "limit"];
+const COLUMNS: &[&str] = &[
+    "first_guess",
+    "x",
+    "y",
+    "value",
+    "observed",
+    "from",
+    "until",
+    "wind_u",
+    "wind_v",
+    "radius",
+    "limit",
+];
 /// A screen has four columns after those.
 const ENDS: [&str; 4] = ["left", "right", "top", "bottom"];
 /// A reading and a summary have no results.
@@ -149,10 +160,15 @@ fn put_opening(bytes: &mut Vec<u8>, function: u32, empty: Empty) {
 
 fn put_plain(bytes: &mut Vec<u8>, call: &Call) {
     put_numbers(bytes, &[call.nx, call.ny, call.scans]);
-    put_numbers(bytes, &[call.smooth.into(), call.time, call.age]);
+    put_numbers(bytes, &[call.smooth.into(), call.mode, call.time, call.age]);
+    put_numbers(bytes, &[call.winds.is_some().into()]);
 }
 
+/// Wind columns that are left out are sent as empty ones; that they are has been
+/// said before.
 fn put_columns(bytes: &mut Vec<u8>, call: &Call) {
+    let none = Winds::default();
+    let winds = call.winds.as_ref().unwrap_or(&none);
     put_column(bytes, &call.first_guess, i32::to_le_bytes);
     put_column(bytes, &call.x, i32::to_le_bytes);
     put_column(bytes, &call.y, i32::to_le_bytes);
@@ -160,6 +176,8 @@ fn put_columns(bytes: &mut Vec<u8>, call: &Call) {
     put_column(bytes, &call.observed, u32::to_le_bytes);
     put_column(bytes, &call.from, u32::to_le_bytes);
     put_column(bytes, &call.until, u32::to_le_bytes);
+    put_column(bytes, &winds.u, i32::to_le_bytes);
+    put_column(bytes, &winds.v, i32::to_le_bytes);
     put_column(bytes, &call.radius, i32::to_le_bytes);
     put_column(bytes, &call.limit, i32::to_le_bytes);
 }
@@ -237,10 +255,12 @@ mod tests {
             observed: vec![7, u32::MAX],
             from: vec![8],
             until: vec![9],
+            winds: Some(Winds { u: vec![-21], v: vec![22, 23] }),
             scans: 10,
             radius: vec![11],
             limit: vec![],
             smooth: true,
+            mode: 12,
             time: 13,
             age: 14,
             ..Call::default()
@@ -252,12 +272,25 @@ mod tests {
         let call = call();
         let results = Results { grid: &mut [0; 15], support: &mut [0; 16], verdict: &mut [0; 17] };
         let null = numbers_of(&analyse_request(&call, &results, Empty::Null));
-        assert_eq!(null[..9], [1, 1, 0xA5, 1, 2, 10, 1, 13, 14]);
-        assert_eq!(null[9..16], [1, 3_u32.wrapping_neg(), 2, 4, 0x8000_0000, 1, 5]);
-        assert_eq!(null[16..25], [1, 6, 2, 7, u32::MAX, 1, 8, 1, 9]);
-        assert_eq!(null[25..], [1, 11, 0, 15, 16, 17]);
+        assert_eq!(null[..11], [1, 1, 0xA5, 1, 2, 10, 1, 12, 13, 14, 1]);
+        assert_eq!(null[11..18], [1, 3_u32.wrapping_neg(), 2, 4, 0x8000_0000, 1, 5]);
+        assert_eq!(null[18..27], [1, 6, 2, 7, u32::MAX, 1, 8, 1, 9]);
+        assert_eq!(null[27..32], [1, 21_u32.wrapping_neg(), 2, 22, 23]);
+        assert_eq!(null[32..], [1, 11, 0, 15, 16, 17]);
         let dangling = numbers_of(&analyse_request(&call, &results, Empty::Dangling));
         assert_eq!((dangling[1], &dangling[2..]), (0, &null[2..]));
+    }
+
+    #[test]
+    fn winds_that_are_left_out_are_told_from_empty_ones() {
+        let sent = |winds: Option<Winds>| {
+            let results = Results { grid: &mut [], support: &mut [], verdict: &mut [] };
+            numbers_of(&analyse_request(&Call { winds, ..call() }, &results, Empty::Null))
+        };
+        let (left_out, empty) = (sent(None), sent(Some(Winds::default())));
+        assert_eq!((left_out[10], empty[10]), (0, 1));
+        assert_eq!((left_out.len(), &left_out[11..]), (empty.len(), &empty[11..]));
+        assert_eq!(empty[27..], [0, 0, 1, 11, 0, 0, 0, 0]);
     }
 
     #[test]
@@ -266,9 +299,9 @@ mod tests {
         let results = Results { grid: &mut [0; 15], support: &mut [0; 16], verdict: &mut [] };
         let whole = numbers_of(&analyse_request(&call(), &results, Empty::Null));
         let part = numbers_of(&window_request(&call(), &window, &results, Empty::Null));
-        assert_eq!((part[0], &part[1..9]), (2, &whole[1..9]));
-        assert_eq!(part[9..13], [18, 19, 20, u32::MAX]);
-        assert_eq!(part[13..], whole[9..whole.len() - 1]);
+        assert_eq!((part[0], &part[1..11]), (2, &whole[1..11]));
+        assert_eq!(part[11..15], [18, 19, 20, u32::MAX]);
+        assert_eq!(part[15..], whole[11..whole.len() - 1]);
     }
 
     #[test]
@@ -311,14 +344,15 @@ mod tests {
         assert_eq!(said(0b1), "grid is written outside its slice");
         assert_eq!(said(0b100), "verdict is written outside its slice");
         assert_eq!(said(0b1000), "the input first_guess is changed by the call");
-        assert_eq!(said(1 << 11), "the input limit is changed by the call");
-        assert_eq!(said(1 << 12), "the bridge answers with flags that mean nothing, 0x1000");
+        assert_eq!(said(1 << 10), "the input wind_u is changed by the call");
+        assert_eq!(said(1 << 13), "the input limit is changed by the call");
+        assert_eq!(said(1 << 14), "the bridge answers with flags that mean nothing, 0x4000");
         let all = [COLUMNS, &ENDS].concat();
         let said = |flags| seen_by_bridge(flags, &RESULTS, &all).unwrap_or_default();
-        assert_eq!(said(1 << 11), "the input limit is changed by the call");
-        assert_eq!(said(1 << 12), "the input left is changed by the call");
-        assert_eq!(said(1 << 15), "the input bottom is changed by the call");
-        assert_eq!(said(1 << 16), "the bridge answers with flags that mean nothing, 0x10000");
+        assert_eq!(said(1 << 13), "the input limit is changed by the call");
+        assert_eq!(said(1 << 14), "the input left is changed by the call");
+        assert_eq!(said(1 << 17), "the input bottom is changed by the call");
+        assert_eq!(said(1 << 18), "the bridge answers with flags that mean nothing, 0x40000");
         let said = |flags| seen_by_bridge(flags, &[], &QUERY_COLUMNS).unwrap_or_default();
         assert_eq!(said(0b10), "the input support is changed by the call");
         assert_eq!(said(0b100), "the bridge answers with flags that mean nothing, 0x4");

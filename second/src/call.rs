@@ -1,6 +1,40 @@
 //! What a C call receives and gives, as plain columns and numbers.
 
 use crate::field::Shape;
+use crate::units::MISSING;
+
+/// The two wind columns, good or bad.
+#[derive(Clone, Debug, Default, PartialEq, Eq)]
+pub struct Winds {
+    pub u: Vec<i32>,
+    pub v: Vec<i32>,
+}
+
+impl Winds {
+    /// So many rows without a wind.
+    pub fn missing(rows: usize) -> Self {
+        Winds { u: vec![MISSING; rows], v: vec![MISSING; rows] }
+    }
+
+    pub fn push(&mut self, (u, v): (i32, i32)) {
+        self.u.push(u);
+        self.v.push(v);
+    }
+
+    /// Those of some rows alone.
+    pub fn of_rows(&self, rows: &[usize]) -> Self {
+        let of = |column: &[i32]| rows.iter().map(|row| column[*row]).collect();
+        Winds { u: of(&self.u), v: of(&self.v) }
+    }
+
+    pub fn columns(&self) -> [&Vec<i32>; 2] {
+        [&self.u, &self.v]
+    }
+
+    pub fn columns_mut(&mut self) -> [&mut Vec<i32>; 2] {
+        [&mut self.u, &mut self.v]
+    }
+}
 
 /// The raw arguments of a whole analysis, a window query or a screen, good or
 /// bad.
@@ -16,10 +50,13 @@ pub struct Call {
     pub observed: Vec<u32>,
     pub from: Vec<u32>,
     pub until: Vec<u32>,
+    /// Where they are left out, no station has a wind.
+    pub winds: Option<Winds>,
     pub scans: u32,
     pub radius: Vec<i32>,
     pub limit: Vec<i32>,
     pub smooth: bool,
+    pub mode: u32,
     pub time: u32,
     pub age: u32,
     pub grid_len: usize,
@@ -31,6 +68,21 @@ impl Call {
     /// The grid's shape; it means something once refusal 1 is ruled out.
     pub fn shape(&self) -> Shape {
         Shape { nx: self.nx as usize, ny: self.ny as usize }
+    }
+
+    /// The wind of a row, none where it is missing; it means something once
+    /// refusal 8 is ruled out.
+    pub fn wind(&self, row: usize) -> Option<(i64, i64)> {
+        let winds = self.winds.as_ref()?;
+        let (u, v) = (winds.u[row], winds.v[row]);
+        (u != MISSING).then_some((u.into(), v.into()))
+    }
+
+    /// The wind columns; where they were left out, columns of marks as long as x
+    /// take their place.
+    pub fn winds_mut(&mut self) -> &mut Winds {
+        let rows = self.x.len();
+        self.winds.get_or_insert_with(|| Winds::missing(rows))
     }
 
     /// Gives the result slices the lengths that a whole analysis asks for.

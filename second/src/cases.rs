@@ -8,7 +8,7 @@ use crate::generate_query;
 use crate::generate_text;
 use crate::generate_window;
 use crate::harm;
-use crate::impossible::late_rejection;
+use crate::impossible::{late_rejection, moved_by_wind, wrong_weight};
 use crate::patterned::{Patterned, BYTE_PATTERN, GRID_PATTERN};
 use crate::post_sorts;
 use crate::query_sorts;
@@ -22,6 +22,7 @@ use crate::tally::{Floor, Tally};
 use crate::text;
 use crate::text_sorts;
 use crate::weight_sorts;
+use crate::wind_sorts;
 use crate::window::{pick, whole};
 use crate::write::{listing, printf_form, rerun_form};
 
@@ -57,9 +58,25 @@ pub fn count_scheme(outcome: Result<(&Call, &Analysis), &Refusal>, tally: &mut T
     }
 }
 
+/// What only C calls have: winds and a mode, with the windows that are asked for.
+pub fn count_winds(
+    call: &Call,
+    windows: &[Window],
+    outcome: &Result<Analysis, Refusal>,
+    tally: &mut Tally,
+) {
+    tally.add_sorts(&match outcome {
+        Ok(analysis) => wind_sorts::of_accepted(call, analysis, windows),
+        Err(refusal) => wind_sorts::of_refused(call, refusal),
+    });
+}
+
 /// What is wrong with an accepted answer, whatever it is compared with.
 pub fn wrong_by_itself(call: &Call, expected: &Result<Analysis, Refusal>) -> Option<String> {
-    late_rejection(call, &expected.as_ref().ok()?.verdict)
+    let analysis = expected.as_ref().ok()?;
+    late_rejection(call, &analysis.verdict)
+        .or_else(|| moved_by_wind(call, analysis))
+        .or_else(|| wrong_weight(call, &analysis.verdict))
 }
 
 /// The refusal number of an outcome, 0 where it is accepted.
@@ -99,6 +116,7 @@ impl Case for AnalysisCase {
     fn count(&self, expected: &Self::Expected, tally: &mut Tally) {
         let call = &self.0;
         count_scheme(expected.as_ref().map(|analysis| (call, analysis)), tally);
+        count_winds(call, &[], expected, tally);
         let (points, rows) = (call.first_guess.len(), call.x.len());
         let results = [call.grid_len, call.support_len, call.verdict_len];
         tally.add_lengths(call, &results, &[points, points, rows], number_of(expected));
@@ -135,7 +153,7 @@ impl Case for AnalysisCase {
         let scheme = scheme_floors(10_000, 300, &[1, 3, 4, 5, 6, 7, 8]);
         let posts = post_sorts::call_floors();
         let others = [weight_sorts::floors(), smoothing_sorts::floors()].concat();
-        [scheme, length_floors(), posts, others].concat()
+        [scheme, length_floors(), posts, others, wind_sorts::floors()].concat()
     }
 }
 
@@ -162,6 +180,7 @@ impl Case for WindowCase {
     fn count(&self, expected: &Self::Expected, tally: &mut Tally) {
         let (call, window) = (&self.call, &self.window);
         count_scheme(expected.as_ref().map(|analysis| (call, analysis)), tally);
+        count_winds(call, &[*window], expected, tally);
         let number = number_of(expected);
         // After refusals 1 and 2 the ends are in order, and nothing wraps.
         let asked = [window.wrapped_area() as usize; 2];
@@ -211,7 +230,8 @@ impl Case for WindowCase {
         let empty = vec![Floor::times("empty slice", 2, 50)];
         let posts = [post_sorts::call_floors(), post_sorts::window_floors(50)].concat();
         let others = [weight_sorts::window_floors(), smoothing_sorts::window_floors(8)].concat();
-        [scheme, length_floors(), empty, sorts::floors(), posts, others].concat()
+        let winds = wind_sorts::window_floors();
+        [scheme, length_floors(), empty, sorts::floors(), posts, others, winds].concat()
     }
 }
 

@@ -2,7 +2,8 @@
 //! and queries broken on purpose. `damage_screen` breaks screens, `damage_text`
 //! texts.
 
-use crate::call::{Call, Query, Window};
+use crate::call::{Call, Query, Window, Winds};
+use crate::damage_winds::break_by_wind;
 use crate::rng::Rng;
 use crate::units::{BORDER, MISSING, MOST_STATIONS, NO_END};
 
@@ -10,8 +11,12 @@ const SIDES: [u32; 4] = [0, 1, 65, u32::MAX];
 const BAD_VALUES: [i32; 4] = [1_000_001, -1_000_001, i32::MAX, i32::MIN + 1];
 const EDGE_VALUES: [i32; 4] = [1_000_000, -1_000_000, MISSING, 32_767];
 
-/// Breaks a call so that it earns a refusal, sometimes in a second way too.
-pub fn break_call(rng: &mut Rng, call: &mut Call, number: u32) {
+/// Breaks a call so that it earns a refusal, sometimes in a second way too. Winds
+/// and modes have their turns, and second faults of their own.
+pub fn break_call(rng: &mut Rng, call: &mut Call, number: u32, turn: u64) {
+    if break_by_wind(rng, call, number, turn) {
+        return;
+    }
     break_one(rng, call, number);
     if rng.one_in(4) {
         let other = rng.pick(&[1, 3, 4, 5, 6, 7, 8, number]);
@@ -93,7 +98,7 @@ pub fn change_length<T: Copy>(rng: &mut Rng, column: &mut Vec<T>, entry: T) {
 
 /// Repeats or drops rows until there are so many. The first of all stands at
 /// the origin and agrees with the first guess there.
-fn set_rows(call: &mut Call, rows: usize) {
+pub fn set_rows(call: &mut Call, rows: usize) {
     let guess = call.first_guess.first().copied().unwrap_or(0);
     resize(&mut call.x, rows, 0);
     resize(&mut call.y, rows, 0);
@@ -101,6 +106,8 @@ fn set_rows(call: &mut Call, rows: usize) {
     resize(&mut call.observed, rows, call.time);
     resize(&mut call.from, rows, 0);
     resize(&mut call.until, rows, NO_END);
+    let winds = call.winds.iter_mut().flat_map(Winds::columns_mut);
+    winds.for_each(|column| resize(column, rows, MISSING));
     call.verdict_len = rows;
 }
 

@@ -4,6 +4,7 @@
 
 use crate::call::{Call, Screen, Window};
 use crate::damage::{bad_ends, break_call, break_one, wrong_length, BAD_ENDS};
+use crate::damage_winds::break_by_wind;
 use crate::rng::Rng;
 use crate::screen::points;
 use crate::units::MOST_WINDOWS;
@@ -30,11 +31,13 @@ pub fn break_screen(
             break_the_rest(rng, &mut call);
         }
         3 => break_results(rng, &mut call, &screen.windows(), way),
+        // A way to break a wind comes seldom, and no bad window is to hide it.
+        _ if break_by_wind(rng, &mut call, number, way) => (),
         _ => {
             if rng.one_in(3) {
                 break_windows_too(rng, &call, &mut screen);
             }
-            break_call(rng, &mut call, number);
+            break_call(rng, &mut call, number, way);
         }
     }
     (call, screen)

@@ -1,14 +1,15 @@
 //! The seeded generator: calls, each valid, heavy with bounds, or damaged by a
 //! schedule over the index. `generate_window` and `generate_screen` place windows
 //! on such calls, `generate_text` writes them out as texts, `generate_posts` sets
-//! stations beyond the border and `generate_rims` some at the rim of a radius;
-//! `generate_query` makes readings and summaries, and `generate_field` single
+//! stations beyond the border, `generate_rims` some at the rim of a radius, and
+//! `generate_winds` gives them winds, which no text has; `generate_query` makes readings and summaries, and `generate_field` single
 //! fields.
 
 use crate::call::{Call, Window};
 use crate::damage;
 use crate::generate_posts::beyond;
 use crate::generate_rims::add_on_a_rim;
+use crate::generate_winds::blow;
 use crate::rng::Rng;
 use crate::scan::{difference, rounded_at};
 use crate::scheme::run;
@@ -45,16 +46,23 @@ pub fn flavour(index: u64, damages: &[u32]) -> Flavour {
 pub fn analysis(seed: u64, index: u64) -> Call {
     let mut rng = Rng::for_case(seed, 1, index);
     let rng = &mut rng;
-    match flavour(index, &[1, 3, 4, 5, 6, 7, 8]) {
+    let flavour = flavour(index, &[1, 3, 4, 5, 6, 7, 8]);
+    let mut call = match flavour {
         Flavour::Big => big_call(rng),
-        Flavour::Valid => small_call(rng),
         Flavour::Boundary => boundary_call(rng),
-        Flavour::Damaged(number) => {
-            let mut call = small_call(rng);
-            damage::break_call(rng, &mut call, number);
-            call
-        }
+        _ => small_call(rng),
+    };
+    let whole = whole_grid(&call);
+    blow(rng, &mut call, &whole);
+    if let Flavour::Damaged(number) = flavour {
+        damage::break_call(rng, &mut call, number, index / TURNS);
     }
+    call
+}
+
+/// All points, as far as there are any.
+pub fn whole_grid(call: &Call) -> Window {
+    Window::new(0, call.nx.saturating_sub(1), 0, call.ny.saturating_sub(1))
 }
 
 pub fn small_call(rng: &mut Rng) -> Call {
@@ -105,7 +113,7 @@ pub fn boundary_call(rng: &mut Rng) -> Call {
 /// some are rejected in each of the scans.
 pub fn call_of(rng: &mut Rng, nx: u32, ny: u32, stations: usize) -> Call {
     let mut call = untuned_call(rng, nx, ny, stations);
-    let whole = Window::new(0, nx.saturating_sub(1), 0, ny.saturating_sub(1));
+    let whole = whole_grid(&call);
     add_on_a_rim(rng, &mut call, &whole);
     call.fit_results();
     tune_limits(rng, &mut call);
@@ -231,7 +239,7 @@ pub fn guess_at(call: &Call, x: i32, y: i32) -> i32 {
     }
 }
 
-/// Adds a row that is in service for good and fresh.
+/// Adds a row that is in service for good and fresh, without a wind.
 pub fn push_station(call: &mut Call, x: i32, y: i32, value: i32) {
     call.x.push(x);
     call.y.push(y);
@@ -239,6 +247,7 @@ pub fn push_station(call: &mut Call, x: i32, y: i32, value: i32) {
     call.observed.push(call.time);
     call.from.push(0);
     call.until.push(NO_END);
+    call.winds.iter_mut().for_each(|winds| winds.push((MISSING, MISSING)));
 }
 
 /// The first guess at the place and a deviation of about the limits' size.

@@ -3,6 +3,7 @@
 
 use crate::call::{Call, Window};
 use crate::generate::{guess_at, push_station};
+use crate::refusals::{check_request, check_shape};
 use crate::rng::Rng;
 use crate::units::{BORDER, HUNDREDTHS, MOST_STATIONS, STEP, VALUE, WEIGHT_SCALE};
 
@@ -69,6 +70,21 @@ pub fn add_on_a_rim(rng: &Rng, call: &mut Call, part: &Window) {
         let beside = rng.pick(&[rim, Rim::Faint]);
         add_station(rng, call, point, radius, beside);
     }
+}
+
+/// Adds a station that is inside the radius of a scan and without a round weight
+/// at a point of a part of the grid, often one that hears no other. The plan
+/// stays, so where its radius has no such place nothing is added, and neither is
+/// to a request at fault.
+pub fn add_silent(rng: &mut Rng, call: &mut Call, part: &Window) {
+    let shape = check_shape(call.nx, call.ny, call.first_guess.len());
+    let good = shape.and_then(|_| check_request(call)).is_ok();
+    if !good || call.x.len() == MOST_STATIONS {
+        return;
+    }
+    let radius = call.radius[rng.up_to(call.scans - 1) as usize];
+    let point = lonely_point(rng, call, part, radius);
+    add_station(rng, call, point, radius, Rim::Silent);
 }
 
 /// The greatest radius up to one, of as many grid steps, that has such a rim.

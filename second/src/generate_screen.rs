@@ -5,14 +5,15 @@ use crate::call::{Call, Screen, Window};
 use crate::damage;
 use crate::damage_screen::{self, COLUMNS};
 use crate::generate::{
-    big_call, edge_call, flavour, order_limits, small_call, tune_limits, untuned_call, Flavour,
-    BIG_EVERY, TURNS,
+    big_call, edge_call, flavour, order_limits, small_call, tune_limits, untuned_call, whole_grid,
+    Flavour, BIG_EVERY, TURNS,
 };
 use crate::generate_posts::move_beyond_the_cut;
 use crate::generate_rims::add_on_a_rim;
 use crate::generate_window::{
     any_window, lay_chain, move_to_the_cut, one, roomy_call, shortened, small_window, some,
 };
+use crate::generate_winds::blow;
 use crate::rng::Rng;
 use crate::screen::points;
 use crate::units::MOST_WINDOWS;
@@ -74,8 +75,8 @@ fn valid(rng: &mut Rng) -> (Call, Screen) {
     with_screen(rng, make, lay)
 }
 
-/// A call with good windows, results as long as all of them, and stations by
-/// the edges of the cuts of some.
+/// A call with good windows, results as long as all of them, stations by the
+/// edges of the cuts of some, and winds.
 fn with_screen(rng: &mut Rng, make: Make, lay: Lay) -> (Call, Screen) {
     let mut call = make(rng);
     let windows = lay(rng, &call);
@@ -93,6 +94,8 @@ fn with_screen(rng: &mut Rng, make: Make, lay: Lay) -> (Call, Screen) {
         tune_limits(rng, &mut call);
         order_limits(rng, &mut call);
     }
+    let whole = whole_grid(&call);
+    blow(rng, &mut call, windows.first().unwrap_or(&whole));
     (call.grid_len, call.support_len) = (points(&windows), points(&windows));
     (call, Screen::new(&windows))
 }

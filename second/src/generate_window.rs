@@ -9,6 +9,7 @@ use crate::generate::{
 };
 use crate::generate_posts::move_beyond_the_cut;
 use crate::generate_rims::add_on_a_rim;
+use crate::generate_winds::blow;
 use crate::rng::Rng;
 use crate::scan::weight;
 use crate::units::{STEP, VALUE};
@@ -35,15 +36,15 @@ pub fn window(seed: u64, index: u64) -> (Call, Window) {
             match number {
                 2 => return damage::bad_window(rng, call, window, index / TURNS),
                 3 => damage::break_window_results(rng, &mut call),
-                _ => damage::break_call(rng, &mut call, number),
+                _ => damage::break_call(rng, &mut call, number, index / TURNS),
             }
             (call, window)
         }
     }
 }
 
-/// A call with a good window, results as long as it, and stations by the
-/// edges of its cut.
+/// A call with a good window, results as long as it, stations by the edges of
+/// its cut, and winds.
 fn with_window(rng: &mut Rng, make: fn(&mut Rng) -> Call, place: Place) -> (Call, Window) {
     let mut call = make(rng);
     let window = place(rng, call.nx, call.ny);
@@ -56,6 +57,7 @@ fn with_window(rng: &mut Rng, make: fn(&mut Rng) -> Call, place: Place) -> (Call
         tune_limits(rng, &mut call);
         order_limits(rng, &mut call);
     }
+    blow(rng, &mut call, &window);
     call.grid_len = window.area();
     call.support_len = window.area();
     (call, window)

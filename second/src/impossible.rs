@@ -1,9 +1,13 @@
 //! What no answer may hold, whoever gives it. The harness looks for it in what
 //! the second program says, which a subject has to equal.
 
-use crate::call::Call;
+use crate::call::{Analysis, Call, Window};
 use crate::post_sorts::is_post;
+use crate::scan::{weight, weight_at};
+use crate::scheme::run;
+use crate::units::{ROUND, WEIGHT_SCALE};
 use crate::verdicts::REJECTED;
+use crate::weight_sorts::{each_point, is_small, Around};
 
 /// A post's D is the same in every scan. So a scan that rejects it has a limit
 /// below those of all scans before, which let it pass.
@@ -19,4 +23,38 @@ pub fn late_rejection(call: &Call, verdict: &[u8]) -> Option<String> {
     Some(format!(
         "the post in row {row} is rejected in scan {scan}, whose limit is as wide as one before"
     ))
+}
+
+/// In mode 0 no wind changes anything: without winds the answer is the same. A
+/// request with very many stations and points is not run once more.
+pub fn moved_by_wind(call: &Call, analysis: &Analysis) -> Option<String> {
+    if call.mode != ROUND || call.winds.is_none() || !is_small(call) {
+        return None;
+    }
+    let still = run(&Call { winds: None, ..call.clone() });
+    (still != *analysis).then(|| "in mode 0 the winds change the answer".to_string())
+}
+
+/// A stretched weight is at least the round one, and at most the weight at the
+/// station itself. Where there are very many points, a sample is looked at.
+pub fn wrong_weight(call: &Call, verdict: &[u8]) -> Option<String> {
+    let whole = Window::new(0, call.nx - 1, 0, call.ny - 1);
+    let mut wrong = None;
+    if call.mode != ROUND && call.winds.is_some() {
+        each_point(call, &whole, verdict, |Around { r2, x, y, near, .. }| {
+            for station in near.iter().filter(|station| station.wind.is_some()) {
+                let (dx, dy) = station.offset(x, y);
+                let round = weight(r2, dx * dx + dy * dy);
+                let along = weight_at(WEIGHT_SCALE, r2, (dx, dy), station.wind);
+                wrong = wrong.take().or_else(|| out_of_bounds(round, along));
+            }
+        });
+    }
+    wrong
+}
+
+/// What is said of a stretched weight beside the round one.
+pub fn out_of_bounds(round: i64, along: i64) -> Option<String> {
+    let good = (round..=WEIGHT_SCALE).contains(&along);
+    (!good).then(|| format!("a weight is {along} along the wind, and {round} without it"))
 }

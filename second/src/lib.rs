@@ -1,4 +1,4 @@
-//! The independent second program: document 01 with requests 1 to 4 of
+//! The independent second program: document 01 with requests 1 to 5 of
 //! document 02, worked out plainly, to be compared number for number with the
 //! proved implementation.
 
@@ -11,6 +11,7 @@ pub mod compare;
 pub mod damage;
 pub mod damage_screen;
 pub mod damage_text;
+pub mod damage_winds;
 pub mod field;
 pub mod field_case;
 pub mod field_sorts;
@@ -22,6 +23,7 @@ pub mod generate_rims;
 pub mod generate_screen;
 pub mod generate_text;
 pub mod generate_window;
+pub mod generate_winds;
 pub mod harm;
 pub mod impossible;
 pub mod near;
@@ -56,5 +58,6 @@ pub mod trial;
 pub mod units;
 pub mod verdicts;
 pub mod weight_sorts;
+pub mod wind_sorts;
 pub mod window;
 pub mod write;

@@ -135,7 +135,7 @@ fn of_post(call: &Call, row: usize, verdict: u8) -> Vec<Sort> {
 }
 
 /// Whether a station has a weight at a point of a part of the grid, in the
-/// first scan, whose radius is the greatest.
+/// first scan, whose radius is the greatest. No wind takes a weight away.
 fn is_heard(call: &Call, row: usize, part: &Window) -> bool {
     let nearest = |position: i32, ends: (u32, u32)| {
         let squares =

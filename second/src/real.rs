@@ -1,14 +1,16 @@
 //! The stations of source document 002 as requests: real positions and values,
 //! on that document's grid, under limits that reject none, some and most of
-//! them.
+//! them; once with the round weight and once along winds, which are made up.
 
-use crate::call::{Analysis, Call, Query, Screen, Window};
+use crate::call::{Analysis, Call, Query, Screen, Window, Winds};
 use crate::cases::{AnalysisCase, ReadingCase, SummaryCase, TextCase, WindowCase};
 use crate::post_sorts::is_post;
 use crate::scheme::{run, run_in};
 use crate::screen::points;
 use crate::screen_case::ScreenCase;
-use crate::units::{DEFAULT_AGE, HUNDREDTHS, MOST_STATIONS, MOST_WINDOWS, NO_END};
+use crate::units::{
+    ALONG_WIND, DEFAULT_AGE, HUNDREDTHS, MISSING, MOST_STATIONS, MOST_WINDOWS, NO_END, ROUND,
+};
 use crate::write::{written_out, Style};
 
 /// What `data/README.md` describes.
@@ -107,6 +109,25 @@ fn call(stations: &[Station], plan: &Plan, smooth: bool) -> Call {
     call
 }
 
+/// The document lists no winds. So each row has one by its number, from 0: every
+/// 11th from row 5 on has none, every 7th of the others from row 3 on is calm, and
+/// the rest blow every way.
+fn wind(row: usize) -> (i32, i32) {
+    let along = |number: usize| (number % 201) as i32 - 100;
+    match row {
+        row if row % 11 == 5 => (MISSING, MISSING),
+        row if row % 7 == 3 => (0, 0),
+        row => (along(37 * row), along(59 * row + 13)),
+    }
+}
+
+/// The call along those winds.
+fn blown(call: Call) -> Call {
+    let mut winds = Winds::default();
+    (0..call.x.len()).for_each(|row| winds.push(wind(row)));
+    Call { winds: Some(winds), mode: ALONG_WIND, ..call }
+}
+
 /// A request over as many stations as a request may have, its analysis, and a
 /// line on what its limits reject and its weights gain.
 struct Accepted {
@@ -117,20 +138,25 @@ struct Accepted {
 
 impl Accepted {
     /// Fails if the limits do not reject what they are to.
-    fn new(stations: &[Station], plan: &Plan, smooth: bool) -> Result<Self, String> {
-        let call = call(&stations[..MOST_STATIONS.min(stations.len())], plan, smooth);
+    fn new(
+        stations: &[Station],
+        plan: &Plan,
+        smooth: bool,
+        dress: fn(Call) -> Call,
+    ) -> Result<Self, String> {
+        let call = dress(call(&stations[..MOST_STATIONS.min(stations.len())], plan, smooth));
         let analysis = run(&call);
         let verdicts = analysis.verdict.iter().copied().enumerate();
         let part: Vec<(usize, u8)> = verdicts.filter(|(_, verdict)| *verdict != 5).collect();
         let posts = part.iter().filter(|(row, verdict)| is_post(&call, *row, *verdict)).count();
         let (rejected, of) = (part.iter().filter(|(_, verdict)| *verdict > 10).count(), part.len());
-        let gained = gained(&call, &analysis);
+        let (gained, moved) = (gained(&call, &analysis), moved(&call, &analysis));
         let Plan { limits, rejects, holds } = plan;
         let switch = if smooth { "on" } else { "off" };
         let said = format!(
             "limits {limits:?}, smoothing {switch}: {rejected} of {of} rejected; \
              {posts} of the {of} are posts; \
-             points that gain support over a run in hundredths: {gained}"
+             points that gain support over a run in hundredths: {gained}{moved}"
         );
         if holds(rejected, of) {
             Ok(Accepted { call, analysis, said })
@@ -162,6 +188,16 @@ impl Accepted {
 fn gained(call: &Call, analysis: &Analysis) -> usize {
     let old = run_in(call, HUNDREDTHS).support;
     analysis.support.iter().zip(old).filter(|(new, old)| *new & !old != 0).count()
+}
+
+/// What is said of the points that the wind moves; nothing in mode 0.
+fn moved(call: &Call, analysis: &Analysis) -> String {
+    if call.mode == ROUND {
+        return String::new();
+    }
+    let round = run(&Call { mode: ROUND, ..call.clone() });
+    let unlike = analysis.grid.iter().zip(&round.grid).filter(|(one, other)| one != other).count();
+    format!("; points that mode 0 leaves otherwise: {unlike}")
 }
 
 /// The call with a window, and results as long as that.
@@ -210,8 +246,9 @@ fn places(last: u32) -> Vec<u32> {
     places
 }
 
-/// All that is asked over the stations. The last analysis, window and text, and
-/// the last two screens, have all 536 rows, which is too many.
+/// All that is asked over the stations; readings, summaries and texts with the
+/// round weight alone. The last analysis, window and text, and the last two
+/// screens, have all 536 rows, which is too many.
 pub struct Cases {
     /// A line on each plan.
     pub said: Vec<String>,
@@ -225,33 +262,34 @@ pub struct Cases {
 
 impl Cases {
     pub fn new(stations: &[Station]) -> Result<Self, String> {
-        let accepted = accepted(stations)?;
+        let round = accepted(stations, |call| call)?;
+        let along = accepted(stations, blown)?;
+        let accepted = || round.iter().chain(&along);
         let too_many = call(stations, &PLANS[0], false);
         let plain = |text| TextCase { text, harm: None };
         let too_long = written_out(&too_many, Style::default()).into_bytes();
-        let texts = accepted.iter().map(Accepted::text).chain([too_long]);
-        let analyses = accepted.iter().map(|one| one.call.clone()).chain([too_many.clone()]);
-        let each_window = accepted
-            .iter()
-            .flat_map(|one| windows().map(|window| windowed(one.call.clone(), window)));
+        let texts = round.iter().map(Accepted::text).chain([too_long]);
+        let analyses = accepted().map(|one| one.call.clone()).chain([too_many.clone()]);
+        let each_window =
+            accepted().flat_map(|one| windows().map(|window| windowed(one.call.clone(), window)));
         let refused = windowed(too_many.clone(), Window::new(0, 0, 0, 0));
-        let each_screen = accepted.iter().flat_map(|one| screens(&one.call));
+        let each_screen = accepted().flat_map(|one| screens(&one.call));
         let none = screened(too_many.clone(), &[]);
         let sixteen = screened(too_many.clone(), &[Window::new(0, 0, 0, 0); MOST_WINDOWS]);
         Ok(Cases {
-            said: accepted.iter().map(|one| one.said.clone()).collect(),
+            said: accepted().map(|one| one.said.clone()).collect(),
             analyses: analyses.map(AnalysisCase).collect(),
             windows: each_window.chain([refused]).collect(),
             screens: each_screen.chain([none, sixteen]).collect(),
-            readings: accepted.iter().flat_map(Accepted::readings).collect(),
-            summaries: accepted.iter().map(|one| SummaryCase(one.query(0, 0))).collect(),
+            readings: round.iter().flat_map(Accepted::readings).collect(),
+            summaries: round.iter().map(|one| SummaryCase(one.query(0, 0))).collect(),
             texts: texts.map(plain).collect(),
         })
     }
 }
 
-/// Every plan with smoothing off and on.
-fn accepted(stations: &[Station]) -> Result<Vec<Accepted>, String> {
+/// Every plan with smoothing off and on, its calls with winds or as they are.
+fn accepted(stations: &[Station], dress: fn(Call) -> Call) -> Result<Vec<Accepted>, String> {
     let plans = PLANS.iter().flat_map(|plan| [(plan, false), (plan, true)]);
-    plans.map(|(plan, smooth)| Accepted::new(stations, plan, smooth)).collect()
+    plans.map(|(plan, smooth)| Accepted::new(stations, plan, smooth, dress)).collect()
 }

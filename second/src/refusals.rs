@@ -1,8 +1,10 @@
 //! The refusal table, in its order. Every test names its first bad place.
 
-use crate::call::{Call, Refusal, Window};
+use crate::call::{Call, Refusal, Window, Winds};
 use crate::field::Shape;
-use crate::units::{LIMIT, MISSING, MOST_STATIONS, POSITION, RADIUS, SCANS, SIDE, VALUE};
+use crate::units::{
+    LIMIT, MISSING, MODES, MOST_STATIONS, POSITION, RADIUS, SCANS, SIDE, VALUE, WIND,
+};
 
 pub type Checked = Result<(), Refusal>;
 
@@ -51,6 +53,7 @@ pub fn check_result(length: usize, asked: usize) -> Checked {
 pub fn check_request(call: &Call) -> Checked {
     check_columns(call)?;
     check_scan_count(call)?;
+    demand(MODES.contains(&call.mode), 5, 0)?;
     check_plan(call)?;
     check_first_guess(call)?;
     check_stations(call)
@@ -60,7 +63,8 @@ fn check_columns(call: &Call) -> Checked {
     let rows = call.x.len();
     let others =
         [call.y.len(), call.value.len(), call.observed.len(), call.from.len(), call.until.len()];
-    let equal = others.iter().all(|length| *length == rows);
+    let winds = call.winds.iter().flat_map(Winds::columns).map(Vec::len);
+    let equal = winds.chain(others).all(|length| length == rows);
     demand(equal && rows <= MOST_STATIONS, 4, 0)
 }
 
@@ -94,10 +98,16 @@ fn check_stations(call: &Call) -> Checked {
         let good = (value == MISSING || VALUE.contains(&value))
             && POSITION.contains(&call.x[row])
             && POSITION.contains(&call.y[row])
-            && call.from[row] < call.until[row];
+            && call.from[row] < call.until[row]
+            && call.winds.as_ref().is_none_or(|winds| is_wind(winds.u[row], winds.v[row]));
         demand(good, 8, row)?;
     }
     Ok(())
+}
+
+/// "each -100..100 or both the missing mark", in both modes.
+pub fn is_wind(u: i32, v: i32) -> bool {
+    (u, v) == (MISSING, MISSING) || WIND.contains(&u) && WIND.contains(&v)
 }
 
 /// Places are at most 4,095: a point of the largest grid.

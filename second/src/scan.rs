@@ -2,16 +2,30 @@
 
 use crate::call::Call;
 use crate::field::Shape;
-use crate::units::{rounded, CELL, STEP, WEIGHT_SCALE};
+use crate::units::{rounded, ALONG_WIND, CELL, STEP, WEIGHT_SCALE};
 use crate::verdicts::{ACCEPTED, REJECTED};
 
 /// A station that takes part in a scan, at its true position, with its
-/// difference D.
+/// difference D and the wind that its weight goes by, if it goes by one.
 #[derive(Clone, Copy, Debug)]
 pub struct Accepted {
     pub x: i64,
     pub y: i64,
+    pub wind: Option<(i64, i64)>,
     pub difference: i64,
+}
+
+impl Accepted {
+    pub fn new(call: &Call, row: usize, difference: i64) -> Self {
+        let (x, y) = (call.x[row].into(), call.y[row].into());
+        let wind = call.wind(row).filter(|_| call.mode == ALONG_WIND);
+        Accepted { x, y, wind, difference }
+    }
+
+    /// The station's offset from a point.
+    pub fn offset(&self, px: i64, py: i64) -> (i64, i64) {
+        (self.x - px, self.y - py)
+    }
 }
 
 /// D of one row: its observation less a rounded field at its place. On the
@@ -42,17 +56,13 @@ pub fn judge(call: &Call, field: &[i32], scan: usize, verdict: &mut [u8]) -> Vec
         if difference.abs() > i64::from(call.limit[scan]) {
             *verdict = REJECTED + 1 + scan as u8;
         } else {
-            accepted.push(Accepted {
-                x: i64::from(call.x[row]),
-                y: i64::from(call.y[row]),
-                difference,
-            });
+            accepted.push(Accepted::new(call, row, difference));
         }
     }
     accepted
 }
 
-/// The weight of a station at squared distance `d2`, for a squared radius.
+/// The round weight of a station at squared distance `d2`, for a squared radius.
 pub fn weight(r2: i64, d2: i64) -> i64 {
     weight_in(WEIGHT_SCALE, r2, d2)
 }
@@ -66,14 +76,52 @@ pub fn weight_in(scale: i64, r2: i64, d2: i64) -> i64 {
     }
 }
 
+/// The effective squared radius of a station, "kept as an exact fraction". With
+/// 10,000 times their difference the two numbers outgrow 64 bits.
+#[derive(Clone, Copy, Debug, PartialEq, Eq)]
+pub struct Effective {
+    pub over: i128,
+    pub under: i128,
+}
+
+impl Effective {
+    /// "R²(1 + (u·dx + v·dy)²/(V·d2))", for a wind that is not calm at a point
+    /// where the station does not stand.
+    pub fn new(r2: i64, (dx, dy): (i64, i64), (u, v): (i64, i64)) -> Self {
+        let under = i128::from((u * u + v * v) * (dx * dx + dy * dy));
+        let along = i128::from(u * dx + v * dy);
+        Effective { over: i128::from(r2) * (under + along * along), under }
+    }
+
+    /// The weight that "uses it in place of R², with one whole-part at the end".
+    pub fn weight(self, scale: i64, d2: i64) -> i64 {
+        let d2 = self.under * i128::from(d2);
+        let weight = i128::from(scale) * (self.over - d2) / (self.over + d2);
+        // It is at most the scale.
+        weight as i64
+    }
+}
+
+/// The weight of a station at an offset from a point, by its wind if it has one.
+/// "Only stations with d2 < R² are considered", and "calm, missing wind or d2 = 0
+/// gives the round weight".
+pub fn weight_at(scale: i64, r2: i64, offset: (i64, i64), wind: Option<(i64, i64)>) -> i64 {
+    let d2 = offset.0 * offset.0 + offset.1 * offset.1;
+    match wind {
+        Some(wind) if wind != (0, 0) && 0 < d2 && d2 < r2 => {
+            Effective::new(r2, offset, wind).weight(scale, d2)
+        }
+        _ => weight_in(scale, r2, d2),
+    }
+}
+
 /// The sum of weights and the sum of weight times D at the point (i, j).
 pub fn sums(i: usize, j: usize, radius: i32, scale: i64, accepted: &[Accepted]) -> (i64, i64) {
     let (px, py) = (STEP * i as i64, STEP * j as i64);
     let r2 = i64::from(radius) * i64::from(radius);
     let (mut weights, mut weighted) = (0, 0);
     for station in accepted {
-        let (dx, dy) = (station.x - px, station.y - py);
-        let w = weight_in(scale, r2, dx * dx + dy * dy);
+        let w = weight_at(scale, r2, station.offset(px, py), station.wind);
         weights += w;
         weighted += w * station.difference;
     }

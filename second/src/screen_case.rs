@@ -2,7 +2,8 @@
 
 use crate::call::{Analysis, Call, Refusal, Screen};
 use crate::cases::{
-    count_scheme, length_floors, number_of, scheme_floors, unlike_code, wrong_by_itself,
+    count_scheme, count_winds, length_floors, number_of, scheme_floors, unlike_code,
+    wrong_by_itself,
 };
 use crate::compare::{Case, Results, Subject};
 use crate::generate_screen;
@@ -15,6 +16,7 @@ use crate::smoothing_sorts;
 use crate::tally::{Floor, Tally};
 use crate::text;
 use crate::weight_sorts;
+use crate::wind_sorts;
 use crate::write::listing;
 
 #[derive(Clone, Debug, PartialEq, Eq)]
@@ -40,6 +42,7 @@ impl Case for ScreenCase {
     fn count(&self, expected: &Self::Expected, tally: &mut Tally) {
         let (call, screen) = (&self.call, &self.screen);
         count_scheme(expected.as_ref().map(|analysis| (call, analysis)), tally);
+        count_winds(call, &screen.windows(), expected, tally);
         let number = number_of(expected);
         // Only after refusals 1 and 2 are the windows good.
         let asked = if [1, 2].contains(&number) { 0 } else { points(&screen.windows()) };
@@ -83,6 +86,7 @@ impl Case for ScreenCase {
         let empty = vec![Floor::times("empty slice", 2, 50)];
         let stations = [post_sorts::screen_floors(), weight_sorts::window_floors()].concat();
         let smoothing = smoothing_sorts::window_floors(120);
-        [scheme, length_floors(), empty, screen_sorts::floors(), stations, smoothing].concat()
+        let screens = [screen_sorts::floors(), wind_sorts::window_floors()].concat();
+        [scheme, length_floors(), empty, screens, stations, smoothing].concat()
     }
 }

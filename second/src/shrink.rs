@@ -1,10 +1,10 @@
 //! The shrinker: from a failing case to a small one that still fails.
 
-use crate::call::{Call, Query, Window};
+use crate::call::{Call, Query, Window, Winds};
 use crate::compare::Case;
 use crate::refusals::is_on_grid;
 use crate::text::parse;
-use crate::units::NO_END;
+use crate::units::{MISSING, MODES, NO_END, ROUND};
 use crate::write::{request_text, Style};
 use std::iter::successors;
 use std::ops::Range;
@@ -162,6 +162,8 @@ fn narrower(call: &Call, window: Window) -> impl Iterator<Item = (Call, Window)>
 
 pub fn fewer_stations(call: &Call) -> impl Iterator<Item = Call> + '_ {
     let minutes = call.observed.len().max(call.from.len()).max(call.until.len());
+    let winds = call.winds.iter().flat_map(Winds::columns).map(Vec::len);
+    let minutes = winds.fold(minutes, usize::max);
     let rows = call.x.len().max(call.y.len()).max(call.value.len()).max(minutes);
     chunks(rows).map(|range| {
         let mut call = call.clone();
@@ -172,6 +174,8 @@ pub fn fewer_stations(call: &Call) -> impl Iterator<Item = Call> + '_ {
         drop_range(&mut call.observed, &range);
         drop_range(&mut call.from, &range);
         drop_range(&mut call.until, &range);
+        let winds = call.winds.iter_mut().flat_map(Winds::columns_mut);
+        winds.for_each(|column| drop_range(column, &range));
         call.verdict_len = call.verdict_len.saturating_sub(before - call.x.len());
         call
     })
@@ -230,11 +234,18 @@ pub fn picked<T: Copy>(points: &[T], nx: u32, part: &Window) -> Vec<T> {
 
 /// The same shape with simpler numbers: first all at once, then one by one.
 pub fn simpler(call: &Call) -> impl Iterator<Item = Call> + '_ {
-    let all_at_once =
-        [Call { smooth: false, ..call.clone() }, at_level_zero(call), in_service_for_good(call)];
+    let all_at_once = [
+        Call { smooth: false, ..call.clone() },
+        Call { winds: None, mode: ROUND, ..call.clone() },
+        Call { winds: None, ..call.clone() },
+        at_level_zero(call),
+        in_service_for_good(call),
+    ];
     all_at_once
         .into_iter()
         .filter(move |simpler| simpler != call)
+        .chain(lower_modes(call))
+        .chain(weaker_winds(call))
         .chain(nearer(call, |call| &mut call.first_guess, 0))
         .chain(nearer(call, |call| &mut call.radius, 64))
         .chain(nearer(call, |call| &mut call.limit, 0))
@@ -244,6 +255,37 @@ pub fn simpler(call: &Call) -> impl Iterator<Item = Call> + '_ {
         .chain(nearer(call, |call| &mut call.from, 0))
         .chain(nearer(call, |call| &mut call.until, NO_END))
         .chain(nearer(call, |call| &mut call.observed, call.time))
+}
+
+/// The modes that there are and the first that there is not, below the call's.
+fn lower_modes(call: &Call) -> impl Iterator<Item = Call> + '_ {
+    let modes = *MODES.start()..=*MODES.end() + 1;
+    modes.filter(|mode| *mode < call.mode).map(|mode| Call { mode, ..call.clone() })
+}
+
+/// Calls without the wind of a row, or with one of its numbers nearer to zero.
+/// A mark in one column alone stays, so that no number becomes a mark again.
+fn weaker_winds(call: &Call) -> impl Iterator<Item = Call> + '_ {
+    let winds = call.winds.iter().flat_map(|winds| {
+        let pairs = winds.u.iter().copied().zip(winds.v.iter().copied());
+        pairs.enumerate().flat_map(|(row, wind)| weaker(wind).map(move |weaker| (row, weaker)))
+    });
+    winds.map(|(row, weaker)| {
+        let mut call = call.clone();
+        let winds = call.winds_mut();
+        (winds.u[row], winds.v[row]) = weaker;
+        call
+    })
+}
+
+fn weaker((u, v): (i32, i32)) -> impl Iterator<Item = (i32, i32)> {
+    let nearer = |number: i32| {
+        let nearer = closer(number.into(), 0).map(|nearer| nearer as i32);
+        nearer.filter(move |_| number != MISSING)
+    };
+    let none = (MISSING, MISSING);
+    let missing = [none].into_iter().filter(move |none| (u, v) != *none);
+    missing.chain(nearer(u).map(move |u| (u, v))).chain(nearer(v).map(move |v| (u, v)))
 }
 
 /// Values and first guess moved down together, the first point to zero.

@@ -10,6 +10,7 @@ use crate::real::{stations, Cases};
 use crate::screen_case::ScreenCase;
 use crate::screen_sorts;
 use crate::tally::Floor;
+use crate::wind_sorts;
 use std::io::{self, Write};
 
 /// Runs one kind and prints its tally. The error says what was found wrong.
@@ -96,7 +97,7 @@ pub fn compare_real(subject: &dyn Subject, data: &str, out: &mut dyn Write) -> R
     let cases = real_cases(data, out)?;
     let all_but = |refused: usize, cases: usize| {
         let outcomes = vec![fixed("accepted", 0, cases - refused), fixed("refusal", 4, refused)];
-        [outcomes, real_floors()].concat()
+        [outcomes, real_floors(), wind_sorts::real_floors()].concat()
     };
     let floors = all_but(1, cases.analyses.len());
     real_kind("real analysis", subject, cases.analyses, &floors, out)?;

@@ -1,6 +1,6 @@
 //! What a run has covered, and the floors below which a run fails.
 
-use crate::call::{Analysis, Call, Refusal};
+use crate::call::{Analysis, Call, Refusal, Winds};
 use crate::field_sorts;
 use crate::query_sorts::NO_POINTS;
 use crate::screen_sorts;
@@ -115,7 +115,8 @@ impl Tally {
     pub fn add_lengths(&mut self, call: &Call, results: &[usize], asked: &[usize], refusal: u32) {
         let (points, rows) = (call.first_guess.len(), call.x.len());
         let minutes = [&call.observed, &call.from, &call.until].map(Vec::len);
-        let columns = [&[call.y.len(), call.value.len()], &minutes[..]].concat();
+        let winds: Vec<usize> = call.winds.iter().flat_map(Winds::columns).map(Vec::len).collect();
+        let columns = [&[call.y.len(), call.value.len()], &minutes[..], &winds].concat();
         let others = [points, rows, call.radius.len(), call.limit.len()];
         if columns.iter().chain(results).chain(&others).any(|length| *length == 0) {
             self.add("empty slice", refusal);
@@ -128,7 +129,7 @@ impl Tally {
                 points.abs_diff(call.shape().points())
             }
             3 => most_off(results, asked),
-            4 => most_off(&columns, &[rows; 5]),
+            4 => most_off(&columns, &vec![rows; columns.len()]),
             _ => 0,
         };
         match off {

@@ -2,7 +2,7 @@
 
 use std::ops::RangeInclusive;
 
-/// The lowest i32 marks a missing observation.
+/// The lowest i32 marks a missing observation and, twice in a row, a missing wind.
 pub const MISSING: i32 = i32::MIN;
 /// This `until` means that the service has no end.
 pub const NO_END: u32 = u32::MAX;
@@ -29,6 +29,13 @@ pub const POSITION: RangeInclusive<i32> = -1_000_000..=1_000_000;
 pub const SCANS: RangeInclusive<u32> = 1..=6;
 pub const RADIUS: RangeInclusive<i32> = 1..=1024;
 pub const LIMIT: RangeInclusive<i32> = 0..=2_000_000;
+/// Each of a wind's two numbers, where it is not missing.
+pub const WIND: RangeInclusive<i32> = -100..=100;
+/// Mode 0: the round weight.
+pub const ROUND: u32 = 0;
+/// Mode 1: the weight that is stretched along the wind.
+pub const ALONG_WIND: u32 = 1;
+pub const MODES: RangeInclusive<u32> = ROUND..=ALONG_WIND;
 pub const MOST_STATIONS: usize = 512;
 /// The most windows of a screen.
 pub const MOST_WINDOWS: usize = 16;

@@ -8,7 +8,7 @@
 //! big requests would take most of the time, and three in four of them differ.
 
 use crate::call::{Analysis, Call, Window};
-use crate::scan::{weight, weight_in};
+use crate::scan::{weight_at, Accepted};
 use crate::scheme::run_in;
 use crate::sorts::{floors_in_order, floors_of, named, Sort};
 use crate::tally::Floor;
@@ -63,7 +63,7 @@ fn floors_with(other_verdicts: u64) -> Vec<Floor> {
 pub fn of_accepted(call: &Call, analysis: &Analysis) -> Vec<Sort> {
     let whole = Window::new(0, call.nx - 1, 0, call.ny - 1);
     let mut sorts = Found::of(call, &whole, &analysis.verdict).sorts();
-    if pairs(call, &whole) <= MOST_PAIRS {
+    if is_small(call) {
         let old = run_in(call, HUNDREDTHS);
         let unlike = [
             old.grid != analysis.grid,
@@ -84,13 +84,47 @@ fn pairs(call: &Call, part: &Window) -> usize {
     part.area() * call.x.len() * call.scans as usize
 }
 
-/// The places of the stations that a scan, counted from 0, accepted: those that
-/// no scan up to it rejected.
-fn accepted_in(call: &Call, scan: usize, verdict: &[u8]) -> Vec<(i64, i64)> {
+/// Whether a request has so few pairs of a point and a station that it may be run
+/// once more.
+pub fn is_small(call: &Call) -> bool {
+    let whole = Window::new(0, call.nx - 1, 0, call.ny - 1);
+    pairs(call, &whole) <= MOST_PAIRS
+}
+
+/// The stations that a scan, counted from 0, accepted: those that no scan up to it
+/// rejected. What they differ by is no matter here.
+fn accepted_in(call: &Call, scan: usize, verdict: &[u8]) -> Vec<Accepted> {
     let rows = (0..verdict.len()).filter(|row| {
         verdict[*row] == ACCEPTED || usize::from(verdict[*row]) > usize::from(REJECTED) + scan + 1
     });
-    rows.map(|row| (i64::from(call.x[row]), i64::from(call.y[row]))).collect()
+    rows.map(|row| Accepted::new(call, row, 0)).collect()
+}
+
+/// A point in a scan, counted from 0, and the accepted stations that along y are
+/// no farther away than the radius.
+pub struct Around<'a> {
+    pub scan: usize,
+    pub r2: i64,
+    pub x: i64,
+    pub y: i64,
+    pub near: &'a [Accepted],
+}
+
+/// Looks at the points of a part of the grid in every scan, or at a sample of them.
+pub fn each_point(call: &Call, part: &Window, verdict: &[u8], mut look: impl FnMut(Around)) {
+    // As many times fewer points each way as takes the pairs below the most.
+    let stride = (pairs(call, part) / MOST_PAIRS).isqrt() + 1;
+    for scan in 0..call.scans as usize {
+        let radius = i64::from(call.radius[scan]);
+        let accepted = accepted_in(call, scan, verdict);
+        for y in (part.top..=part.bottom).step_by(stride).map(|j| STEP * i64::from(j)) {
+            let beside = |station: &&Accepted| (station.y - y).abs() <= radius;
+            let near: Vec<Accepted> = accepted.iter().filter(beside).copied().collect();
+            for x in (part.left..=part.right).step_by(stride).map(|i| STEP * i64::from(i)) {
+                look(Around { scan, r2: radius * radius, x, y, near: &near });
+            }
+        }
+    }
 }
 
 /// What a request has been found to have.
@@ -117,30 +151,19 @@ impl Found {
     /// What is found at the points of a part of the grid, in every scan.
     fn of(call: &Call, part: &Window, verdict: &[u8]) -> Self {
         let (mut found, mut heard) = (Found::default(), Vec::new());
-        // As many times fewer points each way as takes the pairs below the most.
-        let stride = (pairs(call, part) / MOST_PAIRS).isqrt() + 1;
-        for scan in 0..call.scans as usize {
-            let radius = i64::from(call.radius[scan]);
-            let accepted = accepted_in(call, scan, verdict);
-            for j in (part.top..=part.bottom).step_by(stride) {
-                let y = STEP * i64::from(j);
-                let beside = |station: &&(i64, i64)| (station.1 - y).abs() <= radius;
-                let near: Vec<(i64, i64)> = accepted.iter().filter(beside).copied().collect();
-                for x in (part.left..=part.right).step_by(stride).map(|i| STEP * i64::from(i)) {
-                    heard.clear();
-                    for station in &near {
-                        let d2 = (station.0 - x).pow(2) + (station.1 - y).pow(2);
-                        heard.extend(found.pair(radius * radius, d2));
-                    }
-                    found.together(scan, &mut heard);
-                }
+        each_point(call, part, verdict, |Around { scan, r2, x, y, near }| {
+            heard.clear();
+            for station in near {
+                heard.extend(found.pair(r2, station.offset(x, y), station.wind));
             }
-        }
+            found.together(scan, &mut heard);
+        });
         found
     }
 
     /// One station at one point. Most are too far away for anything.
-    fn pair(&mut self, r2: i64, d2: i64) -> Option<Heard> {
+    fn pair(&mut self, r2: i64, offset: (i64, i64), wind: Option<(i64, i64)>) -> Option<Heard> {
+        let d2 = offset.0 * offset.0 + offset.1 * offset.1;
         if d2 > r2 + 1 {
             return None;
         }
@@ -150,17 +173,26 @@ impl Found {
         if d2 >= r2 {
             return None;
         }
-        let (dividend, divisor) = (WEIGHT_SCALE * (r2 - d2), r2 + d2);
-        let (weight, rest) = (weight(r2, d2), dividend % divisor);
+        let weight = weight_at(WEIGHT_SCALE, r2, offset, wind);
         self.exact[0] |= weight == 1;
         self.exact[1] |= weight == WEIGHT_SCALE;
+        if wind.is_none() {
+            self.round(r2, d2);
+        }
+        // A whole part that is cut once more is the whole part in hundredths.
+        Some(Heard { hundredths: weight * HUNDREDTHS / WEIGHT_SCALE, weight })
+    }
+
+    /// The fraction of a round weight inside the radius.
+    fn round(&mut self, r2: i64, d2: i64) {
+        let (dividend, divisor) = (WEIGHT_SCALE * (r2 - d2), r2 + d2);
+        let rest = dividend % divisor;
         self.fraction[0] |= 2 * rest >= divisor;
         self.fraction[1] |= rest == 0 && d2 > 0;
         let past = |product: i64| product > i64::from(u32::MAX);
         self.wide[0] |= past(2 * WEIGHT_SCALE * r2);
         self.wide[1] |= past(dividend);
         self.wide[2] |= r2 == i64::from(*RADIUS.end()).pow(2);
-        Some(Heard { hundredths: weight_in(HUNDREDTHS, r2, d2), weight })
     }
 
     /// All stations inside the radius at one point.

@@ -93,6 +93,7 @@ pub fn cut_with(call: &Call, part: &Window, rows: &[usize]) -> Call {
         observed: rows.iter().map(|row| call.observed[*row]).collect(),
         from: rows.iter().map(|row| call.from[*row]).collect(),
         until: rows.iter().map(|row| call.until[*row]).collect(),
+        winds: call.winds.as_ref().map(|winds| winds.of_rows(rows)),
         ..call.clone()
     };
     cut.fit_results();

@@ -4,7 +4,7 @@
 use crate::call::Call;
 use crate::refusals::check_analysis;
 use crate::text::line;
-use crate::units::{DEFAULT_AGE, MISSING, NO_END};
+use crate::units::{DEFAULT_AGE, MISSING, NO_END, ROUND};
 
 /// The choices that the text form leaves to its writer.
 #[derive(Clone, Copy, Debug, Default)]
@@ -16,13 +16,15 @@ pub struct Style {
 }
 
 /// The request text of a call. A text cannot say the faults of refusals 1 to
-/// 5, and it has no plan entries past the scan count.
+/// 5, it has no plan entries past the scan count, and it stays with the round
+/// weight and without winds.
 pub fn request_text(call: &Call, style: Style) -> Option<Vec<u8>> {
     let sayable = match check_analysis(call) {
         Ok(()) => true,
         Err(refusal) => refusal.number >= 6,
     };
-    sayable.then(|| written_out(call, style).into_bytes())
+    let round = call.mode == ROUND && call.winds.is_none();
+    (sayable && round).then(|| written_out(call, style).into_bytes())
 }
 
 /// The same, whether or not the text is in form.
@@ -77,8 +79,10 @@ pub fn rerun_form(call: &Call) -> String {
     }
 }
 
-/// Every argument on a line of its own.
+/// Every argument on a line of its own, in the order of the C calls. Wind
+/// columns that are left out have no lines.
 pub fn listing(call: &Call) -> String {
+    let winds = call.winds.iter().map(|winds| line("wind_u", &winds.u) + &line("wind_v", &winds.v));
     [
         line("nx,ny", &[call.nx, call.ny]),
         line("first_guess", &call.first_guess),
@@ -88,10 +92,12 @@ pub fn listing(call: &Call) -> String {
         line("observed", &call.observed),
         line("from", &call.from),
         line("until", &call.until),
+        winds.collect(),
         line("scans", &[call.scans]),
         line("radius", &call.radius),
         line("limit", &call.limit),
         line("smooth", &[call.smooth]),
+        line("mode", &[call.mode]),
         line("time,age", &[call.time, call.age]),
         line(
             "grid_len,support_len,verdict_len",

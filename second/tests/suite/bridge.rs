@@ -1,7 +1,7 @@
 //! The bridge itself, built for this processor around a stub of the archive.
 
 use second::bridge::{Bridge, Empty};
-use second::call::{Call, Query, Screen, Window};
+use second::call::{Call, Query, Screen, Window, Winds};
 use second::compare::{Answer, Results, Subject};
 use std::process::Command;
 use std::sync::OnceLock;
@@ -31,10 +31,12 @@ fn call(time: u32) -> Call {
         observed: vec![205, 0, 0, 0, 0, 0, 305],
         from: vec![206, 0, 0, 0, 0, 0, 0, 306],
         until: vec![207, 0, 0, 0, 0, 0, 0, 0, u32::MAX],
+        winds: Some(Winds { u: vec![-210, -310], v: vec![211, 0, 311] }),
         scans: 103,
         radius: vec![208, 308],
         limit: vec![209],
         smooth: true,
+        mode: 105,
         time,
         age: 104,
         ..Call::default()
@@ -42,13 +44,13 @@ fn call(time: u32) -> Call {
 }
 
 fn answer(bridge: &Bridge, time: u32) -> (Answer<u32>, Vec<i32>, Vec<u8>, Vec<u8>) {
-    let (mut grid, mut support, mut verdict) = (vec![5; 40], vec![5; 3], vec![5; 2]);
+    let (mut grid, mut support, mut verdict) = (vec![5; 47], vec![5; 3], vec![5; 2]);
     let results = Results { grid: &mut grid, support: &mut support, verdict: &mut verdict };
     (bridge.analyse(&call(time), results), grid, support, verdict)
 }
 
 fn window_answer(bridge: &Bridge, time: u32) -> (Answer<u32>, Vec<i32>, Vec<u8>) {
-    let (mut grid, mut support) = (vec![5; 40], vec![5; 3]);
+    let (mut grid, mut support) = (vec![5; 47], vec![5; 3]);
     let results = Results { grid: &mut grid, support: &mut support, verdict: &mut [] };
     (bridge.window(&call(time), &Window::new(105, 106, 107, u32::MAX), results), grid, support)
 }
@@ -64,17 +66,18 @@ fn screen() -> Screen {
 }
 
 fn windows_answer(bridge: &Bridge, time: u32) -> (Answer<u32>, Vec<i32>, Vec<u8>) {
-    let (mut grid, mut support) = (vec![5; 50], vec![5; 3]);
+    let (mut grid, mut support) = (vec![5; 57], vec![5; 3]);
     let results = Results { grid: &mut grid, support: &mut support, verdict: &mut [] };
     (bridge.windows(&call(time), &screen(), results), grid, support)
 }
 
 /// What the stub says of a call's plain numbers and columns.
 fn assert_told(grid: &[i32]) {
-    assert_eq!(grid[..6], [101, 102, 103, 1, 0, 104]);
-    assert_eq!(grid[6..18], [3, -201, 301, 4, -202, 302, 5, -203, 303, 6, i32::MIN, 304]);
-    assert_eq!(grid[18..27], [7, 205, 305, 8, 206, 306, 9, 207, -1]);
-    assert_eq!(grid[27..33], [2, 208, 308, 1, 209, 209]);
+    assert_eq!(grid[..7], [101, 102, 103, 1, 105, 0, 104]);
+    assert_eq!(grid[7..19], [3, -201, 301, 4, -202, 302, 5, -203, 303, 6, i32::MIN, 304]);
+    assert_eq!(grid[19..28], [7, 205, 305, 8, 206, 306, 9, 207, -1]);
+    assert_eq!(grid[28..34], [2, -210, -310, 3, 211, 311]);
+    assert_eq!(grid[34..40], [2, 208, 308, 1, 209, 209]);
 }
 
 #[test]
@@ -82,9 +85,9 @@ fn every_argument_and_result_crosses_the_bridge() {
     let (code, grid, support, verdict) = answer(&start(Empty::Null), 0);
     assert_eq!((code, support, verdict), (Ok(0), vec![1; 3], vec![2; 2]));
     assert_told(&grid);
-    assert_eq!(grid[33..36], [40, 3, 2], "the lengths of the results");
+    assert_eq!(grid[40..43], [47, 3, 2], "the lengths of the results");
     let untouched = i32::from_ne_bytes([0xA5; 4]);
-    assert_eq!(grid[36..], [untouched; 4], "as they were before the call");
+    assert_eq!(grid[43..], [untouched; 4], "as they were before the call");
 }
 
 #[test]
@@ -92,8 +95,8 @@ fn a_window_query_crosses_the_bridge() {
     let (code, grid, support) = window_answer(&start(Empty::Null), 0);
     assert_eq!((code, support), (Ok(0), vec![1; 3]));
     assert_told(&grid);
-    assert_eq!(grid[33..35], [40, 3], "the lengths of the results");
-    assert_eq!(grid[36..], [105, 106, 107, -1], "the ends");
+    assert_eq!(grid[40..42], [47, 3], "the lengths of the results");
+    assert_eq!(grid[43..], [105, 106, 107, -1], "the ends");
 }
 
 #[test]
@@ -101,9 +104,43 @@ fn a_screen_crosses_the_bridge() {
     let (code, grid, support) = windows_answer(&start(Empty::Null), 0);
     assert_eq!((code, support), (Ok(0), vec![1; 3]));
     assert_told(&grid);
-    assert_eq!(grid[33..35], [50, 3], "the lengths of the results");
+    assert_eq!(grid[40..42], [57, 3], "the lengths of the results");
     let ends = [1, 105, 105, 2, 106, 111, 3, 107, 112, 4, 108, -1];
-    assert_eq!(grid[38..], ends, "the length, the first and the last of each column of ends");
+    assert_eq!(grid[45..], ends, "the length, the first and the last of each column of ends");
+}
+
+/// The lengths of the wind columns and their first numbers, as the archive gets
+/// them, and how many of its addresses are null.
+fn winds_of(empty: Empty, winds: Option<Winds>) -> (Answer<u32>, [i32; 4]) {
+    let mut grid = vec![5; 47];
+    let results = Results { grid: &mut grid, support: &mut [0], verdict: &mut [0] };
+    let code = start(empty).analyse(&Call { winds, ..call(0) }, results);
+    (code, [grid[28], grid[31], grid[29], grid[32]])
+}
+
+#[test]
+fn winds_that_are_left_out_are_marks_to_the_archive() {
+    for empty in [Empty::Dangling, Empty::Null] {
+        let marks = [4, 4, i32::MIN, i32::MIN];
+        assert_eq!(winds_of(empty, None), (Ok(0), marks), "as many as x has");
+        let given = Winds { u: vec![7], v: vec![8] };
+        assert_eq!(winds_of(empty, Some(given)), (Ok(0), [1, 1, 7, 8]));
+    }
+}
+
+/// The stub says no more than the null addresses where the grid is empty.
+#[test]
+fn winds_that_are_given_and_empty_are_not_left_out() {
+    let nulls = |winds: Winds| {
+        let call = Call { winds: Some(winds), ..call(0) };
+        let results = Results { grid: &mut [], support: &mut [0], verdict: &mut [0] };
+        start(Empty::Null).analyse(&call, results)
+    };
+    let (none, one) = (Vec::new, || vec![1]);
+    assert_eq!(nulls(Winds { u: one(), v: one() }), Ok(1), "the grid");
+    assert_eq!(nulls(Winds { u: none(), v: one() }), Ok(2));
+    assert_eq!(nulls(Winds { u: one(), v: none() }), Ok(2));
+    assert_eq!(nulls(Winds { u: none(), v: none() }), Ok(1), "both have an address");
 }
 
 /// A query in which no two lengths are alike; an x below 0 asks for a fault.
@@ -173,15 +210,15 @@ fn writes_outside_the_results_are_seen() {
         }
         assert_eq!(answer(&bridge, time).0, Err(seen), "fault {time}");
     }
-    let columns =
-        ["first_guess", "x", "y", "value", "observed", "from", "until", "radius", "limit"];
-    for (time, name) in (7..).zip(columns) {
+    let stations = ["first_guess", "x", "y", "value", "observed", "from", "until"];
+    let others = ["wind_u", "wind_v", "radius", "limit"];
+    for (time, name) in (7..).zip(stations.into_iter().chain(others)) {
         let seen = format!("the input {name} is changed by the call");
         assert_eq!(window_answer(&bridge, time).0, Err(seen.clone()), "fault {time}");
         assert_eq!(windows_answer(&bridge, time).0, Err(seen.clone()), "fault {time}");
         assert_eq!(answer(&bridge, time).0, Err(seen), "fault {time}");
     }
-    for (time, name) in (17..).zip(["left", "right", "top", "bottom"]) {
+    for (time, name) in (19..).zip(["left", "right", "top", "bottom"]) {
         let seen = format!("the input {name} is changed by the call");
         assert_eq!(windows_answer(&bridge, time).0, Err(seen), "fault {time}");
     }
@@ -193,7 +230,7 @@ fn writes_outside_the_results_are_seen() {
 fn a_crash_is_seen_and_the_next_call_answered() {
     let bridge = start(Empty::Dangling);
     for _ in 0..3 {
-        let died = answer(&bridge, 16).0.expect_err("it aborts");
+        let died = answer(&bridge, 18).0.expect_err("it aborts");
         assert!(died.starts_with("the archive died in this call: signal: 6"), "{died}");
         assert_eq!(answer(&bridge, 0).0, Ok(0));
     }

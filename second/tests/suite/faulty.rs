@@ -1,19 +1,20 @@
 //! Subjects with one planted fault each, to show that the harness sees it.
 
 use crate::faulty_weights::{self, WeightFault};
-use crate::windows::from_part;
-use second::call::{Analysis, Call, Query, Screen, Window, WindowAnswer};
+use crate::faulty_winds::{self, WindFault};
+use crate::windows::{from_part, picked_from};
+use second::call::{Analysis, Call, Query, Refusal, Screen, Window, WindowAnswer};
 use second::compare::{Answer, Own, Results, Subject};
 use second::field::Shape;
+use second::refusals::{check_analysis, check_window, Checked};
 use second::scan::{correct, difference, judge, smoothed, sums, Accepted};
-use second::scheme::analyse;
-use second::screen::points;
+use second::screen::{check_screen, points};
 use second::slips::{smoothed_with, Slip};
 use second::summary::Summary;
 use second::text;
 use second::units::{rounded, BORDER, MISSING, WEIGHT_SCALE};
 use second::verdicts::{before_first_scan, ACCEPTED, OFF_GRID};
-use second::window::{pick, reach, rows_on, widened};
+use second::window::{cut, pick, reach, rows_on, widened};
 
 #[derive(Clone, Copy, Debug, PartialEq, Eq)]
 pub enum Fault {
@@ -37,6 +38,7 @@ pub enum Fault {
     CornerPostsLeaveTheCut,
     PostsOfTheWindowOnly,
     Weights(WeightFault),
+    Winds(WindFault),
     Smooths(Slip),
     IdleCornersCount,
     NegativeZero,
@@ -54,15 +56,29 @@ pub enum Fault {
 
 pub struct Faulty(pub Fault);
 
+impl Faulty {
+    /// A test of the call, and the call as somebody goes on with it who has it
+    /// pass.
+    fn passed(&self, call: &Call, test: &dyn Fn(&Call) -> Checked) -> Result<Call, Refusal> {
+        match self.0 {
+            Fault::Winds(fault) => {
+                faulty_winds::check(call, fault, test).map(|()| faulty_winds::tamed(call))
+            }
+            _ => test(call).map(|()| call.clone()),
+        }
+    }
+}
+
 impl Subject for Faulty {
     fn analyse(&self, call: &Call, results: Results) -> Answer<u32> {
         if self.0 == Fault::WritesBeforeRefusal {
             results.grid.iter_mut().for_each(|value| *value = 0);
         }
-        if let Err(refusal) = analyse(call) {
-            return Ok(refusal.code());
-        }
-        let analysis = faulty_run(call, self.0);
+        let call = match self.passed(call, &check_analysis) {
+            Ok(call) => call,
+            Err(refusal) => return Ok(refusal.code()),
+        };
+        let analysis = faulty_run(&call, self.0);
         results.grid.copy_from_slice(&analysis.grid);
         results.support.copy_from_slice(&analysis.support);
         results.verdict.copy_from_slice(&analysis.verdict);
@@ -70,26 +86,26 @@ impl Subject for Faulty {
     }
 
     fn window(&self, call: &Call, ends: &Window, results: Results) -> Answer<u32> {
-        let (grid, support) = (results.grid, results.support);
-        let code = Own.window(call, ends, Results { grid, support, verdict: &mut [] });
-        if code == Ok(0) {
-            let answer = faulty_window(call, ends, self.0);
-            grid.copy_from_slice(&answer.grid);
-            support.copy_from_slice(&answer.support);
-        }
-        code
+        let call = match self.passed(call, &|call| check_window(call, ends)) {
+            Ok(call) => call,
+            Err(refusal) => return Ok(refusal.code()),
+        };
+        let answer = faulty_window(&call, ends, self.0);
+        results.grid.copy_from_slice(&answer.grid);
+        results.support.copy_from_slice(&answer.support);
+        Ok(0)
     }
 
     /// By cuts, unless these have more points together than the grid.
     fn windows(&self, call: &Call, screen: &Screen, results: Results) -> Answer<u32> {
-        let (grid, support) = (results.grid, results.support);
-        let code = Own.windows(call, screen, Results { grid, support, verdict: &mut [] });
-        if code == Ok(0) {
-            let answer = faulty_screen(call, &screen.windows(), self.0);
-            grid.copy_from_slice(&answer.grid);
-            support.copy_from_slice(&answer.support);
-        }
-        code
+        let call = match self.passed(call, &|call| check_screen(call, screen)) {
+            Ok(call) => call,
+            Err(refusal) => return Ok(refusal.code()),
+        };
+        let answer = faulty_screen(&call, &screen.windows(), self.0);
+        results.grid.copy_from_slice(&answer.grid);
+        results.support.copy_from_slice(&answer.support);
+        Ok(0)
     }
 
     fn reading_kind(&self, query: &Query) -> Answer<u32> {
@@ -184,6 +200,10 @@ fn faulty_window(call: &Call, ends: &Window, fault: Fault) -> WindowAnswer {
             let largest = call.radius[0].unsigned_abs().div_ceil(64);
             from_part(call, ends, &widened(call, ends, largest))
         }
+        Fault::Winds(WindFault::CutWithTheFirstWinds) => {
+            let cut = faulty_winds::with_the_first_winds(call, cut(call, &part));
+            picked_from(&cut, ends, &part)
+        }
         Fault::PostsLeaveTheCut => from_part(&moved_away(call, is_post), ends, &part),
         Fault::CornerPostsLeaveTheCut => {
             let (last_x, last_y) = shape.far_corner();
@@ -273,6 +293,9 @@ fn faulty_judge(
 
 /// The scheme with a fault in it.
 pub fn faulty_run(call: &Call, fault: Fault) -> Analysis {
+    if let Fault::Winds(fault) = fault {
+        return faulty_winds::run(call, fault);
+    }
     let mut call = call.clone();
     if fault == Fault::Missing32767 {
         let marks = call.value.iter_mut().filter(|value| **value == 32_767);
@@ -330,13 +353,8 @@ fn feeding(call: &Call, scan: usize, verdict: &[u8], grid: &mut [i32], support: 
     let shape = call.shape();
     for point in 0..shape.points() {
         let rows = (0..verdict.len()).filter(|row| verdict[*row] == 0);
-        let accepted: Vec<Accepted> = rows
-            .map(|row| Accepted {
-                x: call.x[row].into(),
-                y: call.y[row].into(),
-                difference: difference(call, grid, row),
-            })
-            .collect();
+        let accepted: Vec<Accepted> =
+            rows.map(|row| Accepted::new(call, row, difference(call, grid, row))).collect();
         let (i, j) = (point % shape.nx, point / shape.nx);
         let (weights, weighted) = sums(i, j, call.radius[scan], WEIGHT_SCALE, &accepted);
         if weights > 0 {

@@ -1,8 +1,8 @@
 //! Weights with one planted fault each, for `faulty`'s scheme.
 
 use second::call::Call;
-use second::scan::{weight, weight_in, Accepted};
-use second::units::{rounded, HUNDREDTHS, STEP, WEIGHT_SCALE};
+use second::scan::{Accepted, Effective};
+use second::units::{rounded, HUNDREDTHS, RADIUS, STEP, WEIGHT_SCALE};
 
 #[derive(Clone, Copy, Debug, PartialEq, Eq)]
 pub enum WeightFault {
@@ -42,23 +42,40 @@ pub const OF_NUMBERS: [WeightFault; 10] = [
 
 pub const OF_SUPPORT: [WeightFault; 2] = [SupportOfAllInside, SupportOfHundredths];
 
-/// The weight of a station inside the radius in the sum of weights, and the one
-/// that is multiplied by D.
-fn faulty_weights(r2: i64, d2: i64, fault: WeightFault) -> (i64, i64) {
-    let (right, hundredths) = (weight(r2, d2), weight_in(HUNDREDTHS, r2, d2));
-    let (dividend, divisor) = (WEIGHT_SCALE * (r2 - d2), r2 + d2);
-    let twice = 2 * WEIGHT_SCALE * r2;
-    let same = |weight: i64| (weight, weight);
-    match fault {
-        Scale(scale) => same(weight_in(scale, r2, d2)),
-        Rounded => same(rounded(dividend, divisor)),
-        HundredthsInTheSum => (hundredths, right),
-        HundredthsWithD => (right, hundredths),
-        DividendInU32 => same(i64::from(dividend as u32) / divisor),
-        DividendInI32 => same(i64::from(dividend as i32) / divisor),
-        TwiceInU32 => same(i64::from(twice as u32) / divisor - WEIGHT_SCALE),
-        TwiceInI32 => same(i64::from(twice as i32) / divisor - WEIGHT_SCALE),
-        SupportOfAllInside | SupportOfHundredths => same(right),
+/// A station inside the radius: what its weight has in place of R² and of d2, and
+/// its D. Where no wind stretches the weight, these are R² and d2 themselves.
+struct Inside {
+    r2: i128,
+    d2: i128,
+    difference: i64,
+}
+
+impl Inside {
+    fn weight_in(&self, scale: i64) -> i64 {
+        (i128::from(scale) * (self.r2 - self.d2) / (self.r2 + self.d2)) as i64
+    }
+
+    /// The weight in the sum of weights, and the one that is multiplied by D. What
+    /// has too few bits goes wrong with the round weight alone.
+    fn faulty_weights(&self, fault: WeightFault) -> (i64, i64) {
+        let (right, hundredths) = (self.weight_in(WEIGHT_SCALE), self.weight_in(HUNDREDTHS));
+        let (dividend, divisor) =
+            (i128::from(WEIGHT_SCALE) * (self.r2 - self.d2), self.r2 + self.d2);
+        let twice = 2 * i128::from(WEIGHT_SCALE) * self.r2;
+        let is_round = self.r2 <= i128::from(*RADIUS.end()).pow(2);
+        let same = |weight: i64| (weight, weight);
+        let over = |dividend: i64| dividend / divisor as i64;
+        match fault {
+            Scale(scale) => same(self.weight_in(scale)),
+            Rounded => same(((2 * dividend + divisor) / (2 * divisor)) as i64),
+            HundredthsInTheSum => (hundredths, right),
+            HundredthsWithD => (right, hundredths),
+            DividendInU32 if is_round => same(over((dividend as u32).into())),
+            DividendInI32 if is_round => same(over((dividend as i32).into())),
+            TwiceInU32 if is_round => same(over((twice as u32).into()) - WEIGHT_SCALE),
+            TwiceInI32 if is_round => same(over((twice as i32).into()) - WEIGHT_SCALE),
+            _ => same(right),
+        }
     }
 }
 
@@ -79,33 +96,41 @@ pub fn correct(
         let beside: Vec<Accepted> = beside.copied().collect();
         for (i, value) in row.iter_mut().enumerate() {
             let inside = inside(&beside, radius * radius, STEP * i as i64, y);
-            let (change, supports) = correction(&inside, radius * radius, fault);
+            let (change, supports) = correction(&inside, fault);
             *value += change as i32;
             support[j * nx + i] |= u8::from(supports) << scan;
         }
     }
 }
 
-/// The squared distance and D of the stations inside the radius round a place.
-fn inside(accepted: &[Accepted], r2: i64, x: i64, y: i64) -> Vec<(i64, i64)> {
+/// The stations inside the radius round a place.
+fn inside(accepted: &[Accepted], r2: i64, x: i64, y: i64) -> Vec<Inside> {
     let square = |station: &Accepted| (station.x - x).pow(2) + (station.y - y).pow(2);
-    let all = accepted.iter().map(|station| (square(station), station.difference));
-    all.filter(|(d2, _)| *d2 < r2).collect()
+    let near = accepted.iter().map(|station| (station, square(station)));
+    let near = near.filter(|(_, d2)| *d2 < r2);
+    let terms = near.map(|(station, d2)| {
+        let wind = station.wind.filter(|wind| *wind != (0, 0) && d2 > 0);
+        let stretched = wind.map(|wind| Effective::new(r2, station.offset(x, y), wind));
+        let Effective { over, under } =
+            stretched.unwrap_or(Effective { over: r2.into(), under: 1 });
+        Inside { r2: over, d2: under * i128::from(d2), difference: station.difference }
+    });
+    terms.collect()
 }
 
 /// The correction out of the stations inside the radius, and whether they
 /// support.
-fn correction(inside: &[(i64, i64)], r2: i64, fault: WeightFault) -> (i64, bool) {
+fn correction(inside: &[Inside], fault: WeightFault) -> (i64, bool) {
     let (mut weights, mut weighted) = (0, 0);
-    for (d2, difference) in inside {
-        let (in_the_sum, with_d) = faulty_weights(r2, *d2, fault);
+    for station in inside {
+        let (in_the_sum, with_d) = station.faulty_weights(fault);
         weights += in_the_sum;
-        weighted += with_d * difference;
+        weighted += with_d * station.difference;
     }
     let change = if weights > 0 { rounded(weighted, weights) } else { 0 };
     let supports = match fault {
         SupportOfAllInside => !inside.is_empty(),
-        SupportOfHundredths => inside.iter().any(|(d2, _)| weight_in(HUNDREDTHS, r2, *d2) > 0),
+        SupportOfHundredths => inside.iter().any(|station| station.weight_in(HUNDREDTHS) > 0),
         _ => weights > 0,
     };
     (change, supports)

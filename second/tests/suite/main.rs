@@ -6,6 +6,7 @@ mod faulty;
 mod faulty_fields;
 mod faulty_screens;
 mod faulty_weights;
+mod faulty_winds;
 mod field_sorts;
 mod fields;
 mod harness;
@@ -23,7 +24,9 @@ mod texts;
 mod trial;
 mod weight_sorts;
 mod weights;
+mod wind_sorts;
 mod windows;
+mod winds;
 
 use second::call::Call;
 use second::text::parse;

@@ -245,7 +245,8 @@ fn a_late_rejection_needs_a_limit_that_falls() {
 }
 
 /// Cases of which the second program has a wrong notion, and the subject the
-/// same: the two never differ.
+/// same: the two never differ. They have no winds, of which there is another thing
+/// that no answer may hold.
 #[derive(Clone)]
 struct WrongOnBothSides(AnalysisCase);
 
@@ -254,7 +255,8 @@ impl Case for WrongOnBothSides {
     type Expected = Result<Analysis, Refusal>;
 
     fn generate(seed: u64, index: u64) -> Self {
-        WrongOnBothSides(AnalysisCase::generate(seed, index))
+        let call = AnalysisCase::generate(seed, index).0;
+        WrongOnBothSides(AnalysisCase(Call { winds: None, ..call }))
     }
 
     fn expected(&self) -> Self::Expected {

@@ -4,6 +4,7 @@
 use crate::faulty::{Fault, Faulty};
 use crate::faulty_screens::{FaultyScreen, OF_ANSWERS};
 use crate::faulty_weights::WeightFault;
+use crate::faulty_winds::WindFault;
 use second::call::Refusal;
 use second::compare::{Case, Own};
 use second::field::Shape;
@@ -15,6 +16,7 @@ use second::units::HUNDREDTHS;
 
 const GRID: Shape = Shape { nx: 21, ny: 27 };
 const GAIN: &str = "points that gain support over a run in hundredths";
+const MOVED: &str = "points that mode 0 leaves otherwise";
 
 fn cases() -> Cases {
     stations(DATA).and_then(|stations| Cases::new(&stations)).expect("as they should be")
@@ -103,9 +105,10 @@ fn the_cases_are_counted() {
         &format!("smoothing off: 96 of 405 rejected; 88 of the 405 are posts; {GAIN}: 1\n"),
         &format!("smoothing off: 322 of 405 rejected; 88 of the 405 are posts; {GAIN}: 10\n"),
         &format!("smoothing on: 330 of 405 rejected; 88 of the 405 are posts; {GAIN}: 8\n"),
-        "\nreal analysis, 7 cases\n",
-        "\nreal window, 205 cases\n",
-        "\nreal windows, 62 cases\n",
+        &format!("327 of 405 rejected; 88 of the 405 are posts; {GAIN}: 1; {MOVED}: 516\n"),
+        "\nreal analysis, 13 cases\n",
+        "\nreal window, 409 cases\n",
+        "\nreal windows, 122 cases\n",
         "\nreal reading, 3072 cases\n",
         "\nreal summary, 6 cases\n",
         "\nreal text, 7 cases\n",
@@ -133,12 +136,25 @@ fn faults_are_seen_in_the_real_stations() {
         Fault::Weights(WeightFault::Scale(HUNDREDTHS)),
         Fault::Weights(WeightFault::Rounded),
         Fault::Weights(WeightFault::SupportOfHundredths),
+        Fault::Winds(WindFault::RowBefore),
+        Fault::Winds(WindFault::Exchanged),
+        Fault::Winds(WindFault::Across),
+        Fault::Winds(WindFault::NoSquare),
+        Fault::Winds(WindFault::GatedByTheEffective),
+        Fault::Winds(WindFault::CutTwice),
+        Fault::Winds(WindFault::MarkIsANumber),
+        Fault::Winds(WindFault::CalmIsSilent),
+        Fault::Winds(WindFault::StretchedInTheSumOnly),
     ] {
         let seen = cases.analyses.iter().any(|case| case.differs(&Faulty(fault)).is_some());
         assert!(seen, "{fault:?} was not seen");
     }
-    for fault in [Fault::WidenedByLargestOnly, Fault::PostsLeaveTheCut, Fault::PostsOfTheWindowOnly]
-    {
+    for fault in [
+        Fault::WidenedByLargestOnly,
+        Fault::PostsLeaveTheCut,
+        Fault::PostsOfTheWindowOnly,
+        Fault::Winds(WindFault::CutWithTheFirstWinds),
+    ] {
         let seen = cases.windows.iter().any(|case| case.differs(&Faulty(fault)).is_some());
         assert!(seen, "{fault:?} was not seen");
     }

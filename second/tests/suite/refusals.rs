@@ -1,7 +1,7 @@
 //! Every refusal number, its place, and its order against its neighbours.
 
 use crate::{changed, sample};
-use second::call::{Call, Refusal, Window};
+use second::call::{Call, Refusal, Window, Winds};
 use second::scheme::analyse;
 use second::window::window;
 
@@ -151,4 +151,73 @@ fn eight_is_a_row_with_all_its_tests() {
     let missing = |call: &mut Call| (call.value[1], call.y[1]) = (i32::MIN, 2_000_000);
     assert_eq!(refused(missing), (8, 1), "a missing row is tested like any other");
     assert_eq!(window_refused([0, 1, 0, 1], |call| call.until[2] = 0), (8, 2), "outside the cut");
+}
+
+/// Winds in which no row is at fault: at the bounds, calm and missing.
+fn blow(call: &mut Call) -> &mut Winds {
+    call.winds.insert(Winds { u: vec![-100, 0, i32::MIN], v: vec![100, 0, i32::MIN] })
+}
+
+#[test]
+fn both_wind_columns_count_in_four() {
+    assert_eq!(refused(|call| blow(call).u[0] = 100), (0, 0));
+    for column in 0..2 {
+        for length in [0, 2, 4, 513] {
+            let change = |call: &mut Call| blow(call).columns_mut()[column].resize(length, 0);
+            assert_eq!(refused(change), (4, 0), "column {column} of {length}");
+            assert_eq!(refused(|call| (change(call), call.mode = 2).1), (4, 0), "4 before 5");
+        }
+    }
+    assert_eq!(refused(|call| call.winds = Some(Winds::default())), (4, 0), "given, and empty");
+    assert_eq!(refused(|call| call.winds = Some(Winds::missing(4))), (4, 0));
+    assert_eq!(refused(|call| call.winds = None), (0, 0), "left out");
+}
+
+#[test]
+fn five_is_the_mode_too() {
+    assert_eq!(refused(|call| call.mode = 1), (0, 0));
+    for mode in [2, 3, 256, 257, 65_536, 1 << 31, u32::MAX] {
+        assert_eq!(refused(|call| call.mode = mode), (5, 0));
+        assert_eq!(refused(|call| (call.mode, call.radius[0]) = (mode, 0)), (5, 0), "5 before 6");
+        assert_eq!(refused(|call| (call.mode, call.scans) = (mode, 7)), (5, 0));
+        assert_eq!(window_refused([0, 1, 0, 1], |call| call.mode = mode), (5, 0));
+    }
+    let late = |call: &mut Call| (call.mode, call.x[0], blow(call).u[2]) = (2, i32::MIN, 5);
+    assert_eq!(refused(late), (5, 0), "5 before 8");
+}
+
+#[test]
+fn eight_is_a_wind_too() {
+    for mode in [0, 1] {
+        for (u, v) in [
+            (101, 0),
+            (-101, 0),
+            (0, 101),
+            (0, -101),
+            (i32::MAX, 0),
+            (0, i32::MIN + 1),
+            (i32::MIN, 0),
+            (0, i32::MIN),
+            (i32::MIN, 100),
+            (i32::MIN, 101),
+        ] {
+            let change = |row: usize| {
+                move |call: &mut Call| {
+                    call.mode = mode;
+                    let winds = blow(call);
+                    (winds.u[row], winds.v[row]) = (u, v);
+                }
+            };
+            for row in 0..3 {
+                assert_eq!(refused(change(row)), (8, row as u32), "{u},{v} in mode {mode}");
+            }
+            assert_eq!(window_refused([0, 1, 0, 1], change(2)), (8, 2));
+            let before = |call: &mut Call| (change(2)(call), call.until[1] = 0).1;
+            assert_eq!(refused(before), (8, 1), "row by row");
+            let after = |call: &mut Call| (change(1)(call), call.until[2] = 0).1;
+            assert_eq!(refused(after), (8, 1), "row by row");
+            let guess = |call: &mut Call| (change(0)(call), call.first_guess[8] = i32::MIN).1;
+            assert_eq!(refused(guess), (7, 8), "7 before 8");
+        }
+    }
 }

@@ -5,12 +5,12 @@
  * verdict of their own; the one says its four ends at the end of grid, the other its four columns. A reading and a
  * summary are made of all that they got; some x, or field[0], ask for a fault.
  */
-#include "../../../tests/standin.h"
+#include "standin.h"
 
 #include <stdlib.h>
 #include <string.h>
 
-enum { COLUMNS = 9, ENDS = 4, OUTSIDE = 1, CHANGES = 7, ABORTS = 16, CHANGES_ENDS = 17 };
+enum { COLUMNS = 11, ENDS = 4, OUTSIDE = 1, CHANGES = 7, ABORTS = 18, CHANGES_ENDS = 19 };
 
 struct column {
     uint32_t *numbers;
@@ -58,6 +58,8 @@ static uint32_t answer_analysis(const struct sosnyavik_request *q, struct sosnya
         {(uint32_t *)q->observed.at, q->observed.count},
         {(uint32_t *)q->from.at, q->from.count},
         {(uint32_t *)q->until.at, q->until.count},
+        {(uint32_t *)q->wind_u.at, q->wind_u.count},
+        {(uint32_t *)q->wind_v.at, q->wind_v.count},
         {(uint32_t *)q->radius.at, q->radius.count},
         {(uint32_t *)q->limit.at, q->limit.count},
     };
@@ -67,8 +69,8 @@ static uint32_t answer_analysis(const struct sosnyavik_request *q, struct sosnya
     if (results.grid.count == 0)
         return nulls;
 
-    int32_t numbers[] = {(int32_t)q->nx, (int32_t)q->ny,   (int32_t)q->scans,
-                         q->smooth,      (int32_t)q->time, (int32_t)q->age};
+    int32_t numbers[] = {(int32_t)q->nx,   (int32_t)q->ny,   (int32_t)q->scans, q->smooth,
+                         (int32_t)q->mode, (int32_t)q->time, (int32_t)q->age};
     memcpy(results.grid.at, numbers, sizeof numbers);
     int32_t *to = results.grid.at + sizeof numbers / sizeof *numbers;
     for (size_t c = 0; c < COLUMNS; c++)

@@ -12,10 +12,14 @@ const SEED: u64 = 41;
 
 /// The window's numbers out of a part of the grid around it.
 pub fn from_part(call: &Call, ends: &Window, part: &Window) -> WindowAnswer {
-    let cut = cut(call, part);
+    picked_from(&cut(call, part), ends, part)
+}
+
+/// The same, out of a part that is cut already.
+pub fn picked_from(cut: &Call, ends: &Window, part: &Window) -> WindowAnswer {
     let (left, top) = (ends.left - part.left, ends.top - part.top);
     let (right, bottom) = (ends.right - part.left, ends.bottom - part.top);
-    let analysis = analyse(&cut).expect("a cut of an accepted request is accepted");
+    let analysis = analyse(cut).expect("a cut of an accepted request is accepted");
     pick(cut.shape(), &analysis, &Window::new(left, right, top, bottom))
 }
 
@@ -45,9 +49,10 @@ pub fn accepted(seed: u64, count: u64) -> impl Iterator<Item = (u64, Call, Windo
 
 #[test]
 fn the_cut_agrees_with_the_whole() {
-    let (mut held, mut smaller) = (0, 0);
+    let (mut held, mut smaller, mut along) = (0, 0, 0);
     for (index, call, ends) in accepted(SEED, 6000) {
         held += 1;
+        along += usize::from(call.mode == 1 && call.winds.is_some());
         let part = widened(&call, &ends, reach(&call));
         smaller += usize::from(part.area() < call.first_guess.len());
         assert!(part_agrees(&call, &ends, &part), "case {index} of seed {SEED}");
@@ -55,6 +60,7 @@ fn the_cut_agrees_with_the_whole() {
     }
     assert!(held > 3000, "{held} windows were accepted");
     assert!(smaller > 1500, "{smaller} cuts were smaller than the grid");
+    assert!(along > 1200, "{along} windows went along the wind");
 }
 
 /// A part of the grid that somebody might take for the cut.
