@@ -5,7 +5,7 @@
  * verdict of their own; the one says its four ends at the end of grid, the other its four columns. A reading and a
  * summary are made of all that they got; some x, or field[0], ask for a fault.
  */
-#include "standin.h"
+#include "../../../tests/standin.h"
 
 #include <stdlib.h>
 #include <string.h>
