@@ -17,7 +17,7 @@ use Rattle.scheme.specs.Streaks.{Fair}
 use Rattle.scheme.specs.Gifts.{weighed, gift-weighed}
 use Rattle.scan_weight.specs.Along.{calmed, calmed-fair, weightBy, weightBy-most, by-wind, mostStrength, strength-small, mostPart, part-small}
 use Rattle.scan_point.specs.Near.{Stations, windIn, xAt, yAt, windAt, verdictAt, dAt, shareAt, Slight, weighed-slight, rowGap, Inside, Ready, Near, near-is-accepted, near-step, accepted-shares}
-use Rattle.scan_point.specs.Round.{Sized, Roomy, roomy-new, roomy-set, sized-set, new-x, new-y, new-d, next-sized}
+use Rattle.scan_point.specs.Round.{Sized, Roomy, roomy-set, sized-set, new-x, new-y, new-d, next-sized}
 
 -- of a wind, for the points of a row that the station is dy off
 abbrev pub streakOf : Wind → ℤ → List ℤ
@@ -75,8 +75,9 @@ pub record RoomyAlong (lx : List ℤ) (ly : List ℕ) (ld : List ℤ) (lw : List
   pub roomy : Roomy lx ly ld
   pub w-long : length lw ≡ mostStations
 
-pub roomy-along-new : RoomyAlong (replicate mostStations (pos 0)) (replicate mostStations 0) (replicate mostStations (pos 0)) (replicate mostStations (replicate 3 (pos 0)))
-roomy-along-new = record { roomy = roomy-new; w-long = length-replicate mostStations (replicate 3 (pos 0)) }
+-- room for winds beside room for the rest
+pub room-for-winds : {lx : List ℤ} {ly : List ℕ} {ld : List ℤ} → Roomy lx ly ld → RoomyAlong lx ly ld (replicate mostStations (replicate 3 (pos 0)))
+room-for-winds r = record { roomy = r; w-long = length-replicate mostStations (replicate 3 (pos 0)) }
 
 module _ (all : Stations) (r2 j : ℕ) (bounded : r2 ≤ mostSquare) (ok : Ready all) (lx : List ℤ) (ly : List ℕ) (ld : List ℤ) (lw : List (List ℤ))
     (room : RoomyAlong lx ly ld lw) (n k : ℕ) (turn : k < all .count) (few : n ≤ k) (windy : all .mode ≡ windMode)

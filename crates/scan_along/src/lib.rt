@@ -1,4 +1,4 @@
-// Sums and corrections at the points of a grid row by weights that are stretched along each station's wind (document 02, 5).
+// Sums and corrections at the points of a grid by weights that are stretched along each station's wind (document 02, 5).
 ghost use mathlib.Core.Path.{_≡_};
 ghost use Prim.Native.Nat.{ℕ, _+_, _*_, _≤_, _<_};
 ghost use mathlib.Core.Bool.{false};
@@ -7,14 +7,16 @@ ghost use lib.ListN.{getD};
 ghost use lib.IntN.{pos, natAbs};
 ghost use Rattle.lists.specs.Sums.{upTo};
 ghost use Rattle.lists.specs.Filled.{Filled};
-ghost use Rattle.scheme.specs.Units.{mostSide, isNoWind, mostStations, windMode};
+ghost use Rattle.scheme.specs.Units.{mostSide, stored, isNoWind, mostStations, windMode};
 ghost use Rattle.scheme.specs.Correction.{nothing, plus};
 ghost use Rattle.scheme.specs.Most.{mostAlong, mostSquare, mostWeights, mostPulls};
 ghost use Rattle.scheme.specs.Streaks.{Fair};
 ghost use Rattle.scan_weight.specs.Along.{calmed};
 ghost use Rattle.scan_point.specs.Near.{windIn, Added, stationsWith, Ready, Near};
-ghost use Rattle.scan_point.specs.Pass.{rowZ, rowS, RowReady};
+ghost use Rattle.scan_point.specs.Round.{Roomy};
+ghost use Rattle.scan_point.specs.Pass.{rowZ, rowS, RowReady, corrected, backed, PassReady};
 ghost use Rattle.scan_along.specs.Streak.{streakAt, alongShare, SizedAlong, RoomyAlong};
+use request::Terms;
 use scan_point::Sums;
 
 // Places in what is gathered of a wind: u, v·dy and V.
@@ -66,7 +68,7 @@ fn streak_if(verdict: u8, row: [i32; 5], j: usize) -> [i32; 3]
 
 // Gathers the stations near grid row j, and what its points go by of their winds: each turn stores at the next free place, which only a near one
 // takes.
-pub fn near_row(
+fn near_row(
     lx: &mut [i32; 512],
     ly: &mut [u32; 512],
     ld: &mut [i64; 512],
@@ -152,7 +154,7 @@ fn point_sums(
 }
 
 // One grid row, whose points stand at base, base + 1, ..: each is corrected by the stations near the row.
-pub fn correct_row(
+fn correct_row(
     z: &mut [i32],
     support: &mut [u8],
     base: usize,
@@ -174,5 +176,33 @@ pub fn correct_row(
         let s = point_sums(lx, ly, ld, lw, n, i, r2);
         scan_point::set_point(z, support, base + i, s.w, s.wd, bit);
         i += 1;
+    }
+}
+
+// One correction of the whole grid, in place, as scan_point's. What is gathered of the winds has its room here, for mode 1 alone.
+pub fn correct(
+    z: &mut [i32],
+    support: &mut [u8],
+    verdict: &[u8],
+    d: &[i64; 512],
+    t: Terms,
+    numbers: &[[i32; 5]; 512],
+    lx: &mut [i32; 512],
+    ly: &mut [u32; 512],
+    ld: &mut [i64; 512],
+    radius: u32,
+    bit: u8,
+)
+    requires { ⌜ PassReady (now z) (now support) (t .nx) (t .ny) (stationsWith windMode (t .stations) (now numbers) (now verdict) (now d)) radius bit × Roomy (now lx) (now ly) (now ld) ⌝ }
+    ensures { λ u. ⌜ Roomy (now (lx .exit)) (now (ly .exit)) (now (ld .exit)) × (now (z .exit) ≡ stored (t .nx) (t .ny) (corrected (now (z .entry)) (t .nx) (stationsWith windMode (t .stations) (now (numbers .entry)) (now (verdict .entry)) (now (d .entry))) (radius * radius)))
+        × (now (support .exit) ≡ stored (t .nx) (t .ny) (backed (now (support .entry)) (t .nx) (stationsWith windMode (t .stations) (now (numbers .entry)) (now (verdict .entry)) (now (d .entry))) (radius * radius) bit)) ⌝ }
+{
+    let r2 = radius * radius;
+    let mut lw = [[0i32; 3]; 512];
+    let mut j: usize = 0;
+    while j < t.ny {
+        let n = near_row(lx, ly, ld, &mut lw, t.stations, numbers, verdict, d, r2, j);
+        correct_row(z, support, j * t.nx, t.nx, lx, ly, ld, &lw, n, r2, bit);
+        j += 1;
     }
 }

@@ -1,4 +1,4 @@
-// Sums and corrections at the points of a grid row (document 01, "One scan", Correction): what both modes share, and those by the round weight.
+// Sums and corrections at the points of a grid (document 01, "One scan", Correction): what both modes share, and those by the round weight.
 ghost use mathlib.Core.Path.{_≡_};
 ghost use Prim.Native.Nat.{ℕ, _+_, _*_, _≤_, _<_};
 ghost use mathlib.Core.Bool.{cond};
@@ -7,13 +7,14 @@ ghost use lib.ListN.{getD, set};
 ghost use lib.IntN.{pos, natAbs, _+ℤ_, _*ℤ_};
 ghost use Rattle.lists.specs.Sums.{upTo};
 ghost use Rattle.lists.specs.Filled.{Filled};
-ghost use Rattle.scheme.specs.Units.{mostSide, mostStations, mostLimit, roundMode};
+ghost use Rattle.scheme.specs.Units.{mostSide, stored, mostStations, mostLimit, roundMode};
 ghost use Rattle.scheme.specs.Weight.{scale, weight};
 ghost use Rattle.scheme.specs.Correction.{nothing, plus, correction};
 ghost use Rattle.scheme.specs.Most.{mostAlong, mostSquare, mostWeights, mostPulls, mostField};
-ghost use Rattle.scan_point.specs.Near.{Added, rowGap, stationsWith, Ready, Near};
+ghost use Rattle.scan_point.specs.Near.{Down, Added, rowGap, stationsWith, Ready, Near};
 ghost use Rattle.scan_point.specs.Round.{nearShare, Sized, Roomy};
-ghost use Rattle.scan_point.specs.Pass.{rowZ, rowS, PointReady, RowReady};
+ghost use Rattle.scan_point.specs.Pass.{rowZ, rowS, PointReady, RowReady, corrected, backed, PassReady};
+use request::Terms;
 
 // The sum of weights, and the sum of weight·D.
 pub struct Sums {
@@ -69,7 +70,32 @@ fn with_near(
     )
 }
 
-// The sums at column i of a grid row, over the n stations near that row: from the last to the first, two in a turn.
+// The sums at column i of a grid row over the n stations near that row, from those of all but the first t of them.
+fn rest_sums(
+    w: u64,
+    wd: i64,
+    lx: &[i32; 512],
+    ly: &[u32; 512],
+    ld: &[i64; 512],
+    n: usize,
+    t: usize,
+    i: usize,
+    r2: u32,
+) -> Sums
+    requires { ⌜ (t ≤ n) × (n ≤ mostStations) × (i < mostSide) × (r2 ≤ mostSquare) × ((t : ℕ) → t < n → Sized (now lx) (now ly) (now ld) t) × Down (nearShare (now lx) (now ly) (now ld) r2 i) n t w wd ⌝ }
+    ensures { λ s. ⌜ (s .w ≡ upTo nothing plus n (nearShare (now (lx .entry)) (now (ly .entry)) (now (ld .entry)) r2 i) .weights)
+        × (s .wd ≡ upTo nothing plus n (nearShare (now (lx .entry)) (now (ly .entry)) (now (ld .entry)) r2 i) .pulls) ⌝ }
+{
+    let mut s = Sums { w, wd };
+    let mut k = t;
+    while 0 < k {
+        s = with_near(s.w, s.wd, lx, ly, ld, k - 1, i, r2);
+        k -= 1;
+    }
+    s
+}
+
+// The sums at column i of a grid row, over the n stations near that row: from the last to the first, four in a turn.
 fn point_sums(
     lx: &[i32; 512],
     ly: &[u32; 512],
@@ -84,15 +110,14 @@ fn point_sums(
 {
     let mut s = Sums { w: 0, wd: 0 };
     let mut t = n;
-    while 1 < t {
+    while 3 < t {
         s = with_near(s.w, s.wd, lx, ly, ld, t - 1, i, r2);
         s = with_near(s.w, s.wd, lx, ly, ld, t - 2, i, r2);
-        t -= 2;
+        s = with_near(s.w, s.wd, lx, ly, ld, t - 3, i, r2);
+        s = with_near(s.w, s.wd, lx, ly, ld, t - 4, i, r2);
+        t -= 4;
     }
-    if 0 < t {
-        return with_near(s.w, s.wd, lx, ly, ld, 0, i, r2);
-    }
-    s
+    rest_sums(s.w, s.wd, lx, ly, ld, n, t, i, r2)
 }
 
 // A point's value after its correction.
@@ -134,7 +159,7 @@ pub fn one_if_below(gap: u32, r2: u32) -> usize
 }
 
 // Gathers the stations near grid row j, once for all its points: each turn stores at the next free place, which only a near one takes.
-pub fn near_row(
+fn near_row(
     lx: &mut [i32; 512],
     ly: &mut [u32; 512],
     ld: &mut [i64; 512],
@@ -174,7 +199,7 @@ pub fn set_point(z: &mut [i32], support: &mut [u8], p: usize, w: u64, wd: i64, b
 }
 
 // One grid row, whose points stand at base, base + 1, ..: each is corrected by the stations near the row.
-pub fn correct_row(
+fn correct_row(
     z: &mut [i32],
     support: &mut [u8],
     base: usize,
@@ -195,5 +220,33 @@ pub fn correct_row(
         let s = point_sums(lx, ly, ld, n, i, r2);
         set_point(z, support, base + i, s.w, s.wd, bit);
         i += 1;
+    }
+}
+
+// One correction of the whole grid, in place: the differences d were all taken before, so that no point sees another's correction. The lists
+// are room for the stations near a row, lent so that they are cleared once for all scans.
+pub fn correct(
+    z: &mut [i32],
+    support: &mut [u8],
+    verdict: &[u8],
+    d: &[i64; 512],
+    t: Terms,
+    numbers: &[[i32; 5]; 512],
+    lx: &mut [i32; 512],
+    ly: &mut [u32; 512],
+    ld: &mut [i64; 512],
+    radius: u32,
+    bit: u8,
+)
+    requires { ⌜ PassReady (now z) (now support) (t .nx) (t .ny) (stationsWith roundMode (t .stations) (now numbers) (now verdict) (now d)) radius bit × Roomy (now lx) (now ly) (now ld) ⌝ }
+    ensures { λ u. ⌜ Roomy (now (lx .exit)) (now (ly .exit)) (now (ld .exit)) × (now (z .exit) ≡ stored (t .nx) (t .ny) (corrected (now (z .entry)) (t .nx) (stationsWith roundMode (t .stations) (now (numbers .entry)) (now (verdict .entry)) (now (d .entry))) (radius * radius)))
+        × (now (support .exit) ≡ stored (t .nx) (t .ny) (backed (now (support .entry)) (t .nx) (stationsWith roundMode (t .stations) (now (numbers .entry)) (now (verdict .entry)) (now (d .entry))) (radius * radius) bit)) ⌝ }
+{
+    let r2 = radius * radius;
+    let mut j: usize = 0;
+    while j < t.ny {
+        let n = near_row(lx, ly, ld, t.stations, numbers, verdict, d, r2, j);
+        correct_row(z, support, j * t.nx, t.nx, lx, ly, ld, n, r2, bit);
+        j += 1;
     }
 }

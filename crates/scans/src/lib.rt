@@ -7,7 +7,7 @@ ghost use Rattle.scheme.specs.Promises.{slices};
 ghost use Rattle.scheme.specs.Accepted.{Shaped, Sound, Fits};
 ghost use Rattle.request.specs.Tables.{planIn, requestIn};
 ghost use Rattle.scheme.specs.Bounds.{Small};
-ghost use Rattle.scan_along.specs.Streak.{RoomyAlong};
+ghost use Rattle.scan_point.specs.Round.{Roomy};
 ghost use Rattle.scans.specs.Scanned.{Scanned};
 ghost use Rattle.scans.specs.Ready.{EntryIn, ScanReady, smoothedIf};
 use request::Terms;
@@ -46,16 +46,15 @@ fn scan(
     lx: &mut [i32; 512],
     ly: &mut [u32; 512],
     ld: &mut [i64; 512],
-    lw: &mut [[i32; 3]; 512],
     t: Terms,
     guess: &[i32],
     numbers: &[[i32; 5]; 512],
     m: usize,
     bit: u8,
 )
-    requires { ⌜ ScanReady t (now guess) (now numbers) m bit (now z) (now support) (now verdict) (now d) × RoomyAlong (now lx) (now ly) (now ld) (now lw) ⌝ }
+    requires { ⌜ ScanReady t (now guess) (now numbers) m bit (now z) (now support) (now verdict) (now d) × Roomy (now lx) (now ly) (now ld) ⌝ }
     ensures { λ u. ⌜ Scanned t (now (guess .entry)) (now (numbers .entry)) m (now (z .entry)) (now (support .entry)) (now (verdict .entry)) (now (z .exit)) (now (support .exit)) (now (verdict .exit)) (now (d .exit))
-        × (length (now (d .exit)) ≡ mostStations) × RoomyAlong (now (lx .exit)) (now (ly .exit)) (now (ld .exit)) (now (lw .exit)) ⌝ }
+        × (length (now (d .exit)) ≡ mostStations) × Roomy (now (lx .exit)) (now (ly .exit)) (now (ld .exit)) ⌝ }
 {
     let limit = limit_of(t, m);
     scan_station::judge(guess, z, verdict, d, t, numbers, limit, (m as u8) + 1);
@@ -69,7 +68,6 @@ fn scan(
         lx,
         ly,
         ld,
-        lw,
         radius_of(t, m),
         bit,
     );
@@ -94,7 +92,6 @@ pub fn run(
     let mut lx = [0i32; 512];
     let mut ly = [0u32; 512];
     let mut ld = [0i64; 512];
-    let mut lw = [[0i32; 3]; 512];
     let mut bit: u8 = 1;
     let mut m: usize = 0;
     while m < t.scans {
@@ -106,7 +103,6 @@ pub fn run(
             &mut lx,
             &mut ly,
             &mut ld,
-            &mut lw,
             t,
             guess,
             numbers,

@@ -9,32 +9,32 @@ use lib.IntN.{ℤ, pos}
 use Rattle.lists.specs.Tab.{length-tab}
 use Rattle.scheme.specs.Units.{mostStations}
 use Rattle.request.specs.Tables.{stationIn}
-use Rattle.scan_along.specs.Streak.{RoomyAlong, roomy-along-new}
+use Rattle.scan_point.specs.Round.{Roomy, roomy-new}
 use Rattle.scan_start.specs.Reached.{Reached}
 use Rattle.scans.specs.Run.{z-long, sup-long, few-scans, bit-small, scan-ready, next, whole}
 use Rattle.scans.proofs.run.Statement.{statement}
 use Rattle.scans.proofs.run.Tie as tie
 
 abbrev Inv-loop : tie.InvT-loop
-Inv-loop t guess numbers minutes grid₀ support₀ verdict₀ d₀ lx₀ ly₀ ld₀ lw₀ bit₀ m₀ grid support verdict d lx ly ld lw bit m =
-    (m ≤ t .scans) × (bit ≡ 2 ^ m) × (length d ≡ mostStations) × RoomyAlong lx ly ld lw × Reached t guess numbers minutes m grid support verdict
+Inv-loop t guess numbers minutes grid₀ support₀ verdict₀ d₀ lx₀ ly₀ ld₀ bit₀ m₀ grid support verdict d lx ly ld bit m =
+    (m ≤ t .scans) × (bit ≡ 2 ^ m) × (length d ≡ mostStations) × Roomy lx ly ld × Reached t guess numbers minutes m grid support verdict
 
 abbrev μ-loop : tie.MeasureT-loop
-μ-loop t guess numbers minutes grid₀ support₀ verdict₀ d₀ lx₀ ly₀ ld₀ lw₀ bit₀ m₀ grid support verdict d lx ly ld lw bit m = t .scans - m
+μ-loop t guess numbers minutes grid₀ support₀ verdict₀ d₀ lx₀ ly₀ ld₀ bit₀ m₀ grid support verdict d lx ly ld bit m = t .scans - m
 
 -- a turn, by what stands after it
 abbrev turn : tie.After-slice-known6 Inv-loop μ-loop → tie.Then1 Inv-loop μ-loop
-turn c = c .before .before .before .before .before .before .before .before .before .before .before .before .before .before
+turn c = c .before .before .before .before .before .before .before .before .before .before .before .before .before
 
 begin-requires : tie.Need-begin-requires Inv-loop μ-loop
 begin-requires c κs = c .before .before .before .before .before .pre
 
 loop-holds : tie.Need-loop-holds Inv-loop μ-loop
-loop-holds c = (omega arith, refl, length-replicate {A = ℤ} mostStations (pos 0), roomy-along-new, c .before .before .before .before .before .begin .ensures)
+loop-holds c = (omega arith, refl, length-replicate {A = ℤ} mostStations (pos 0), roomy-new, c .before .before .before .before .before .begin .ensures)
 
 scan-requires : tie.Need-scan-requires Inv-loop μ-loop
 scan-requires c κs =
-    let t = c .before .before .before .before .before .before .before .before in
+    let t = c .before .before .before .before .before .before .before in
     let i = t .before .before .loop .inv in
     (scan-ready (i .4) (t .if1 .taken) (i .1) (i .2), i .3)
 

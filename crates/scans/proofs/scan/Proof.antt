@@ -24,7 +24,7 @@ module _ (c : tie.After-judge) where
 -- and what the correction leaves
 module _ (c : tie.After-correct) where
   abbrev j : tie.After-judge
-  j = c .before .before .before .before .before .before .before .before .before .before .before .before
+  j = c .before .before .before .before .before .before .before .before .before .before .before
 
   abbrev all : Stations
   all = stationsWith (s j .args .t .mode) (s j .args .t .stations) (s j .args .numbers .now) (j .judge .last .1 .1 .0) (j .judge .last .1 .1 .1 .0)
@@ -52,7 +52,7 @@ radius-of-requires c κs = search needs
 
 correct-requires : tie.Need-correct-requires
 correct-requires c κs =
-    let j = c .before .before .before .before .before .before .before .before .before .before .before in
+    let j = c .before .before .before .before .before .before .before .before .before .before in
     (rw (c .radius-of .ensures) (pass-ready (s j .pre .0) (judged j) (j .judge .ensures .0)), s j .pre .1)
 
 smooth-if-requires : tie.Need-smooth-if-requires
