@@ -79,7 +79,7 @@ pub fn stretched(r2: u32, d2: u32, w2: u32, q: i32) -> u32
     let far = d2 as u64;
     let gust = (w2 as u64) * far;
     if gust == 0 {
-        return weight(r2, d2);
+        return whole_part(r2 as u64, far);
     }
     whole_part((r2 as u64) * (gust + squared(q)), gust * far)
 }

@@ -45,13 +45,16 @@ returns c = let a = c .before .args in sym (beyond (a .r2) (a .d2) (a .w2) (a .q
 mul-gust : tie.Need-mul-gust
 mul-gust c = record { fits = omega (arith, sizes (c .before) (c .if1 .left) .gust) }
 
-weight-requires : tie.Need-weight-requires
-weight-requires c κs = search needs
+whole-part-requires : tie.Need-whole-part-requires
+whole-part-requires c κs =
+    let s = c .before .before in
+    let near = c .before .if1 .left in
+    (omega (arith, near), omega (arith, near), omega (arith, near, s .pre .0))
 
 returns-2 : tie.Need-returns-2
 returns-2 c =
     let a = c .before .before .before .args in
-    c .weight .ensures ∙ sym (calm (a .r2) (a .d2) (a .w2) (a .q) (c .before .before .if1 .left) (c .before .if2 .taken))
+    c .whole-part .ensures ∙ sym (calm (a .r2) (a .d2) (a .w2) (a .q) (c .before .before .if1 .left) (c .before .if2 .taken))
 
 squared-requires : tie.Need-squared-requires
 squared-requires c κs =
@@ -67,14 +70,14 @@ mul-whole-part c = rw (square-is c) (record { fits = omega (arith, all c .upper)
 mul-whole-part-2 : tie.Need-mul-whole-part-2
 mul-whole-part-2 c = record { fits = omega (arith, all c .lower) }
 
-whole-part-requires : tie.Need-whole-part-requires
-whole-part-requires c κs = rw (square-is c) (inside c, some c, all c .both)
+whole-part-requires-2 : tie.Need-whole-part-requires-2
+whole-part-requires-2 c κs = rw (square-is c) (inside c, some c, all c .both)
 
 returns-3 : tie.Need-returns-3
 returns-3 c =
     let o = c .before in
     let a = s o .args in
-    rw (square-is o) at (c .whole-part .ensures) ∙ sym (windy (a .r2) (a .d2) (a .w2) (a .q) (near o) (blows o))
+    rw (square-is o) at (c .whole-part2 .ensures) ∙ sym (windy (a .r2) (a .d2) (a .w2) (a .q) (near o) (blows o))
 
 pub stretched-spec : {M : Type 1} → statement M
 stretched-spec =
@@ -82,11 +85,11 @@ stretched-spec =
     (tie.spec
     returns
     mul-gust
-    weight-requires
+    whole-part-requires
     returns-2
     squared-requires
     add-whole-part
     mul-whole-part
     mul-whole-part-2
-    whole-part-requires
+    whole-part-requires-2
     returns-3)
