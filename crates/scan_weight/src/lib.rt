@@ -67,15 +67,12 @@ fn whole_part(p: u64, q: u64) -> u32
     (100 * (n / lower) + 100 * (n % lower) / lower) as u32
 }
 
-// The weight at squared distance d2 for squared radius r2, of a station whose wind has V = w2 and q = u·dx + v·dy. A calm wind, or one that is
-// missing, has V = 0.
+// The weight at squared distance d2 inside the squared radius r2, of a station whose wind has V = w2 and q = u·dx + v·dy. A calm wind, or one that
+// is missing, has V = 0.
 pub fn stretched(r2: u32, d2: u32, w2: u32, q: i32) -> u32
-    requires { ⌜ (r2 ≤ mostSquare) × (w2 ≤ mostStrength) × (d2 < r2 → natAbs q ≤ mostAcross) ⌝ }
+    requires { ⌜ (r2 ≤ mostSquare) × (d2 < r2) × (w2 ≤ mostStrength) × (natAbs q ≤ mostAcross) ⌝ }
     ensures { λ r. ⌜ r ≡ weightBy r2 d2 w2 q ⌝ }
 {
-    if r2 <= d2 {
-        return 0;
-    }
     let far = d2 as u64;
     let gust = (w2 as u64) * far;
     if gust == 0 {

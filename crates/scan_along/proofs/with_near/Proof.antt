@@ -177,8 +177,9 @@ stretched-requires c κs =
     let s = o .before .before .before in
     rw (strength-back s, u-back s, dx-is s, product-is s, part-back s, across-back s) (
       s .pre .4,
+      c .before .before .before .before .before .if1 .left,
       here s .streak .strength-most,
-      λ near. across-near s (omega (arith, near, d2-is o)),
+      across-near s (omega (arith, c .before .before .before .before .before .if1 .left, d2-is o)),
     )
 
 -- the stretched weight, as it was called for
