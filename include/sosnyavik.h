@@ -631,12 +631,11 @@ struct sosnyavik_summary sosnyavik_summarise(
 **
 ** In a row of thirty arguments and more two columns are soon exchanged. So a
 ** request is a struct too: each column stands under its own name, beside its own
-** length.
-** What is said above of an argument holds of the member of its name. For each
-** call sosnyavik_NAME there is sosnyavik_request_NAME, which hands the members
-** on as they are. It adds one thing: where both wind columns are left out, it
-** passes sosnyavik_no_wind for them. The example, its window and its screen once
-** more:
+** length. What is said above of an argument holds of the member of its name. For
+** each call sosnyavik_NAME there is sosnyavik_request_NAME, which hands the
+** members on as they are. It adds one thing: where both wind columns are left
+** out, it passes sosnyavik_no_wind for them. The example, its window and its
+** screen once more:
 **
 **   struct sosnyavik_request request = SOSNYAVIK_REQUEST(
 **       .nx = 3, .ny = 3, .first_guess = {first_guess, 9},

@@ -28,8 +28,8 @@ abbrev pub streakAt : List ℤ → ℕ → List ℤ
 streakAt row j = streakOf (calmed (windIn row)) (getD row 1 (pos 0) -ℤ pos (step * j))
 
 -- u·dx + v·dy, from an entry
-abbrev pub acrossAt : List ℤ → ℤ → ℤ
-acrossAt streak dx = getD streak 0 (pos 0) *ℤ dx +ℤ getD streak 1 (pos 0)
+abbrev pub qAt : List ℤ → ℤ → ℤ
+qAt streak dx = getD streak 0 (pos 0) *ℤ dx +ℤ getD streak 1 (pos 0)
 
 abbrev pub strengthAt : List ℤ → ℕ
 strengthAt streak = natAbs (getD streak 2 (pos 0))
@@ -37,7 +37,7 @@ strengthAt streak = natAbs (getD streak 2 (pos 0))
 unfoldable pub alongShare : (lx : List ℤ) (ly : List ℕ) (ld : List ℤ) (lw : List (List ℤ)) (r2 i t : ℕ) → Sums
 alongShare lx ly ld lw r2 i t =
     let dx = getD lx t (pos 0) -ℤ pos (step * i) in
-    weighed (weightBy r2 (square dx + getD ly t 0) (strengthAt (getD lw t [])) (acrossAt (getD lw t []) dx)) (getD ld t (pos 0))
+    weighed (weightBy r2 (square dx + getD ly t 0) (strengthAt (getD lw t [])) (qAt (getD lw t []) dx)) (getD ld t (pos 0))
 
 -- ---- sizes of an entry
 
@@ -66,8 +66,8 @@ unfolding alongShare
 along-slight lx ly ld lw r2 i t s =
     let dx : ℤ = getD lx t (pos 0) -ℤ pos (step * i) in
     let d2 : ℕ = square dx + getD ly t 0 in
-    weighed-slight (weightBy r2 d2 (strengthAt (getD lw t [])) (acrossAt (getD lw t []) dx)) (getD ld t (pos 0))
-    (weightBy-most r2 d2 (strengthAt (getD lw t [])) (acrossAt (getD lw t []) dx)) (s .sized .d-small)
+    weighed-slight (weightBy r2 d2 (strengthAt (getD lw t [])) (qAt (getD lw t []) dx)) (getD ld t (pos 0))
+    (weightBy-most r2 d2 (strengthAt (getD lw t [])) (qAt (getD lw t []) dx)) (s .sized .d-small)
 
 -- ---- gathering
 

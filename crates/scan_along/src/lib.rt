@@ -121,11 +121,11 @@ fn with_near(
         return Sums { w, wd };
     }
     let streak = lw[t];
-    let across = streak[U] * (lx[t] - px) + streak[PART];
+    let q = streak[U] * (lx[t] - px) + streak[PART];
     scan_point::added(
         w,
         wd,
-        scan_weight::stretched(r2, d2, streak[STRENGTH] as u32, across),
+        scan_weight::stretched(r2, d2, streak[STRENGTH] as u32, q),
         ld[t],
     )
 }

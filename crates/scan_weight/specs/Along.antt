@@ -108,8 +108,8 @@ mostStrength = 2 * (mostWind * mostWind)
 abbrev pub mostPart : ℕ
 mostPart = mostWind * (mostRadius - 1)
 
-abbrev pub mostAcross : ℕ
-mostAcross = 2 * mostPart
+abbrev pub mostQ : ℕ
+mostQ = 2 * mostPart
 
 pub strength-small : (w : Wind) → Fair w → strength w ≤ mostStrength
 strength-small w h = omega (arith, mul-le-mul (h .0) (h .0), mul-le-mul (h .1) (h .1))
@@ -127,8 +127,8 @@ part-small u d hu hd =
     let near : natAbs d ≤ mostRadius - 1 = omega (arith, root-below (natAbs d) mostRadius hd) in
     rw (size-mul u d) (mul-le-mul hu near)
 
-pub across-small : (u d a : ℤ) → natAbs u ≤ mostWind → square d < mostSquare → natAbs a ≤ mostPart → natAbs (u *ℤ d +ℤ a) ≤ mostAcross
-across-small u d a hu hd ha = omega (arith, size-add (u *ℤ d) a, part-small u d hu hd)
+pub q-small : (u d a : ℤ) → natAbs u ≤ mostWind → square d < mostSquare → natAbs a ≤ mostPart → natAbs (u *ℤ d +ℤ a) ≤ mostQ
+q-small u d a hu hd ha = omega (arith, size-add (u *ℤ d) a, part-small u d hu hd)
 
 pub record Small (r2 d2 w2 q2 : ℕ) : Type 0 where
   pub gust : w2 * d2 ≤ 20971520000
@@ -137,7 +137,7 @@ pub record Small (r2 d2 w2 q2 : ℕ) : Type 0 where
   pub lower : w2 * d2 * d2 ≤ 21990232555520000
   pub both : 100 * (r2 * (w2 * d2 + q2) + w2 * d2 * d2) < 9223372036854775808
 
-pub small : (r2 d2 w2 q2 : ℕ) → r2 ≤ mostSquare → d2 < r2 → w2 ≤ mostStrength → q2 ≤ mostAcross * mostAcross → Small r2 d2 w2 q2
+pub small : (r2 d2 w2 q2 : ℕ) → r2 ≤ mostSquare → d2 < r2 → w2 ≤ mostStrength → q2 ≤ mostQ * mostQ → Small r2 d2 w2 q2
 small r2 d2 w2 q2 hr hd hw hq =
     let d : d2 ≤ 1048576 = omega arith in
     let g : w2 * d2 ≤ 20971520000 = mul-le-mul hw d in

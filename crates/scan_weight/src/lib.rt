@@ -5,7 +5,7 @@ ghost use Prim.Native.Nat.{_+_, _*_, _≤_, _<_};
 ghost use lib.IntN.{natAbs, _-ℤ_};
 ghost use Rattle.scheme.specs.Weight.{square, weight};
 ghost use Rattle.scheme.specs.Most.{mostSquare};
-ghost use Rattle.scan_weight.specs.Along.{weightBy, mostStrength, mostAcross};
+ghost use Rattle.scan_weight.specs.Along.{weightBy, mostStrength, mostQ};
 
 // A weight is in parts of this.
 const SCALE: u64 = 10000;
@@ -70,7 +70,7 @@ fn whole_part(p: u64, q: u64) -> u32
 // The weight at squared distance d2 inside the squared radius r2, of a station whose wind has V = w2 and q = u·dx + v·dy. A calm wind, or one that
 // is missing, has V = 0.
 pub fn stretched(r2: u32, d2: u32, w2: u32, q: i32) -> u32
-    requires { ⌜ (r2 ≤ mostSquare) × (d2 < r2) × (w2 ≤ mostStrength) × (natAbs q ≤ mostAcross) ⌝ }
+    requires { ⌜ (r2 ≤ mostSquare) × (d2 < r2) × (w2 ≤ mostStrength) × (natAbs q ≤ mostQ) ⌝ }
     ensures { λ r. ⌜ r ≡ weightBy r2 d2 w2 q ⌝ }
 {
     let far = d2 as u64;

@@ -15,8 +15,8 @@ use Rattle.integers.specs.Words.{fits-size, bits-back}
 use Rattle.scheme.specs.Units.{step, mostWind}
 use Rattle.scheme.specs.Weight.{scale, square}
 use Rattle.scheme.specs.Most.{mostSquare}
-use Rattle.scan_weight.specs.Along.{weightBy, beyond, weightBy-most, mostAcross, across-small}
-use Rattle.scan_along.specs.Streak.{acrossAt, strengthAt, alongShare, SizedAlong}
+use Rattle.scan_weight.specs.Along.{weightBy, beyond, weightBy-most, mostQ, q-small}
+use Rattle.scan_along.specs.Streak.{qAt, strengthAt, alongShare, SizedAlong}
 use Rattle.scan_along.proofs.with_near.Statement.{statement}
 use Rattle.scan_along.proofs.with_near.Tie as tie
 
@@ -77,14 +77,14 @@ module _ (s : tie.Start) where
   part-back : toZ w32 (ofZ w32 (getD streak 1 (pos 0))) ≡ getD streak 1 (pos 0)
   part-back = bits-back w32 (getD streak 1 (pos 0)) (omega (arith, here .streak .part-most))
 
-  across-fits : natAbs (acrossAt streak dx) ≤ 1000000
-  across-fits = omega (arith, size-add (u *ℤ dx) (getD streak 1 (pos 0)), product-small, here .streak .part-most)
+  q-fits : natAbs (qAt streak dx) ≤ 1000000
+  q-fits = omega (arith, size-add (u *ℤ dx) (getD streak 1 (pos 0)), product-small, here .streak .part-most)
 
-  across-back : toZ w32 (ofZ w32 (acrossAt streak dx)) ≡ acrossAt streak dx
-  across-back = bits-back w32 (acrossAt streak dx) (omega (arith, across-fits))
+  q-back : toZ w32 (ofZ w32 (qAt streak dx)) ≡ qAt streak dx
+  q-back = bits-back w32 (qAt streak dx) (omega (arith, q-fits))
 
-  across-near : square dx + gap < s .args .r2 → natAbs (acrossAt streak dx) ≤ mostAcross
-  across-near near = across-small u dx (getD streak 1 (pos 0)) (here .streak .u-small) (omega (arith, near, s .pre .4)) (here .streak .part-most)
+  q-near : square dx + gap < s .args .r2 → natAbs (qAt streak dx) ≤ mostQ
+  q-near near = q-small u dx (getD streak 1 (pos 0)) (here .streak .u-small) (omega (arith, near, s .pre .4)) (here .streak .part-most)
 
   -- V
   strength-back : toZ w32 (ofZ w32 (getD streak 2 (pos 0))) ≡ pos (strengthAt streak)
@@ -122,7 +122,7 @@ returns : tie.Need-returns
 unfolding alongShare
 returns c =
     let s = c .before .before .before .before in
-    let e = beyond (s .args .r2) (square (dx s) + gap s) (strengthAt (streak s)) (acrossAt (streak s) (dx s)) (omega (arith, d2-is (c .before), c .if1 .taken)) in
+    let e = beyond (s .args .r2) (square (dx s) + gap s) (strengthAt (streak s)) (qAt (streak s) (dx s)) (omega (arith, d2-is (c .before), c .if1 .taken)) in
     record {
       weights = sym (ap (λ (n : ℕ). s .args .w + n) e ∙ add-zero (s .args .w));
       pulls =
@@ -136,32 +136,32 @@ mul-streak c = search needs
 element-copy-out-streak : tie.Need-element-copy-out-streak
 element-copy-out-streak c = search needs
 
-array-copy-out-across : tie.Need-array-copy-out-across
-array-copy-out-across c = search needs
+array-copy-out-q : tie.Need-array-copy-out-q
+array-copy-out-q c = search needs
 
-mul-across : tie.Need-mul-across
-mul-across c = search needs
+mul-q : tie.Need-mul-q
+mul-q c = search needs
 
-element-copy-out-across : tie.Need-element-copy-out-across
-element-copy-out-across c = search needs
+element-copy-out-q : tie.Need-element-copy-out-q
+element-copy-out-q c = search needs
 
-sub-across : tie.Need-sub-across
-sub-across c =
+sub-q : tie.Need-sub-q
+sub-q c =
     let s = c .before .before .before .before .before .before .before in
     rw (dx-parts s) (fits-size w32 (dx s) (omega (arith, dx-small s)))
 
-mul-across-2 : tie.Need-mul-across-2
-mul-across-2 c =
+mul-q-2 : tie.Need-mul-q-2
+mul-q-2 c =
     let s = c .before .before .before .before .before .before .before in
     rw (u-back s, dx-is s) (fits-size w32 (u s *ℤ dx s) (omega (arith, product-small s)))
 
-array-copy-out-across-2 : tie.Need-array-copy-out-across-2
-array-copy-out-across-2 c = search needs
+array-copy-out-q-2 : tie.Need-array-copy-out-q-2
+array-copy-out-q-2 c = search needs
 
-add-across : tie.Need-add-across
-add-across c =
+add-q : tie.Need-add-q
+add-q c =
     let s = c .before .before .before .before .before .before .before .before in
-    rw (u-back s, dx-is s, product-is s, part-back s) (fits-size w32 (acrossAt (streak s) (dx s)) (omega (arith, across-fits s)))
+    rw (u-back s, dx-is s, product-is s, part-back s) (fits-size w32 (qAt (streak s) (dx s)) (omega (arith, q-fits s)))
 
 array-copy-out-stretched : tie.Need-array-copy-out-stretched
 array-copy-out-stretched c = search needs
@@ -175,20 +175,20 @@ stretched-requires : tie.Need-stretched-requires
 stretched-requires c κs =
     let o = c .before .before .before .before .before .before in
     let s = o .before .before .before in
-    rw (strength-back s, u-back s, dx-is s, product-is s, part-back s, across-back s) (
+    rw (strength-back s, u-back s, dx-is s, product-is s, part-back s, q-back s) (
       s .pre .4,
       c .before .before .before .before .before .if1 .left,
       here s .streak .strength-most,
-      across-near s (omega (arith, c .before .before .before .before .before .if1 .left, d2-is o)),
+      q-near s (omega (arith, c .before .before .before .before .before .if1 .left, d2-is o)),
     )
 
 -- the stretched weight, as it was called for
 weight-is : (c : tie.After-stretched) → (let s = c .before .before .before .before .before .before .before .before .before .before in
-    c .stretched .result ≡ weightBy (s .args .r2) (square (dx s) + gap s) (strengthAt (streak s)) (acrossAt (streak s) (dx s)))
+    c .stretched .result ≡ weightBy (s .args .r2) (square (dx s) + gap s) (strengthAt (streak s)) (qAt (streak s) (dx s)))
 weight-is c =
     let o = c .before .before .before .before .before .before .before in
     let s = o .before .before .before in
-    rw (strength-back s, u-back s, dx-is s, product-is s, part-back s, across-back s, d2-is o) at (c .stretched .ensures)
+    rw (strength-back s, u-back s, dx-is s, product-is s, part-back s, q-back s, d2-is o) at (c .stretched .ensures)
 
 mul-added : tie.Need-mul-added
 mul-added c = search needs
@@ -199,7 +199,7 @@ element-copy-out-added c = search needs
 added-requires : tie.Need-added-requires
 added-requires c κs =
     let s = c .before .before .before .before .before .before .before .before .before .before .before in
-    let most = weightBy-most (s .args .r2) (square (dx s) + gap s) (strengthAt (streak s)) (acrossAt (streak s) (dx s)) in
+    let most = weightBy-most (s .args .r2) (square (dx s) + gap s) (strengthAt (streak s)) (qAt (streak s) (dx s)) in
     (s .pre .0, rw (wd-back s) (s .pre .1), omega (arith, weight-is (c .before), most), rw (d-back s) (here s .sized .d-small))
 
 returns-2 : tie.Need-returns-2
@@ -227,13 +227,13 @@ with-near-spec =
     returns
     mul-streak
     element-copy-out-streak
-    array-copy-out-across
-    mul-across
-    element-copy-out-across
-    sub-across
-    mul-across-2
-    array-copy-out-across-2
-    add-across
+    array-copy-out-q
+    mul-q
+    element-copy-out-q
+    sub-q
+    mul-q-2
+    array-copy-out-q-2
+    add-q
     array-copy-out-stretched
     cast-stretched
     stretched-requires
