@@ -11,10 +11,10 @@
 ** a screen shows them. Beside them stand a point reading and a summary, which
 ** tell a field in doubles that are exact.
 **
-** What follows: version, marks, units and sizes, posts, weights, wind, windows,
-** results, verdicts, support, refusals, what the caller owes, what the calls
-** keep, the calls, and a request by name, which is how a program had best call
-** them.
+** What follows: version, marks, units and sizes, posts, weights, wind, lone
+** stations, windows, results, verdicts, support, refusals, what the caller owes,
+** what the calls keep, the calls, and a request by name, which is how a program
+** had best call them.
 */
 #ifndef SOSNYAVIK_H
 #define SOSNYAVIK_H
@@ -30,11 +30,11 @@ extern "C" {
 /*
 ** VERSION
 **
-** Its first number is that of the shared object, libsosnyavik.so.1: it rises
+** Its first number is that of the shared object, libsosnyavik.so.2: it rises
 ** when a call takes other arguments than before, and a program must be compiled
 ** anew. The second rises with a new call, the third with anything else.
 */
-#define SOSNYAVIK_VERSION "1.0.0" /* 2026-11-16 */
+#define SOSNYAVIK_VERSION "2.0.0" /* 2026-11-16 */
 
 /*
 ** MARKS
@@ -84,13 +84,15 @@ extern "C" {
 **   smooth        smooth the grid after each scan    true or false
 **   mode          what a weight goes by: see WIND    SOSNYAVIK_ROUND or
 **                                                    SOSNYAVIK_ALONG_WIND
+**   rule          what a lone station does: see      SOSNYAVIK_EQUATIONS or
+**                 LONE STATIONS                      SOSNYAVIK_LISTINGS
 **
 **   time          minute of the analysis             any
 **   age           greatest age of an observation     any
 **                 at that minute, in minutes
 **
 ** SOSNYAVIK_DEFAULT_AGE is the age of a request that gives none, by name or as
-** text.
+** text, and SOSNYAVIK_DEFAULT_RULE the rule.
 */
 #define SOSNYAVIK_DEFAULT_AGE 120
 
@@ -109,8 +111,8 @@ extern "C" {
 **     place on the grid: each of x and y brought to its bound. No scan changes
 **     the first guess, so that this is the same in every scan. A scan after the
 **     first rejects a post only if its limit is below all those before; and a
-**     point that hears one post alone is moved by all of its difference in each
-**     scan.
+**     point that hears one post alone is moved in each scan by all of its
+**     difference, or by its weight's part of it: see LONE STATIONS.
 **
 ** A station where 0 <= x <= 64*(nx-1) and 0 <= y <= 64*(ny-1) is on the grid,
 ** its border included, and no post. One off the grid by more than
@@ -176,6 +178,53 @@ extern "C" {
 */
 #define SOSNYAVIK_ROUND 0
 #define SOSNYAVIK_ALONG_WIND 1
+
+/*
+** LONE STATIONS
+**
+** Where exactly one accepted station is inside the radius of a point, so that
+** d2 < radius*radius, the mean of the differences is all of its difference D,
+** however far off it stands. So rule SOSNYAVIK_EQUATIONS moves the point: it is
+** the rule of the analysis. Programs that follow the listings printed beside
+** Cressman's equations move it by less the farther it is. For those who compare
+** with one, rule SOSNYAVIK_LISTINGS does so too. It moves the point by
+**
+**   weight*D/10000, rounded to the nearest 1/64 unit, halves away from zero
+**
+** which is never away from the station's value, nor past it. Where the station
+** stands on the point its weight is 10000, and the rules agree.
+**
+** Inside is a matter of the distance: a station inside whose weight is 0 counts.
+** Beside it no other is alone, and alone it moves nothing and supports nothing.
+** A station that is not accepted, by its verdict so far, does not count.
+**
+** The rules differ in nothing else. From the same field they judge alike, support
+** alike, and move every other point alike; smoothing and later scans then go by
+** the field that each has made.
+**
+** Two by two points at 10 degrees, and one mast on the first of them, which reads
+** 11: it stands 64, 64 and 90.5 from the others, where its weights are 3846, 3846
+** and 588.
+**
+**   int32_t level[4] = {640, 640, 640, 640};
+**   int32_t at[1] = {0}, reads[1] = {704}, reach[1] = {96}, most[1] = {200};
+**   uint32_t now[1] = {1000}, always[1] = {0}, open[1] = {SOSNYAVIK_NO_END};
+**   int32_t moved[4];
+**   uint8_t backed[4], accepted[1];
+**   uint32_t r = sosnyavik_analyse(2, 2, level, 4, at, 1, at, 1, reads, 1,
+**                                  now, 1, always, 1, open, 1,
+**                                  sosnyavik_no_wind(), 1,
+**                                  sosnyavik_no_wind(), 1,
+**                                  1, reach, 1, most, 1, false,
+**                                  SOSNYAVIK_ROUND, SOSNYAVIK_LISTINGS, 1000, 60,
+**                                  moved, 4, backed, 4, accepted, 1);
+**
+** Now r is 0, moved is 704, 665, 665, 644, and each byte of backed is 1. With
+** SOSNYAVIK_EQUATIONS moved is 704, 704, 704, 704, and backed is the same.
+*/
+#define SOSNYAVIK_EQUATIONS 1
+#define SOSNYAVIK_LISTINGS 2
+#define SOSNYAVIK_DEFAULT_RULE SOSNYAVIK_EQUATIONS
 
 /*
 ** WINDOWS
@@ -289,7 +338,9 @@ extern "C" {
 **             long, or longer than 512
 **   5         scans is out of 1 .. 6, or radius or limit   0
 **             is shorter than scans, or mode is neither
-**             SOSNYAVIK_ROUND nor SOSNYAVIK_ALONG_WIND
+**             SOSNYAVIK_ROUND nor SOSNYAVIK_ALONG_WIND, or
+**             rule is neither SOSNYAVIK_EQUATIONS nor
+**             SOSNYAVIK_LISTINGS
 **   6         a radius is out of range or above the one    scan, from 0
 **             before, or a limit is out of range
 **   7         a first-guess value is out of range          point, from 0
@@ -320,6 +371,7 @@ extern "C" {
 **   a station added to all columns but y, and to verdict   0x00040000 = 262144
 **   scans = 3, with two radii                              0x00050000 = 327680
 **   mode = 2                                               0x00050000 = 327680
+**   rule = 0, in a request made without SOSNYAVIK_REQUEST  0x00050000 = 327680
 **   radius = {96, 192}, the narrow scan first: scan 1      0x00060001 = 393217
 **   first_guess[4] = SOSNYAVIK_MISSING: point 4            0x00070004 = 458756
 **   from[2] and until[2] exchanged: row 2                  0x00080002 = 524290
@@ -393,7 +445,7 @@ static inline const int32_t *sosnyavik_no_wind(void) {
 **                                  sosnyavik_no_wind(), 3,
 **                                  sosnyavik_no_wind(), 3,
 **                                  1, radius, 1, limit, 1, false,
-**                                  SOSNYAVIK_ROUND, 1000, 60,
+**                                  SOSNYAVIK_ROUND, SOSNYAVIK_EQUATIONS, 1000, 60,
 **                                  grid, 9, support, 9, verdict, 3);
 **
 ** Now r is 0, grid is 587, 672, 768, 672, 757, 768, 768, 768, 768, each byte
@@ -407,7 +459,7 @@ static inline const int32_t *sosnyavik_no_wind(void) {
 **                                  observed, 3, from, 3, until, 3,
 **                                  wind_u, 3, wind_v, 3,
 **                                  1, radius, 1, limit, 1, false,
-**                                  SOSNYAVIK_ALONG_WIND, 1000, 60,
+**                                  SOSNYAVIK_ALONG_WIND, SOSNYAVIK_EQUATIONS, 1000, 60,
 **                                  grid, 9, support, 9, verdict, 3);
 **
 ** Now r is 0, and grid is 615, 648, 768, 696, 729, 768, 768, 768, 768. The two
@@ -429,7 +481,7 @@ uint32_t sosnyavik_analyse(
     uint32_t scans,
     const int32_t *radius, size_t radius_len,
     const int32_t *limit, size_t limit_len,
-    bool smooth, uint32_t mode, uint32_t time, uint32_t age,
+    bool smooth, uint32_t mode, uint32_t rule, uint32_t time, uint32_t age,
     int32_t *grid, size_t grid_len,
     uint8_t *support, size_t support_len,
     uint8_t *verdict, size_t verdict_len);
@@ -448,7 +500,7 @@ uint32_t sosnyavik_analyse(
 **                                 sosnyavik_no_wind(), 3,
 **                                 sosnyavik_no_wind(), 3,
 **                                 1, radius, 1, limit, 1, false,
-**                                 SOSNYAVIK_ROUND, 1000, 60,
+**                                 SOSNYAVIK_ROUND, SOSNYAVIK_EQUATIONS, 1000, 60,
 **                                 part, 2, part_support, 2);
 **
 ** Now r is 0, part is 672, 757, and both bytes of part_support are 1.
@@ -475,7 +527,7 @@ uint32_t sosnyavik_window(
     uint32_t scans,
     const int32_t *radius, size_t radius_len,
     const int32_t *limit, size_t limit_len,
-    bool smooth, uint32_t mode, uint32_t time, uint32_t age,
+    bool smooth, uint32_t mode, uint32_t rule, uint32_t time, uint32_t age,
     int32_t *grid, size_t grid_len,
     uint8_t *support, size_t support_len);
 /* clang-format on */
@@ -497,7 +549,7 @@ uint32_t sosnyavik_window(
 **                                  sosnyavik_no_wind(), 3,
 **                                  sosnyavik_no_wind(), 3,
 **                                  1, radius, 1, limit, 1, false,
-**                                  SOSNYAVIK_ROUND, 1000, 60,
+**                                  SOSNYAVIK_ROUND, SOSNYAVIK_EQUATIONS, 1000, 60,
 **                                  blocks, 7, blocks_support, 7);
 **
 ** Now r is 0, blocks is 672, 757, 672, 768, 757, 768, 587, and each byte of
@@ -534,7 +586,7 @@ uint32_t sosnyavik_windows(
     uint32_t scans,
     const int32_t *radius, size_t radius_len,
     const int32_t *limit, size_t limit_len,
-    bool smooth, uint32_t mode, uint32_t time, uint32_t age,
+    bool smooth, uint32_t mode, uint32_t rule, uint32_t time, uint32_t age,
     int32_t *grid, size_t grid_len,
     uint8_t *support, size_t support_len);
 /* clang-format on */
@@ -664,11 +716,12 @@ struct sosnyavik_summary sosnyavik_summarise(
 ** blocks_support are as above, and at_64_64 is 11.828125.
 **
 ** SOSNYAVIK_REQUEST gives each member that is not named in it its default: age
-** is SOSNYAVIK_DEFAULT_AGE, all else is 0, false or no entries. A member that
-** comes with a later version has a default by which the answers stay; so write
-** every request by SOSNYAVIK_REQUEST. In C a member whose default is not 0, which
-** is age alone, is set after it, as above. In C++20 members are named in the
-** order below, age too. In C++11 none is named, and all are set after it:
+** is SOSNYAVIK_DEFAULT_AGE, rule is SOSNYAVIK_DEFAULT_RULE, all else is 0, false
+** or no entries. A member that comes with a later version has a default by which
+** the answers stay; so write every request by SOSNYAVIK_REQUEST. In C a member
+** whose default is not 0, which is age or rule, is set after it, as above. In
+** C++20 members are named in the order below, those two too. In C++11 none is
+** named, and all are set after it:
 **
 **   sosnyavik_request request = SOSNYAVIK_REQUEST();
 **   request.nx = 3, request.ny = 3, request.first_guess = {first_guess, 9};
@@ -717,7 +770,7 @@ struct sosnyavik_u8_result {
 #define SOSNYAVIK_REQUEST(...) {__VA_ARGS__}
 #define SOSNYAVIK_OR(...) = __VA_ARGS__
 #else
-#define SOSNYAVIK_REQUEST(...) {.age = SOSNYAVIK_DEFAULT_AGE, __VA_ARGS__}
+#define SOSNYAVIK_REQUEST(...) {.rule = SOSNYAVIK_DEFAULT_RULE, .age = SOSNYAVIK_DEFAULT_AGE, __VA_ARGS__}
 #define SOSNYAVIK_OR(...)
 #endif
 
@@ -730,7 +783,7 @@ struct sosnyavik_request {
     uint32_t scans SOSNYAVIK_OR(0);
     struct sosnyavik_i32_column radius SOSNYAVIK_OR({}), limit SOSNYAVIK_OR({});
     bool smooth SOSNYAVIK_OR(false);
-    uint32_t mode SOSNYAVIK_OR(SOSNYAVIK_ROUND);
+    uint32_t mode SOSNYAVIK_OR(SOSNYAVIK_ROUND), rule SOSNYAVIK_OR(SOSNYAVIK_DEFAULT_RULE);
     uint32_t time SOSNYAVIK_OR(0), age SOSNYAVIK_OR(SOSNYAVIK_DEFAULT_AGE);
 };
 
@@ -751,7 +804,7 @@ struct sosnyavik_results {
     SOSNYAVIK_SLICE(sosnyavik_wind_or_none((of), (of)->wind_u)), \
     SOSNYAVIK_SLICE(sosnyavik_wind_or_none((of), (of)->wind_v)), \
     (of)->scans, SOSNYAVIK_SLICE((of)->radius), SOSNYAVIK_SLICE((of)->limit), \
-    (of)->smooth, (of)->mode, (of)->time, (of)->age
+    (of)->smooth, (of)->mode, (of)->rule, (of)->time, (of)->age
 
 /* A wind column of a request; where both are left out, one of marks. More rows than there are marks are refused either way. */
 static inline struct sosnyavik_i32_column sosnyavik_wind_or_none(

@@ -10,12 +10,13 @@ use lib.ListN.{length, getD, set, length-set, replicate, length-replicate}
 use lib.Seq.{getD-set-same, getD-set-other}
 use lib.IntN.{ℤ, pos, natAbs, _+ℤ_, _-ℤ_, _*ℤ_}
 use Rattle.scheme.specs.Units.{step, Wind, mostWind, mostStations, windMode}
-use Rattle.scheme.specs.Weight.{square, strength, weightAt}
+use Rattle.scheme.specs.Weight.{square, strength, inside, weightAt}
 use Rattle.scheme.specs.Correction.{Sums}
 use Rattle.scheme.specs.Most.{mostSquare}
+use Rattle.scheme.specs.Weights.{inside-alone}
 use Rattle.scheme.specs.Streaks.{Fair}
 use Rattle.scheme.specs.Gifts.{weighed, gift-weighed}
-use Rattle.scan_weight.specs.Along.{calmed, calmed-fair, weightBy, weightBy-most, by-wind, mostStrength, strength-small, mostPart, part-small}
+use Rattle.scan_weight.specs.Along.{calmed, calmed-fair, weightBy, beyond, weightBy-most, by-wind, mostStrength, strength-small, mostPart, part-small}
 use Rattle.scan_point.specs.Near.{Stations, windIn, xAt, yAt, windAt, verdictAt, dAt, shareAt, Slight, weighed-slight, rowGap, Inside, Ready, Near, near-is-accepted, near-step, accepted-shares}
 use Rattle.scan_point.specs.Round.{Sized, Roomy, roomy-set, sized-set, new-x, new-y, new-d, next-sized}
 
@@ -37,7 +38,8 @@ strengthAt streak = natAbs (getD streak 2 (pos 0))
 unfoldable pub alongShare : (lx : List ℤ) (ly : List ℕ) (ld : List ℤ) (lw : List (List ℤ)) (r2 i t : ℕ) → Sums
 alongShare lx ly ld lw r2 i t =
     let dx = getD lx t (pos 0) -ℤ pos (step * i) in
-    weighed (weightBy r2 (square dx + getD ly t 0) (strengthAt (getD lw t [])) (qAt (getD lw t []) dx)) (getD ld t (pos 0))
+    let d2 = square dx + getD ly t 0 in
+    weighed (ltb d2 r2) (weightBy r2 d2 (strengthAt (getD lw t [])) (qAt (getD lw t []) dx)) (getD ld t (pos 0))
 
 -- ---- sizes of an entry
 
@@ -66,8 +68,10 @@ unfolding alongShare
 along-slight lx ly ld lw r2 i t s =
     let dx : ℤ = getD lx t (pos 0) -ℤ pos (step * i) in
     let d2 : ℕ = square dx + getD ly t 0 in
-    weighed-slight (weightBy r2 d2 (strengthAt (getD lw t [])) (qAt (getD lw t []) dx)) (getD ld t (pos 0))
-    (weightBy-most r2 d2 (strengthAt (getD lw t [])) (qAt (getD lw t []) dx)) (s .sized .d-small)
+    let w : ℕ = weightBy r2 d2 (strengthAt (getD lw t [])) (qAt (getD lw t []) dx) in
+    weighed-slight (ltb d2 r2) w (getD ld t (pos 0))
+    (inside-alone w r2 d2 (weightBy-most r2 d2 (strengthAt (getD lw t [])) (qAt (getD lw t []) dx)) (beyond r2 d2 (strengthAt (getD lw t [])) (qAt (getD lw t []) dx)))
+    (s .sized .d-small)
 
 -- ---- gathering
 
@@ -144,8 +148,8 @@ module _ (all : Stations) (r2 j : ℕ) (bounded : r2 ≤ mostSquare) (ok : Ready
         rw (new-x lx ly ld n (xAt all k) gap (dAt all k) (room .roomy) n-room, new-y lx ly ld n (xAt all k) gap (dAt all k) (room .roomy) n-room, new-d lx ly ld n (xAt all k) gap (dAt all k) (room .roomy) n-room, new-w, gap-is)
         (sym (accepted-shares all r2 i j k accepted
         ∙ gift-weighed (all .mode) r2 (windAt all k) (dAt all k) dx dy
-        ∙ ap (λ (m : ℕ). weighed (weightAt m r2 (windAt all k) dx dy) (dAt all k)) windy
-        ∙ ap (λ (w : ℕ). weighed w (dAt all k)) (by-wind r2 (windAt all k) dx dy)))
+        ∙ ap (λ (m : ℕ). weighed (inside r2 dx dy) (weightAt m r2 (windAt all k) dx dy) (dAt all k)) windy
+        ∙ ap (λ (w : ℕ). weighed (inside r2 dx dy) w (dAt all k)) (by-wind r2 (windAt all k) dx dy)))
 
   -- a turn, of the values that the code has
   pub near-turn : Near (alongShare lx ly ld lw r2) (SizedAlong lx ly ld lw) n all r2 j k → {x d : ℤ} {g one : ℕ} → x ≡ xAt all k → d ≡ dAt all k

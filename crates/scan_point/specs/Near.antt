@@ -3,7 +3,7 @@
 use Prim.Native.Nat.{ℕ, zero, suc, _+_, _*_, _≤_, _<_}
 use native.Mathlib.Omega.{arith}
 use native.Mathlib.Numerals.{add-one}
-use native.Mathlib.Nat.{mul-le-mul-left, zero-add, add-zero}
+use native.Mathlib.Nat.{zero-add, add-zero}
 use mathlib.Core.Path.{_≡_, refl, sym, ap, _∙_}
 use mathlib.Core.Logic.{_⊎_, inl, inr}
 use mathlib.Core.Bool.{Bool, true, false, cond}
@@ -12,7 +12,7 @@ use borrow.Author.Tests.{lt-ltb, le-ltb, eqb-true}
 use lib.Dec.{ltb}
 use lib.ListN.{length, getD}
 use lib.IntN.{ℤ, pos, natAbs, _+ℤ_, _-ℤ_, _*ℤ_, +ℤ-idl, +ℤ-idr, +ℤ-assoc, +ℤ-comm}
-use Rattle.integers.specs.Sizes.{size-add, size-mul}
+use Rattle.integers.specs.Sizes.{size-add}
 use Rattle.lists.specs.Tests.{lt-or-le, cond-both}
 use Rattle.lists.specs.Sums.{upTo, upTo-next, upTo-same}
 use Rattle.scheme.specs.Units.{step, Wind, isNoWind, mostStations, mostLimit}
@@ -21,7 +21,7 @@ use Rattle.scheme.specs.Weight.{scale, square}
 use Rattle.scheme.specs.Correction.{Sums, nothing, plus, gift}
 use Rattle.scheme.specs.Most.{mostAlong}
 use Rattle.scheme.specs.Streaks.{Fair}
-use Rattle.scheme.specs.Gifts.{weighed, gift-outside, gift-size}
+use Rattle.scheme.specs.Gifts.{weighed, Modest, modest-nothing, modest-plus, modest-weighed, gift-outside, gift-modest}
 use Rattle.scheme.specs.Adding.{plus-nothing}
 
 -- ---- from all the stations: what the one of row k gives to point (i, j)
@@ -67,30 +67,43 @@ sumsOver all r2 i j = upTo nothing plus (all .count) (shareAt all r2 i j)
 
 -- ---- sizes of the sums over some entries
 
--- what one entry gives
-pub record Slight (s : Sums) : Type 0 where
-  pub weight-most : s .weights ≤ scale
-  pub pull-most : natAbs (s .pulls) ≤ mostLimit * s .weights
-
-pub weighed-slight : (w : ℕ) (d : ℤ) → w ≤ scale → natAbs d ≤ mostLimit → Slight (weighed w d)
-weighed-slight w d hw hd = record { weight-most = hw; pull-most = omega (arith, size-mul (pos w) d, mul-le-mul-left w hd) }
-
+-- what so many entries give
 pub record SumsSmall (n : ℕ) (s : Sums) : Type 0 where
-  pub weights-most : s .weights ≤ n * scale
-  pub pulls-most : natAbs (s .pulls) ≤ mostLimit * s .weights
+  pub modest : Modest mostLimit s
+  pub few : s .inside ≤ n
+
+-- and one
+abbrev pub Slight : Sums → Type 0
+Slight = SumsSmall 1
+
+pub weighed-slight : (within : Bool) (w : ℕ) (d : ℤ) → w ≤ scale * cond within 1 0 → natAbs d ≤ mostLimit → Slight (weighed within w d)
+weighed-slight within w d hw hd =
+    record {
+      modest = modest-weighed mostLimit within w d hw hd;
+      few = cond-both (λ (n : ℕ). n ≤ 1) within 1 0 (λ e. omega arith) (λ e. omega arith);
+    }
+
+pub weights-few : (n : ℕ) (s : Sums) → SumsSmall n s → s .weights ≤ n * scale
+weights-few n s h = omega (arith, h .modest .weights-most, h .few)
 
 -- over what the entries give to one point
 module _ (give : ℕ → Sums) where
   pub near-small : (n : ℕ) → ((t : ℕ) → t < n → Slight (give t)) → SumsSmall n (upTo nothing plus n give)
   unfolding upTo
-  near-small zero h = record { weights-most = omega arith; pulls-most = omega arith }
+  near-small zero h = record { modest = modest-nothing mostLimit; few = omega arith }
   near-small (suc n) h =
       let rest = near-small n (λ t l. h t (omega arith)) in
       let here = h n (omega arith) in
       record {
-        weights-most = omega (arith, rest .weights-most, here .weight-most);
-        pulls-most = omega (arith, rest .pulls-most, here .pull-most, size-add (upTo nothing plus n give .pulls) (give n .pulls));
+        modest = modest-plus mostLimit (upTo nothing plus n give) (give n) (rest .modest) (here .modest);
+        few = omega (arith, rest .few, here .few);
       }
+
+  -- how many of them are inside
+  pub inside-counted : (one : ℕ → ℕ) (n : ℕ) → ((t : ℕ) → t < n → give t .inside ≡ one t) → upTo nothing plus n give .inside ≡ upTo 0 _+_ n one
+  unfolding upTo
+  inside-counted one zero h = refl
+  inside-counted one (suc n) h = rw (inside-counted one n (λ t l. h t (omega arith)), h n (omega arith))
 
   -- the sums of the entries from t on, as a loop from the last to the first makes them
   pub record Down (n t w : ℕ) (wd : ℤ) : Type 0 where
@@ -111,7 +124,7 @@ module _ (give : ℕ → Sums) where
   down-all n w wd h = (sym (h .weights ∙ zero-add w), sym (h .pulls ∙ +ℤ-idl wd))
 
   pub down-small : (n t w : ℕ) (wd : ℤ) → ((t : ℕ) → t < n → Slight (give t)) → Down n t w wd → w ≤ n * scale
-  down-small n t w wd slight h = omega (arith, h .weights, near-small n slight .weights-most)
+  down-small n t w wd slight h = omega (arith, h .weights, weights-few n _ (near-small n slight))
 
   -- the sums with the entry t
   pub record Added (t w : ℕ) (wd : ℤ) (w' : ℕ) (wd' : ℤ) : Type 0 where
@@ -130,7 +143,7 @@ module _ (give : ℕ → Sums) where
         ∙ ap (λ (z : ℤ). upTo nothing plus t give .pulls +ℤ z) (+ℤ-comm (give t .pulls) wd ∙ sym (new .pulls))
 
     new-kept : natAbs wd' ≤ mostLimit * w'
-    new-kept = rw (new .pulls, new .weights) (omega (arith, h .kept, size-add wd (give t .pulls), here .pull-most))
+    new-kept = rw (new .pulls, new .weights) (omega (arith, h .kept, size-add wd (give t .pulls), here .modest .pulls-most))
 
     pub down-next : Down n t w' wd'
     down-next = record { weights = new-weights; pulls = new-pulls; kept = new-kept }
@@ -248,24 +261,19 @@ accepted-shares all r2 i j k e = rw e
 
 -- the sums over all rows are small too
 module _ (all : Stations) (r2 i j : ℕ) (ok : Ready all) where
-  share-small : (k : ℕ) → k < all .count → natAbs (shareAt all r2 i j k .pulls) ≤ mostLimit * shareAt all r2 i j k .weights
+  share-modest : (k : ℕ) → k < all .count → Modest mostLimit (shareAt all r2 i j k)
   unfolding shareAt
-  share-small k h =
-      cond-both (λ (s : Sums). natAbs (s .pulls) ≤ mostLimit * s .weights) (isAccepted (verdictAt all k)) _ nothing
-      (λ e. gift-size (all .mode) r2 (windAt all k) (dAt all k) _ _ mostLimit (ok .inside k h (eqb-true (verdictAt all k) 0 e) .d-small)) (λ e. omega arith)
+  share-modest k h =
+      cond-both (Modest mostLimit) (isAccepted (verdictAt all k)) _ nothing
+      (λ e. gift-modest (all .mode) r2 (windAt all k) (dAt all k) _ _ mostLimit (ok .inside k h (eqb-true (verdictAt all k) 0 e) .d-small))
+      (λ e. modest-nothing mostLimit)
 
-  some-small : (n : ℕ) → n ≤ all .count
-      → natAbs (upTo nothing plus n (shareAt all r2 i j) .pulls) ≤ mostLimit * upTo nothing plus n (shareAt all r2 i j) .weights
+  some-modest : (n : ℕ) → n ≤ all .count → Modest mostLimit (upTo nothing plus n (shareAt all r2 i j))
   unfolding upTo
-  some-small zero h = omega arith
-  some-small (suc n) h =
-      omega (
-        arith,
-        size-add (upTo nothing plus n (shareAt all r2 i j) .pulls) (shareAt all r2 i j n .pulls),
-        some-small n (omega arith),
-        share-small n h,
-      )
+  some-modest zero h = modest-nothing mostLimit
+  some-modest (suc n) h =
+      modest-plus mostLimit (upTo nothing plus n (shareAt all r2 i j)) (shareAt all r2 i j n) (some-modest n (omega arith)) (share-modest n h)
 
-  pub over-small : natAbs (sumsOver all r2 i j .pulls) ≤ mostLimit * sumsOver all r2 i j .weights
+  pub over-modest : Modest mostLimit (sumsOver all r2 i j)
   unfolding sumsOver
-  over-small = some-small (all .count) (omega arith)
+  over-modest = some-modest (all .count) (omega arith)

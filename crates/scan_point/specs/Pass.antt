@@ -1,21 +1,25 @@
--- A correction pass over a stored grid, row after row.
+-- A correction pass over a stored grid, row after row, under the plan's rule.
 use Prim.Native.Nat.{ℕ, _+_, _-_, _*_, _/_, _%_, _≤_, _<_}
 use native.Mathlib.Omega.{arith}
-use native.Mathlib.Nat.{mul-le-mul, mul-le-mul-right, suc-mul, mul-comm}
+use native.Mathlib.Nat.{mul-le-mul, mul-le-mul-left, mul-le-mul-right, suc-mul, mul-comm}
 use mathlib.Core.Path.{_≡_, sym, ap, _∙_, fun-ext}
-use mathlib.Core.Bool.{cond}
+use mathlib.Core.Logic.{_⊎_, inl, inr}
+use mathlib.Core.Bool.{cond, _&&_}
 use mathlib.Core.List.{List}
 use lib.Arith.{digits-div, digits-mod}
-use lib.Dec.{ltb}
+use lib.Dec.{ltb, eqb}
 use lib.ListN.{length, getD, set}
 use lib.IntN.{ℤ, pos, natAbs, _+ℤ_}
+use Rattle.lists.specs.Tests.{lt-or-le}
 use Rattle.lists.specs.Sums.{upTo}
 use Rattle.lists.specs.Filled.{Filled, filled-set, filled-join, filled-all}
-use Rattle.scheme.specs.Units.{mostSide, Field, stored, fieldOf, mostStations, mostRadius, mostLimit, windMode}
-use Rattle.scheme.specs.Correction.{Sums, nothing, plus, correction}
+use Rattle.scheme.specs.Units.{mostSide, Field, stored, fieldOf, mostStations, mostRadius, mostLimit, windMode, listingRule}
+use Rattle.scheme.specs.Rounding.{rounded}
+use Rattle.scheme.specs.Weight.{scale}
+use Rattle.scheme.specs.Correction.{Sums, nothing, plus, divisor, correction}
 use Rattle.scheme.specs.Most.{mostPoints, mostSquare, mostWeights, mostField}
 use Rattle.scheme.specs.Accepted.{Shaped, same-shape}
-use Rattle.scan_point.specs.Near.{Slight, near-small, Stations, sumsOver, Ready, Near}
+use Rattle.scan_point.specs.Near.{Slight, weights-few, near-small, Stations, sumsOver, Ready, Near}
 
 -- ---- one row, whose points stand at base, base + 1, ..
 
@@ -24,11 +28,30 @@ abbrev pub rowSums : (give : ℕ → ℕ → Sums) (n i : ℕ) → Sums
 rowSums give n i = upTo nothing plus n (give i)
 
 -- the new value and the new support byte at place k
-unfoldable pub rowZ : (z : List ℤ) (give : ℕ → ℕ → Sums) (n base k : ℕ) → ℤ
-rowZ z give n base k = getD z k (pos 0) +ℤ correction (rowSums give n (k - base))
+unfoldable pub rowZ : (rule : ℕ) (z : List ℤ) (give : ℕ → ℕ → Sums) (n base k : ℕ) → ℤ
+rowZ rule z give n base k = getD z k (pos 0) +ℤ correction rule (rowSums give n (k - base))
 
 unfoldable pub rowS : (sup : List ℕ) (give : ℕ → ℕ → Sums) (n bit base k : ℕ) → ℕ
 rowS sup give n bit base k = getD sup k 0 + cond (ltb 0 (rowSums give n (k - base) .weights)) bit 0
+
+-- what a point is moved by, w the sum of weights there and wd that of weight·D, divided by `over`
+abbrev pub movedBy : (w : ℕ) (wd : ℤ) (over : ℕ) → ℤ
+movedBy w wd over = cond (eqb w 0) (pos 0) (rounded wd over)
+
+-- by what it is to be divided, with so many stations inside: it matters only with some weight
+pub record Divides (rule w inside over : ℕ) : Type 0 where
+  pub least : w ≤ over
+  pub most : over ≤ mostWeights
+  pub is : 0 < w → over ≡ cond (eqb rule listingRule && eqb inside 1) scale w
+
+divides-so : {rule w inside over : ℕ} {wd : ℤ} (s : Sums) → w ≡ s .weights → wd ≡ s .pulls → s .inside ≡ inside → Divides rule w inside over
+    → movedBy w wd over ≡ correction rule s
+unfolding correction divisor
+divides-so {w = w} s ew ed ei by = rw (← ew, ← ed, ei) (go (lt-or-le 0 w))
+  where
+    go : (0 < w) ⊎ (w ≤ 0) → movedBy w _ _ ≡ _
+    go (inl h) = rw (by .is h)
+    go (inr h) = let e : w ≡ 0 = omega arith in rw e
 
 -- a point whose value and support can be set
 pub record PointReady (z : List ℤ) (sup : List ℕ) (p bit : ℕ) : Type 0 where
@@ -49,9 +72,9 @@ pub record RowReady (z : List ℤ) (sup : List ℕ) (base nx : ℕ) (give : ℕ 
   pub free : (k : ℕ) → base ≤ k → getD sup k 0 + bit < 256
 
 -- a turn along the row: w and wd are the sums at column i
-module _ {z₀ : List ℤ} {sup₀ : List ℕ} {base nx : ℕ} {give : ℕ → ℕ → Sums} {n bit : ℕ}
+module _ {rule : ℕ} {z₀ : List ℤ} {sup₀ : List ℕ} {base nx : ℕ} {give : ℕ → ℕ → Sums} {n bit : ℕ}
     (ok : RowReady z₀ sup₀ base nx give n bit) {z : List ℤ} {sup : List ℕ} {i : ℕ} (turn : i < nx)
-    (pz : Filled (pos 0) (rowZ z₀ give n base) base (base + i) z₀ z) (ps : Filled 0 (rowS sup₀ give n bit base) base (base + i) sup₀ sup) where
+    (pz : Filled (pos 0) (rowZ rule z₀ give n base) base (base + i) z₀ z) (ps : Filled 0 (rowS sup₀ give n bit base) base (base + i) sup₀ sup) where
   pub point-ready : PointReady z sup (base + i) bit
   point-ready =
       record {
@@ -68,19 +91,23 @@ module _ {z₀ : List ℤ} {sup₀ : List ℕ} {base nx : ℕ} {give : ℕ → �
   next-place : base + (i + 1) ≡ base + i + 1
   next-place = omega arith
 
-  module _ {w : ℕ} {wd : ℤ} (w-is : w ≡ rowSums give n i .weights) (wd-is : wd ≡ rowSums give n i .pulls) where
-    pub sums-small : (w ≤ mostWeights) × (natAbs wd ≤ mostLimit * w)
+  module _ {w inside : ℕ} {wd : ℤ} (w-is : w ≡ rowSums give n i .weights) (wd-is : wd ≡ rowSums give n i .pulls) (inside-is : rowSums give n i .inside ≡ inside) where
+    pub sums-small : (w ≤ mostWeights) × (natAbs wd ≤ mostLimit * w) × (w ≤ scale * inside)
     sums-small =
         let h = near-small (give i) n (ok .slight i) in
-        rw (w-is, wd-is) (omega (arith, h .weights-most, ok .few), h .pulls-most)
+        rw (w-is, wd-is, ← inside-is) (omega (arith, weights-few n (rowSums give n i) h, ok .few), h .modest .pulls-most, h .modest .weights-most)
 
-    pub next-value : (v : ℤ) → v ≡ getD z (base + i) (pos 0) +ℤ correction (record { weights = w; pulls = wd })
-        → Filled (pos 0) (rowZ z₀ give n base) base (base + (i + 1)) z₀ (set z (base + i) v)
-    next-value v e =
-        filled-set (pos 0) (rowZ z₀ give n base) base (base + i) (base + (i + 1)) z₀ z v next-place (omega arith) (point-ready .inside) (e ∙ same) pz
-      where
-        same : getD z (base + i) (pos 0) +ℤ correction (record { weights = w; pulls = wd }) ≡ rowZ z₀ give n base (base + i)
-        same = unfold rowZ in (rw (column, w-is, wd-is, pz .rest (base + i) (omega arith)))
+    module _ {over : ℕ} (by : Divides rule w inside over) where
+      pub pulls-small : natAbs wd ≤ mostLimit * over
+      pulls-small = omega (arith, sums-small .1, mul-le-mul-left mostLimit (by .least))
+
+      pub next-value : (v : ℤ) → v ≡ getD z (base + i) (pos 0) +ℤ movedBy w wd over
+          → Filled (pos 0) (rowZ rule z₀ give n base) base (base + (i + 1)) z₀ (set z (base + i) v)
+      next-value v e =
+          filled-set (pos 0) (rowZ rule z₀ give n base) base (base + i) (base + (i + 1)) z₀ z v next-place (omega arith) (point-ready .inside) (e ∙ same) pz
+        where
+          same : getD z (base + i) (pos 0) +ℤ movedBy w wd over ≡ rowZ rule z₀ give n base (base + i)
+          same = unfold rowZ in (rw (column, pz .rest (base + i) (omega arith), divides-so (rowSums give n i) w-is wd-is inside-is by))
 
     pub next-support : (b : ℕ) → b ≡ getD sup (base + i) 0 + cond (ltb 0 w) bit 0
         → Filled 0 (rowS sup₀ give n bit base) base (base + (i + 1)) sup₀ (set sup (base + i) b)
@@ -93,8 +120,8 @@ module _ {z₀ : List ℤ} {sup₀ : List ℕ} {base nx : ℕ} {give : ℕ → �
 -- ---- a grid row, from all the stations
 
 -- the new value and the new support byte at place k of grid row j, whose points stand at base, base + 1, ..
-unfoldable pub rowValue : (z : List ℤ) (all : Stations) (r2 j base k : ℕ) → ℤ
-rowValue z all r2 j base k = getD z k (pos 0) +ℤ correction (sumsOver all r2 (k - base) j)
+unfoldable pub rowValue : (rule : ℕ) (z : List ℤ) (all : Stations) (r2 j base k : ℕ) → ℤ
+rowValue rule z all r2 j base k = getD z k (pos 0) +ℤ correction rule (sumsOver all r2 (k - base) j)
 
 unfoldable pub rowSupport : (sup : List ℕ) (all : Stations) (r2 bit j base k : ℕ) → ℕ
 rowSupport sup all r2 bit j base k = getD sup k 0 + cond (ltb 0 (sumsOver all r2 (k - base) j .weights)) bit 0
@@ -135,17 +162,17 @@ module _ {z : List ℤ} {sup : List ℕ} {nx ny : ℕ} {all : Stations} {r2 bit 
           free = ok .free;
         }
 
-    same-values : rowZ z give n (j * nx) ≡ rowValue z all r2 j (j * nx)
+    same-values : (rule : ℕ) → rowZ rule z give n (j * nx) ≡ rowValue rule z all r2 j (j * nx)
     unfolding rowZ rowValue sumsOver
-    same-values = fun-ext (λ k. rw (near .same (k - j * nx)))
+    same-values rule = fun-ext (λ k. rw (near .same (k - j * nx)))
 
     same-supports : rowS sup give n bit (j * nx) ≡ rowSupport sup all r2 bit j (j * nx)
     unfolding rowS rowSupport sumsOver
     same-supports = fun-ext (λ k. rw (near .same (k - j * nx)))
 
-    pub row-values : {z' : List ℤ} → Filled (pos 0) (rowZ z give n (j * nx)) (j * nx) (j * nx + nx) z z'
-        → Filled (pos 0) (rowValue z all r2 j (j * nx)) (j * nx) (j * nx + nx) z z'
-    row-values p = rw same-values at p
+    pub row-values : {rule : ℕ} {z' : List ℤ} → Filled (pos 0) (rowZ rule z give n (j * nx)) (j * nx) (j * nx + nx) z z'
+        → Filled (pos 0) (rowValue rule z all r2 j (j * nx)) (j * nx) (j * nx + nx) z z'
+    row-values {rule = rule} p = rw (same-values rule) at p
 
     pub row-supports : {sup' : List ℕ} → Filled 0 (rowS sup give n bit (j * nx)) (j * nx) (j * nx + nx) sup sup'
         → Filled 0 (rowSupport sup all r2 bit j (j * nx)) (j * nx) (j * nx + nx) sup sup'
@@ -154,14 +181,14 @@ module _ {z : List ℤ} {sup : List ℕ} {nx ny : ℕ} {all : Stations} {r2 bit 
 -- ---- the whole grid
 
 -- the field after the corrections, and the support with its new bit, from the stations
-unfoldable pub corrected : (z : List ℤ) (nx : ℕ) (all : Stations) (r2 : ℕ) → Field ℤ
-corrected z nx all r2 i j = fieldOf (pos 0) nx z i j +ℤ correction (sumsOver all r2 i j)
+unfoldable pub corrected : (rule : ℕ) (z : List ℤ) (nx : ℕ) (all : Stations) (r2 : ℕ) → Field ℤ
+corrected rule z nx all r2 i j = fieldOf (pos 0) nx z i j +ℤ correction rule (sumsOver all r2 i j)
 
 unfoldable pub backed : (sup : List ℕ) (nx : ℕ) (all : Stations) (r2 bit : ℕ) → Field ℕ
 backed sup nx all r2 bit i j = fieldOf 0 nx sup i j + cond (ltb 0 (sumsOver all r2 i j .weights)) bit 0
 
-abbrev pub passZ : (z : List ℤ) (nx : ℕ) (all : Stations) (r2 k : ℕ) → ℤ
-passZ z nx all r2 k = corrected z nx all r2 (k % nx) (k / nx)
+abbrev pub passZ : (rule : ℕ) (z : List ℤ) (nx : ℕ) (all : Stations) (r2 k : ℕ) → ℤ
+passZ rule z nx all r2 k = corrected rule z nx all r2 (k % nx) (k / nx)
 
 abbrev pub passS : (sup : List ℕ) (nx : ℕ) (all : Stations) (r2 bit k : ℕ) → ℕ
 passS sup nx all r2 bit k = backed sup nx all r2 bit (k % nx) (k / nx)
@@ -177,7 +204,7 @@ pub record PassReady (z : List ℤ) (sup : List ℕ) (nx ny : ℕ) (all : Statio
 
 -- ---- a row of the pass
 
-module _ {z₀ : List ℤ} {sup₀ : List ℕ} {nx ny : ℕ} {all : Stations} {radius bit : ℕ}
+module _ {rule : ℕ} {z₀ : List ℤ} {sup₀ : List ℕ} {nx ny : ℕ} {all : Stations} {radius bit : ℕ}
     (ok : PassReady z₀ sup₀ nx ny all radius bit) where
   abbrev r2 : ℕ
   r2 = radius * radius
@@ -186,7 +213,7 @@ module _ {z₀ : List ℤ} {sup₀ : List ℕ} {nx ny : ℕ} {all : Stations} {r
   r2-close = mul-le-mul (ok .close) (ok .close)
 
   module _ {j : ℕ} (hj : j < ny) {z : List ℤ} {sup : List ℕ}
-      (pz : Filled (pos 0) (passZ z₀ nx all r2) 0 (j * nx) z₀ z) (ps : Filled 0 (passS sup₀ nx all r2 bit) 0 (j * nx) sup₀ sup) where
+      (pz : Filled (pos 0) (passZ rule z₀ nx all r2) 0 (j * nx) z₀ z) (ps : Filled 0 (passS sup₀ nx all r2 bit) 0 (j * nx) sup₀ sup) where
     pub row-pass : RowPass z sup nx ny all (radius * radius) bit j
     row-pass =
         record {
@@ -211,7 +238,7 @@ module _ {z₀ : List ℤ} {sup₀ : List ℕ} {nx ny : ℕ} {all : Stations} {r
       at-row : k / nx ≡ j
       at-row = ap (λ (m : ℕ). m / nx) split ∙ digits-div j (omega arith)
 
-      same-z : rowValue z all r2 j (j * nx) k ≡ passZ z₀ nx all r2 k
+      same-z : rowValue rule z all r2 j (j * nx) k ≡ passZ rule z₀ nx all r2 k
       unfolding rowValue corrected fieldOf
       same-z = rw (at-column, at-row, ← split) (rw (pz .rest k h))
 
@@ -222,11 +249,11 @@ module _ {z₀ : List ℤ} {sup₀ : List ℕ} {nx ny : ℕ} {all : Stations} {r
     next-row : j * nx + nx ≡ (j + 1) * nx
     next-row = omega (arith, suc-mul j nx)
 
-    pub next-z : (z' : List ℤ) → Filled (pos 0) (rowValue z all r2 j (j * nx)) (j * nx) (j * nx + nx) z z'
-        → Filled (pos 0) (passZ z₀ nx all r2) 0 ((j + 1) * nx) z₀ z'
+    pub next-z : (z' : List ℤ) → Filled (pos 0) (rowValue rule z all r2 j (j * nx)) (j * nx) (j * nx + nx) z z'
+        → Filled (pos 0) (passZ rule z₀ nx all r2) 0 ((j + 1) * nx) z₀ z'
     next-z z' p =
         rw (← next-row)
-        (filled-join (pos 0) (passZ z₀ nx all r2) (rowValue z all r2 j (j * nx)) 0 (j * nx) (j * nx + nx) z₀ z z' (omega arith) (omega arith) same-z pz p)
+        (filled-join (pos 0) (passZ rule z₀ nx all r2) (rowValue rule z all r2 j (j * nx)) 0 (j * nx) (j * nx + nx) z₀ z z' (omega arith) (omega arith) same-z pz p)
 
     pub next-s : (sup' : List ℕ) → Filled 0 (rowSupport sup all r2 bit j (j * nx)) (j * nx) (j * nx + nx) sup sup'
         → Filled 0 (passS sup₀ nx all r2 bit) 0 ((j + 1) * nx) sup₀ sup'
@@ -235,9 +262,9 @@ module _ {z₀ : List ℤ} {sup₀ : List ℕ} {nx ny : ℕ} {all : Stations} {r
         (filled-join 0 (passS sup₀ nx all r2 bit) (rowSupport sup all r2 bit j (j * nx)) 0 (j * nx) (j * nx + nx) sup₀ sup sup' (omega arith) (omega arith) same-s ps p)
 
   -- all rows
-  pub all-z : (z : List ℤ) → Filled (pos 0) (passZ z₀ nx all r2) 0 (ny * nx) z₀ z → z ≡ stored nx ny (corrected z₀ nx all r2)
+  pub all-z : (z : List ℤ) → Filled (pos 0) (passZ rule z₀ nx all r2) 0 (ny * nx) z₀ z → z ≡ stored nx ny (corrected rule z₀ nx all r2)
   unfolding stored
-  all-z z p = filled-all (pos 0) (passZ z₀ nx all r2) (nx * ny) z₀ z (ok .shape .whole) (rw (mul-comm ny nx) at p)
+  all-z z p = filled-all (pos 0) (passZ rule z₀ nx all r2) (nx * ny) z₀ z (ok .shape .whole) (rw (mul-comm ny nx) at p)
 
   pub all-s : (sup : List ℕ) → Filled 0 (passS sup₀ nx all r2 bit) 0 (ny * nx) sup₀ sup → sup ≡ stored nx ny (backed sup₀ nx all r2 bit)
   unfolding stored

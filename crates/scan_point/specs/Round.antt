@@ -2,7 +2,7 @@
 -- weight.
 use Prim.Native.Nat.{ℕ, _+_, _*_, _≤_, _<_}
 use native.Mathlib.Omega.{arith}
-use mathlib.Core.Path.{_≡_, sym, ap, _∙_}
+use mathlib.Core.Path.{_≡_, refl, sym, ap, _∙_}
 use mathlib.Core.Bool.{cond}
 use mathlib.Core.List.{List}
 use lib.Dec.{ltb}
@@ -10,28 +10,47 @@ use lib.ListN.{length, getD, set, length-set, replicate, length-replicate}
 use lib.Seq.{getD-set-same, getD-set-other}
 use lib.IntN.{ℤ, pos, natAbs, _-ℤ_}
 use Rattle.scheme.specs.Units.{step, mostStations, mostLimit, roundMode}
-use Rattle.scheme.specs.Weight.{weight, square, weightAt}
+use Rattle.scheme.specs.Weight.{weight, square, inside, weightAt}
 use Rattle.scheme.specs.Correction.{Sums}
 use Rattle.scheme.specs.Most.{mostAlong, mostSquare}
-use Rattle.scheme.specs.Weights.{weight-most}
+use Rattle.scheme.specs.Weights.{weight-beyond, weight-most, inside-alone}
 use Rattle.scheme.specs.Streaks.{round-if-still, still-in-mode-0}
 use Rattle.scheme.specs.Gifts.{weighed, gift-weighed}
 use Rattle.scan_point.specs.Near.{Stations, xAt, yAt, windAt, verdictAt, dAt, shareAt, Slight, weighed-slight, rowGap, Ready, Near, near-is-accepted, near-step, accepted-shares}
 
 unfoldable pub nearShare : (lx : List ℤ) (ly : List ℕ) (ld : List ℤ) (r2 i t : ℕ) → Sums
 nearShare lx ly ld r2 i t =
-    weighed (weight r2 (square (getD lx t (pos 0) -ℤ pos (step * i)) + getD ly t 0)) (getD ld t (pos 0))
+    let d2 = square (getD lx t (pos 0) -ℤ pos (step * i)) + getD ly t 0 in
+    weighed (ltb d2 r2) (weight r2 d2) (getD ld t (pos 0))
 
 pub record Sized (lx : List ℤ) (ly : List ℕ) (ld : List ℤ) (t : ℕ) : Type 0 where
   pub x-small : natAbs (getD lx t (pos 0)) ≤ mostAlong
   pub y-small : getD ly t 0 ≤ mostSquare
   pub d-small : natAbs (getD ld t (pos 0)) ≤ mostLimit
 
+-- ---- those inside the radius, by the lists that both modes have: 1 for an entry that is inside at column i, and else 0
+
+unfoldable pub insideIn : (lx : List ℤ) (ly : List ℕ) (r2 i t : ℕ) → ℕ
+insideIn lx ly r2 i t = cond (ltb (square (getD lx t (pos 0) -ℤ pos (step * i)) + getD ly t 0) r2) 1 0
+
+pub record Placed (lx : List ℤ) (ly : List ℕ) (t : ℕ) : Type 0 where
+  pub x-small : natAbs (getD lx t (pos 0)) ≤ mostAlong
+  pub y-small : getD ly t 0 ≤ mostSquare
+
+pub sized-placed : {lx : List ℤ} {ly : List ℕ} {ld : List ℤ} {t : ℕ} → Sized lx ly ld t → Placed lx ly t
+sized-placed s = record { x-small = s .x-small; y-small = s .y-small }
+
+pub round-inside : (lx : List ℤ) (ly : List ℕ) (ld : List ℤ) (r2 i t : ℕ) → nearShare lx ly ld r2 i t .inside ≡ insideIn lx ly r2 i t
+unfolding nearShare insideIn
+round-inside lx ly ld r2 i t = refl
+
+-- ---- gathering
+
 pub round-slight : (lx : List ℤ) (ly : List ℕ) (ld : List ℤ) (r2 i t : ℕ) → Sized lx ly ld t → Slight (nearShare lx ly ld r2 i t)
 unfolding nearShare
 round-slight lx ly ld r2 i t s =
     let d2 : ℕ = square (getD lx t (pos 0) -ℤ pos (step * i)) + getD ly t 0 in
-    weighed-slight (weight r2 d2) (getD ld t (pos 0)) (weight-most r2 d2) (s .d-small)
+    weighed-slight (ltb d2 r2) (weight r2 d2) (getD ld t (pos 0)) (inside-alone (weight r2 d2) r2 d2 (weight-most r2 d2) (weight-beyond r2 d2)) (s .d-small)
 
 pub record Roomy (lx : List ℤ) (ly : List ℕ) (ld : List ℤ) : Type 0 where
   pub x-long : length lx ≡ mostStations
@@ -105,8 +124,8 @@ module _ (all : Stations) (r2 j : ℕ) (bounded : r2 ≤ mostSquare) (ok : Ready
         rw (new-x lx ly ld n (xAt all k) gap (dAt all k) room n-room, new-y lx ly ld n (xAt all k) gap (dAt all k) room n-room, new-d lx ly ld n (xAt all k) gap (dAt all k) room n-room, gap-is)
         (sym (accepted-shares all r2 i j k accepted
         ∙ gift-weighed (all .mode) r2 (windAt all k) (dAt all k) dx dy
-        ∙ ap (λ (m : ℕ). weighed (weightAt m r2 (windAt all k) dx dy) (dAt all k)) round
-        ∙ ap (λ (w : ℕ). weighed w (dAt all k)) (round-if-still roundMode r2 (windAt all k) dx dy (still-in-mode-0 (windAt all k) dx dy))))
+        ∙ ap (λ (m : ℕ). weighed (inside r2 dx dy) (weightAt m r2 (windAt all k) dx dy) (dAt all k)) round
+        ∙ ap (λ (w : ℕ). weighed (inside r2 dx dy) w (dAt all k)) (round-if-still roundMode r2 (windAt all k) dx dy (still-in-mode-0 (windAt all k) dx dy))))
 
     -- a turn, of the values that the code has
     pub near-turn : Near (nearShare lx ly ld r2) (Sized lx ly ld) n all r2 j k → {x d : ℤ} {g one : ℕ} → x ≡ xAt all k → d ≡ dAt all k → g ≡ gap

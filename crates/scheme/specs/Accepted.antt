@@ -14,7 +14,7 @@ use Rattle.lists.specs.Tests.{and-true, or-false, not-both}
 use Rattle.lists.specs.First.{Found, nowhere, at, first, firstIn, first-good, good-first, none-bad, all-fine}
 use Rattle.lists.specs.Members.{All, none, more}
 use Rattle.lists.specs.Tab.{length-tab}
-use Rattle.scheme.specs.Units.{among, within, mostValue, isMissing, leastSide, mostSide, mostStations, mostWind, isNoWind, Wind, Station, mostPosition, Columns, stationAt, stationsOf, mostScans, mostRadius, mostLimit, windMode, Plan, R, E, Request, Call, asked}
+use Rattle.scheme.specs.Units.{among, within, mostValue, isMissing, leastSide, mostSide, mostStations, mostWind, isNoWind, Wind, Station, mostPosition, Columns, stationAt, stationsOf, mostScans, mostRadius, mostLimit, windMode, equationRule, listingRule, Plan, R, E, Request, Call, asked}
 use Rattle.scheme.specs.Streaks.{Fair}
 use Rattle.scheme.specs.Refusals.{Refusal, accepted, refused, inOrder, refusedIf, refusedWith, refusedAt, badShape, Span, Window, badSpan, badWindow, mostWindows, Screen, badScreen, pointsAlong, pointsOf, pointsOfAll, badLengths, badColumns, badScans, rising, badScan, badGuess, badWind, badStation, fromFive, analysisRefusal}
 
@@ -36,6 +36,13 @@ unfolding refusedAt
 nowhere-refused n nowhere e = refl
 nowhere-refused n (at k) e = absurd (let z : _≡_ {A = ℕ} 0 1 = cc in omega arith)
 
+-- a count in low..high
+pub counted-in : (low high n : ℕ) → not (among low high n) ≡ false → (low ≤ n) × (n ≤ high)
+counted-in low high n e = let (p, r) = and-true _ _ (not-false _ e) in (leb-true low n p, leb-true n high r)
+
+pub in-count : (low high n : ℕ) → low ≤ n → n ≤ high → among low high n ≡ true
+in-count low high n h k = rw (le-leb low n h, le-leb n high k)
+
 -- ---- 1: the shape
 
 pub record Shaped (nx ny len : ℕ) : Type 0 where
@@ -50,16 +57,13 @@ pub same-shape : {nx ny n : ℕ} → Shaped nx ny n → (m : ℕ) → m ≡ nx *
 same-shape h m e =
     record { two-columns = h .two-columns; few-columns = h .few-columns; two-rows = h .two-rows; few-rows = h .few-rows; whole = e }
 
-pub side : (n : ℕ) → not (among leastSide mostSide n) ≡ false → (2 ≤ n) × (n ≤ 64)
-side n e = let (p, r) = and-true _ _ (not-false _ e) in (leb-true leastSide n p, leb-true n mostSide r)
-
 pub shaped : (nx ny len : ℕ) → badShape nx ny len ≡ false → Shaped nx ny len
 unfolding badShape
 shaped nx ny len e =
     let (e', c) = or-false _ _ e in
     let (a, b) = or-false _ _ e' in
-    let (p, r) = side nx a in
-    let (s, t) = side ny b in
+    let (p, r) = counted-in leastSide mostSide nx a in
+    let (s, t) = counted-in leastSide mostSide ny b in
     record { two-columns = p; few-columns = r; two-rows = s; few-rows = t; whole = eqb-true len (nx * ny) (not-false _ c) }
 
 -- ---- 4: the columns
@@ -100,14 +104,20 @@ equal c e =
 
 -- ---- 5 and 6: the plan
 
-pub scans-fit : (s r l mode : ℕ) → not (among 1 mostScans s) || ltb r s || ltb l s || ltb windMode mode ≡ false
-    → (1 ≤ s) × (s ≤ mostScans) × (s ≤ r) × (s ≤ l) × (mode ≤ windMode)
-scans-fit s r l mode e =
-    let (g, known) = or-false _ _ e in
+-- one of the two rules
+abbrev pub Ruled : ℕ → Type 0
+Ruled rule = (equationRule ≤ rule) × (rule ≤ listingRule)
+
+pub scans-fit : (s r l mode rule : ℕ)
+    → not (among 1 mostScans s) || ltb r s || ltb l s || ltb windMode mode || not (among equationRule listingRule rule) ≡ false
+    → (1 ≤ s) × (s ≤ mostScans) × (s ≤ r) × (s ≤ l) × (mode ≤ windMode) × Ruled rule
+scans-fit s r l mode rule e =
+    let (h, ruled) = or-false _ _ e in
+    let (g, known) = or-false _ _ h in
     let (f, limits) = or-false _ _ g in
     let (count, radii) = or-false _ _ f in
-    let (some, few) = and-true (leb 1 s) (leb s mostScans) (not-false _ count) in
-    (leb-true 1 s some, leb-true s mostScans few, ltb-false r s radii, ltb-false l s limits, ltb-false windMode mode known)
+    let (some, few) = counted-in 1 mostScans s count in
+    (some, few, ltb-false r s radii, ltb-false l s limits, ltb-false windMode mode known, counted-in equationRule listingRule rule ruled)
 
 -- a number in low..high, as the natural that it is
 natural : (low high : ℕ) (z : ℤ) → not (leZ (pos low) z && leZ z (pos high)) ≡ false → (z ≡ pos (natAbs z)) × (low ≤ natAbs z) × (natAbs z ≤ high)
@@ -192,6 +202,7 @@ pub record Planned (p : Plan) : Type 0 where
   pub radii : p .scans ≤ length (p .radius)
   pub limits : p .scans ≤ length (p .limit)
   pub known : p .mode ≤ windMode
+  pub ruled : Ruled (p .rule)
   pub scan : (m : ℕ) → m < p .scans → Scanned p m
   pub falls : (m : ℕ) → suc m < p .scans → R p (suc m) ≤ R p m
 
@@ -229,6 +240,7 @@ pub record Formed (q : Request) : Type 0 where
   pub radii : q .plan .scans ≤ length (q .plan .radius)
   pub limits : q .plan .scans ≤ length (q .plan .limit)
   pub known : q .plan .mode ≤ windMode
+  pub ruled : Ruled (q .plan .rule)
 
 formed-all : (q : Request) → Formed q → All (λ r. r ≡ accepted) (fromSix q) → Sound q
 unfolding badGuess
@@ -244,6 +256,7 @@ formed-all q f (more six (more seven (more eight none))) =
             radii = f .radii;
             limits = f .limits;
             known = f .known;
+            ruled = f .ruled;
             scan = λ m h. scanned (q .plan) m (scan m h);
             falls = λ m h. fallen (q .plan) m (scan m (omega arith)) (scan (suc m) h);
           };
@@ -287,7 +300,7 @@ analysis-sound c grid support verdict e = go (all-accepted _ e)
         ∷ fromFive (asked c))
         → Sound (asked c)
     go (more one (more three (more four (more five rest)))) =
-        let (some, few, radii, limits, known) = scans-fit _ _ _ _ (not-refused 5 _ _ five) in
+        let (some, few, radii, limits, known, ruled) = scans-fit _ _ _ _ _ (not-refused 5 _ _ five) in
         formed-all (asked c)
         (record {
           shape = shaped _ _ _ (not-refused 1 _ _ one);
@@ -297,6 +310,7 @@ analysis-sound c grid support verdict e = go (all-accepted _ e)
           radii = radii;
           limits = limits;
           known = known;
+          ruled = ruled;
         })
         rest
 
@@ -355,13 +369,10 @@ equal-screen s e =
 
 -- ---- and back: no test refuses a sound call
 
-side-good : (n : ℕ) → leastSide ≤ n → n ≤ mostSide → among leastSide mostSide n ≡ true
-side-good n h k = rw (le-leb leastSide n h, le-leb n mostSide k)
-
 pub shape-good : {nx ny len : ℕ} → Shaped nx ny len → badShape nx ny len ≡ false
 unfolding badShape
 shape-good {nx} {ny} {len} s =
-    rw (side-good nx (s .two-columns) (s .few-columns), side-good ny (s .two-rows) (s .few-rows), eq-eqb len (nx * ny) (s .whole))
+    rw (in-count leastSide mostSide nx (s .two-columns) (s .few-columns), in-count leastSide mostSide ny (s .two-rows) (s .few-rows), eq-eqb len (nx * ny) (s .whole))
 
 pub columns-good : (c : Columns) → Equal c → badColumns c ≡ false
 unfolding badColumns
@@ -400,11 +411,11 @@ pub request-good : (q : Request) → Sound q → inOrder (fromFive q) ≡ accept
 unfolding fromFive inOrder refusedWith refusedAt badScans
 request-good q s =
     rw (
-      le-leb 1 (q .plan .scans) (s .plan .scans-some),
-      le-leb (q .plan .scans) mostScans (s .plan .scans-few),
+      in-count 1 mostScans (q .plan .scans) (s .plan .scans-some) (s .plan .scans-few),
       le-ltb (length (q .plan .radius)) (q .plan .scans) (s .plan .radii),
       le-ltb (length (q .plan .limit)) (q .plan .scans) (s .plan .limits),
       le-ltb windMode (q .plan .mode) (s .plan .known),
+      in-count equationRule listingRule (q .plan .rule) (s .plan .ruled .0) (s .plan .ruled .1),
       good-first (q .plan .scans) (badScan (q .plan)) (λ m h. scan-good (q .plan) m (s .plan .scan m h)),
       all-fine badGuess (pos 0) (q .firstGuess) (λ k h. unfold badGuess in rw (le-leb _ mostValue (s .first-guess k h))),
       all-fine badStation noStation (q .stations) (λ k h. station-good _ (s .stations k h)),

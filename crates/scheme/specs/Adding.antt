@@ -1,4 +1,4 @@
--- The sums of weights and of weight·D add like numbers.
+-- The sums of weights and of weight·D, and the count of those inside, add like numbers.
 use native.Mathlib.Nat.{zero-add, add-zero, add-assoc}
 use mathlib.Core.Path.{_≡_}
 use lib.IntN.{+ℤ-idl, +ℤ-idr, +ℤ-assoc}

@@ -11,20 +11,21 @@ use lib.Dec.{ltb, eqb}
 use lib.ListN.{length, getD, List·getD-eq-default}
 use lib.IntN.{ℤ, pos, natAbs, _*ℤ_}
 use Rattle.integers.specs.Sizes.{size-add, size-mul}
-use Rattle.lists.specs.Tests.{lt-or-le, true-or-false, not-both, cond-both}
+use Rattle.lists.specs.Tests.{lt-or-le, true-or-false, not-both, and-true, cond-both}
 use Rattle.lists.specs.Sums.{total, upTo, upTo-size}
 use Rattle.lists.specs.Members.{All, none, more, all-map, all-of}
-use Rattle.scheme.specs.Units.{Field, fieldOf, Station, mostValue, mostLimit, R, E, Request, guess, Call, asked}
+use Rattle.scheme.specs.Units.{Field, fieldOf, Station, mostValue, mostLimit, listingRule, R, E, Request, guess, Call, asked}
 use Rattle.scheme.specs.Refusals.{accepted, analysisRefusal}
 use Rattle.scheme.specs.Verdicts.{isAccepted}
 use Rattle.scheme.specs.Rounding.{rounded}
 use Rattle.scheme.specs.Difference.{Row, afterTest, judged}
-use Rattle.scheme.specs.Correction.{Sums, nothing, share, correction}
+use Rattle.scheme.specs.Weight.{scale}
+use Rattle.scheme.specs.Correction.{Sums, nothing, share, isLone, divisor, correction}
 use Rattle.scheme.specs.Smoothing.{patternAt, patternRow, patternSum, inner, smoothed}
 use Rattle.scheme.specs.Scan.{State, differences, start, rowsJudged, sumsAt, corrected, scan, afterWithin, after}
 use Rattle.scheme.specs.Most.{mostField}
 use Rattle.scheme.specs.Nearest.{rounded-size}
-use Rattle.scheme.specs.Gifts.{sums, gift-size}
+use Rattle.scheme.specs.Gifts.{sums, Modest, modest-nothing, modest-plus, gift-modest}
 use Rattle.scheme.specs.Accepted.{Sound, analysis-sound}
 
 -- a field whose values are all of that size at most
@@ -66,38 +67,40 @@ all-passed q m found =
     (λ r u. passed (m + 1) (E (q .plan) m) (differences q found (r .station)) (r .verdict))
     (all-of (λ r. Unit {0}) (λ r. tt) (found .rows))
 
--- ---- so the sum of weight·D is at most E times the sum of weights, and their quotient at most E
+-- ---- so the sum of weight·D is at most E times the sum of weights, and the quotient by that or by more at most E
 
-share-size : (mode radius limit : ℕ) (D : Station → ℤ) (i j : ℕ) (r : Row) → Passed limit D r
-    → natAbs (share mode radius D i j r .pulls) ≤ limit * share mode radius D i j r .weights
+share-modest : (mode radius limit : ℕ) (D : Station → ℤ) (i j : ℕ) (r : Row) → Passed limit D r → Modest limit (share mode radius D i j r)
 unfolding share
-share-size mode radius limit D i j r h =
-    cond-both (λ (s : Sums). natAbs (s .pulls) ≤ limit * s .weights) (isAccepted (r .verdict)) _ nothing
-    (λ e. gift-size mode (radius * radius) (r .station .wind) (D (r .station)) _ _ limit (h e)) (λ e. omega arith)
+share-modest mode radius limit D i j r h =
+    cond-both (Modest limit) (isAccepted (r .verdict)) _ nothing
+    (λ e. gift-modest mode (radius * radius) (r .station .wind) (D (r .station)) _ _ limit (h e)) (λ e. modest-nothing limit)
 
-sums-size : (mode radius limit : ℕ) (D : Station → ℤ) (i j : ℕ) {rows : List Row} → All (Passed limit D) rows
-    → natAbs (sums mode radius D rows i j .pulls) ≤ limit * sums mode radius D rows i j .weights
+sums-modest : (mode radius limit : ℕ) (D : Station → ℤ) (i j : ℕ) {rows : List Row} → All (Passed limit D) rows → Modest limit (sums mode radius D rows i j)
 unfolding total
-sums-size mode radius limit D i j none = omega arith
-sums-size mode radius limit D i j (more {a = r} {xs = rows} h rest) =
-    omega (
-      arith,
-      size-add (share mode radius D i j r .pulls) (sums mode radius D rows i j .pulls),
-      share-size mode radius limit D i j r h,
-      sums-size mode radius limit D i j rest,
-    )
+sums-modest mode radius limit D i j none = modest-nothing limit
+sums-modest mode radius limit D i j (more {a = r} {xs = rows} h rest) =
+    modest-plus limit (share mode radius D i j r) (sums mode radius D rows i j) (share-modest mode radius limit D i j r h)
+    (sums-modest mode radius limit D i j rest)
 
-pub correction-size : (limit : ℕ) (s : Sums) → natAbs (s .pulls) ≤ limit * s .weights → natAbs (correction s) ≤ limit
+-- under either rule they are divided by no less than the sum of weights: the weight of a lone station is at most the scale
+pub divisor-least : (rule limit : ℕ) (s : Sums) → Modest limit s → s .weights ≤ divisor rule s
+unfolding divisor
+divisor-least rule limit s h =
+    cond-both (λ (d : ℕ). s .weights ≤ d) (eqb rule listingRule && isLone s) scale (s .weights)
+    (λ e. omega (arith, h .weights-most, eqb-true (s .inside) 1 (and-true (eqb rule listingRule) (isLone s) e .1))) (λ e. omega arith)
+
+pub correction-size : (rule limit : ℕ) (s : Sums) → Modest limit s → natAbs (correction rule s) ≤ limit
 unfolding correction
-correction-size limit s h =
-    cond-both (λ (c : ℤ). natAbs c ≤ limit) (eqb (s .weights) 0) (pos 0) (rounded (s .pulls) (s .weights))
-    (λ e. omega arith) (λ e. rounded-size (s .pulls) (s .weights) limit h)
+correction-size rule limit s h =
+    cond-both (λ (c : ℤ). natAbs c ≤ limit) (eqb (s .weights) 0) (pos 0) (rounded (s .pulls) (divisor rule s))
+    (λ e. omega arith)
+    (λ e. rounded-size (s .pulls) (divisor rule s) limit (omega (arith, h .pulls-most, mul-le-mul-left limit (divisor-least rule limit s h))))
 
 -- each correction is at most E in size, whatever state the scan finds
-pub correction-at-most-E : (q : Request) (m : ℕ) (found : State) (i j : ℕ) → natAbs (correction (sumsAt q m found i j)) ≤ E (q .plan) m
+pub correction-at-most-E : (q : Request) (m : ℕ) (found : State) (i j : ℕ) → natAbs (correction (q .plan .rule) (sumsAt q m found i j)) ≤ E (q .plan) m
 unfolding sumsAt
 correction-at-most-E q m found i j =
-    correction-size (E (q .plan) m) _ (sums-size (q .plan .mode) (R (q .plan) m) (E (q .plan) m) (differences q found) i j (all-passed q m found))
+    correction-size (q .plan .rule) (E (q .plan) m) _ (sums-modest (q .plan .mode) (R (q .plan) m) (E (q .plan) m) (differences q found) i j (all-passed q m found))
 
 -- ---- smoothing makes nothing larger
 
@@ -138,7 +141,7 @@ scan-within most q m found h =
         unfold corrected in
         omega (
           arith,
-          size-add (found .field i j) (correction (sumsAt q m found i j)),
+          size-add (found .field i j) (correction (q .plan .rule) (sumsAt q m found i j)),
           h i j,
           correction-at-most-E q m found i j,
         )

@@ -12,14 +12,14 @@ use Rattle.lists.specs.Tab.{tab}
 use Rattle.lists.specs.Sums.{total}
 use Rattle.lists.specs.First.{first, firstFrom, orNext}
 use Rattle.scheme.specs.declared.Reading.the-variants.{Backed, FirstGuess, OffGrid, Refused}
-use Rattle.scheme.specs.Units.{isMissing, missingMark, Field, stored, fieldOf, mostStations, Wind, noWind, isNoWind, Station, noEnd, Columns, stationAt, stationsOf, mostBeyond, roundMode, windMode, R, E, Request, Call, guess, asking}
+use Rattle.scheme.specs.Units.{isMissing, missingMark, Field, stored, fieldOf, mostStations, Wind, noWind, isNoWind, Station, noEnd, Columns, stationAt, stationsOf, mostBeyond, roundMode, windMode, equationRule, listingRule, R, E, Request, Call, guess, asking}
 use Rattle.scheme.specs.Refusals.{Refusal, accepted, refused, asOne, inOrder, refusedWith, refusedAt, badShape, Span, Window, badWindow, windowAt, Screen, windowsOf, badScreen, badLengths, badColumns, badScans, rising, badScan, badGuess, badWind, badStation, fromFive, analysisRefusal, windowRefusal, screenRefusal, summaryRefusal, readingRefusal}
 use Rattle.scheme.specs.Verdicts.{serves, outOfService, nearAxis, offGrid, firstThatFits, beforeScans}
 use Rattle.scheme.specs.Rounding.{rounded}
 use Rattle.scheme.specs.Value.{place, cell, corners, sumAt, valueAt}
 use Rattle.scheme.specs.Difference.{difference, afterTest, judged}
 use Rattle.scheme.specs.Weight.{weight, stretched, blows, weightAt}
-use Rattle.scheme.specs.Correction.{gift, share, correction, backedBy}
+use Rattle.scheme.specs.Correction.{gift, share, divisor, correction, backedBy}
 use Rattle.scheme.specs.Smoothing.{inner, smoothed}
 use Rattle.scheme.specs.Scan.{start, rowsJudged, sumsAt, corrected, scan, afterWithin, Analysis, analysis}
 use Rattle.scheme.specs.Reach.{onSpan}
@@ -60,16 +60,19 @@ at0 = pos 0 ∷ pos 0 ∷ []
 
 -- of that shape and first guess, with these stations, and with this plan
 abbrev shapedSo : (nx ny : ℕ) → List ℤ → Call
-shapedSo nx ny z = asking nx ny z (two good) 2 at64 at0 false roundMode 1000 60
+shapedSo nx ny z = asking nx ny z (two good) 2 at64 at0 false roundMode equationRule 1000 60
 
 abbrev stationedIn : (mode : ℕ) → Columns → Call
-stationedIn mode c = asking 2 2 level c 2 at64 at0 false mode 1000 60
+stationedIn mode c = asking 2 2 level c 2 at64 at0 false mode equationRule 1000 60
 
 abbrev stationed : Columns → Call
 stationed = stationedIn roundMode
 
+abbrev ruledBy : (rule : ℕ) → Columns → (radius : List ℤ) → Call
+ruledBy rule c radius = asking 2 2 level c 2 radius at0 false roundMode rule 1000 60
+
 abbrev planned : ℕ → (radius limit : List ℤ) → Call
-planned scans radius limit = asking 2 2 level (two good) scans radius limit false roundMode 1000 60
+planned scans radius limit = asking 2 2 level (two good) scans radius limit false roundMode equationRule 1000 60
 
 -- the whole window
 abbrev all : Window
@@ -146,9 +149,15 @@ pub record Refusals : Type 0 where
   pub short-limits : EachRefuses (planned 3 (pos 64 ∷ at64) at0) (refused 5 0)
   -- and another mode, before 6 and 8
   pub third-mode : EachRefuses (stationedIn 2 (two good)) (refused 5 0)
-  pub mode-before-radius : EachRefuses (asking 2 2 level (two good) 2 at0 at0 false 2 1000 60) (refused 5 0)
+  pub mode-before-radius : EachRefuses (asking 2 2 level (two good) 2 at0 at0 false 2 equationRule 1000 60) (refused 5 0)
   pub mode-before-wind : EachRefuses (stationedIn 2 (two (blowing (pos 101) (pos 0)))) (refused 5 0)
   pub columns-before-mode : EachRefuses (stationedIn 2 (record { x = at0; y = at0; value = at0; observed = 0 ∷ 0 ∷ []; from = 0 ∷ 0 ∷ []; until = 1 ∷ 1 ∷ []; windU = []; windV = [] })) (refused 4 0)
+  -- and after it another rule
+  pub second-rule : EachRefuses (ruledBy 2 (two good) at64) accepted
+  pub rule-0 : EachRefuses (ruledBy 0 (two good) at64) (refused 5 0)
+  pub third-rule : EachRefuses (ruledBy 3 (two good) at64) (refused 5 0)
+  pub rule-before-radius : EachRefuses (ruledBy 3 (two good) at0) (refused 5 0)
+  pub columns-before-rule : EachRefuses (ruledBy 3 (record { x = at0; y = at0; value = at0; observed = 0 ∷ 0 ∷ []; from = 0 ∷ 0 ∷ []; until = 1 ∷ 1 ∷ []; windU = []; windV = [] }) at64) (refused 4 0)
   -- 6: R and E, at their scan
   pub no-radius : EachRefuses (planned 2 (pos 64 ∷ pos 0 ∷ []) at0) (refused 6 1)
   pub wide-radius : EachRefuses (planned 2 (pos 1025 ∷ pos 64 ∷ []) at0) (refused 6 0)
@@ -246,6 +255,11 @@ refusals =
       mode-before-radius = (refl, refl, refl, refl);
       mode-before-wind = (refl, refl, refl, refl);
       columns-before-mode = (refl, refl, refl, refl);
+      second-rule = (refl, refl, refl, refl);
+      rule-0 = (refl, refl, refl, refl);
+      third-rule = (refl, refl, refl, refl);
+      rule-before-radius = (refl, refl, refl, refl);
+      columns-before-rule = (refl, refl, refl, refl);
       no-radius = (refl, refl, refl, refl);
       wide-radius = (refl, refl, refl, refl);
       widest-radius = (refl, refl, refl, refl);
@@ -413,6 +427,11 @@ guessed = ascii "row=0,0\nrow=0,0\n"
 abbrev stationless : List ℕ
 stationless = opening ++ ascii "smooth=0\nscans=1\nscan=1,0\n" ++ guessed ++ ascii "stations=0\n"
 
+-- one mast, and those bytes where the line of the rule stands
+abbrev loneText : List ℕ → List ℕ
+loneText rule =
+    opening ++ ascii "smooth=0\n" ++ rule ++ ascii "scans=1\nscan=73,64\nrow=640,640\nrow=640,640\nstations=1\nst=20,0,704,1000,0,open\n"
+
 pub record Texts : Type 0 where
   -- 10: one byte more than 65,536, and no fewer
   pub longest : (text : List ℕ) → length text ≡ 65536 → answerText text ≡ inForm (requestLines (1, text))
@@ -432,6 +451,12 @@ pub record Texts : Type 0 where
   pub past-u32 : answerText (ascii "grid=2,2\ntime=4294967296\n") ≡ ascii "refusal=9\nplace=2\n"
   pub missing-in-a-row : answerText (opening ++ ascii "smooth=0\nscans=1\nscan=1,0\nrow=M,0\n") ≡ ascii "refusal=9\nplace=6\n"
   pub many-stations : answerText (opening ++ ascii "smooth=0\nscans=1\nscan=1,0\n" ++ guessed ++ ascii "stations=513\n") ≡ ascii "refusal=9\nplace=8\n"
+  -- and a rule of another number, before `smooth`, twice, or after `scans`
+  pub rule-0 : answerText (opening ++ ascii "smooth=0\nrule=0\n") ≡ ascii "refusal=9\nplace=4\n"
+  pub third-rule : answerText (opening ++ ascii "smooth=0\nrule=3\n") ≡ ascii "refusal=9\nplace=4\n"
+  pub rule-before-smooth : answerText (opening ++ ascii "rule=1\nsmooth=0\n") ≡ ascii "refusal=9\nplace=3\n"
+  pub rule-twice : answerText (opening ++ ascii "smooth=0\nrule=1\nrule=1\n") ≡ ascii "refusal=9\nplace=5\n"
+  pub rule-after-scans : answerText (opening ++ ascii "smooth=0\nscans=1\nrule=1\n") ≡ ascii "refusal=9\nplace=5\n"
   -- 6, 7 and 8, once the whole text is in form
   pub no-radius : answerText (opening ++ ascii "smooth=0\nscans=1\nscan=0,0\n" ++ guessed ++ ascii "stations=0\n") ≡ ascii "refusal=6\nplace=0\n"
   pub high-guess : answerText (opening ++ ascii "smooth=0\nscans=1\nscan=1,0\nrow=0,0\nrow=0,1000001\nstations=0\n") ≡ ascii "refusal=7\nplace=3\n"
@@ -442,8 +467,13 @@ pub record Texts : Type 0 where
   pub age-left-out : answerText (opening ++ ascii "smooth=0\nscans=1\nscan=1,0\n" ++ guessed ++ ascii "stations=4\nst=0,0,0,880,0,open\nst=0,0,0,879,0,open\nst=0,0,M,1000,0,4294967295\nst=0,0,-2147483648,1000,0,open\n")
       ≡ ascii "refusal=0\nplace=0\nrow=0,0\nrow=0,0\nsup=1,0\nsup=0,0\nver=0,4,1,1\n"
 
+  -- a mast 20 off the first point, by rule 1, by rule 2, and with the line left out
+  pub rule-1 : answerText (loneText (ascii "rule=1\n")) ≡ ascii "refusal=0\nplace=0\nrow=704,704\nrow=704,640\nsup=1,1\nsup=1,0\nver=0\n"
+  pub rule-2 : answerText (loneText (ascii "rule=2\n")) ≡ ascii "refusal=0\nplace=0\nrow=695,670\nrow=645,640\nsup=1,1\nsup=1,0\nver=0\n"
+  pub rule-left-out : answerText (loneText []) ≡ answerText (loneText (ascii "rule=1\n"))
+
 texts : Texts
-unfolding answerText replyText requestLines lines rows flatten nothingAfter gridLine scanLine rowLine stationLine number observation end word digits positive natural between count unsigned negative signed values fromFive inOrder refusedWith refusedAt first firstFrom orNext badScans badScan rising badGuess badStation badWind isNoWind isMissing analysisText firstTwo gridLines keyed cells integer decimal spelled analysis stored tab afterWithin scan start rowsJudged sumsAt corrected guess fieldOf R E beforeScans firstThatFits outOfService serves offGrid nearAxis judged afterTest difference valueAt place sumAt cell corners rounded total share gift weightAt blows weight correction backedBy
+unfolding answerText replyText requestLines lines rows flatten nothingAfter gridLine scanLine rowLine stationLine number observation end word digits positive natural between count unsigned negative signed values fromFive inOrder refusedWith refusedAt first firstFrom orNext badScans badScan rising badGuess badStation badWind isNoWind isMissing analysisText firstTwo gridLines keyed cells integer decimal spelled analysis stored tab afterWithin scan start rowsJudged sumsAt corrected guess fieldOf R E beforeScans firstThatFits outOfService serves offGrid nearAxis judged afterTest difference valueAt place sumAt cell corners rounded total share gift weightAt blows weight divisor correction backedBy
 texts =
     record {
       longest = λ text e. rw (le-ltb 65536 (length text) (omega arith));
@@ -462,11 +492,19 @@ texts =
       past-u32 = refl;
       missing-in-a-row = refl;
       many-stations = refl;
+      rule-0 = refl;
+      third-rule = refl;
+      rule-before-smooth = refl;
+      rule-twice = refl;
+      rule-after-scans = refl;
       no-radius = refl;
       high-guess = refl;
       no-service = refl;
       no-stations = refl;
       age-left-out = refl;
+      rule-1 = refl;
+      rule-2 = refl;
+      rule-left-out = refl;
     }
 
 -- ---- the border of a smoothed grid of three by three keeps its values
@@ -483,7 +521,7 @@ borders = record { border-keeps = λ z. (refl, refl, refl, refl) }
 -- a grid of two by two, level at 640, so many scans of one radius and limit 64, and one mast, at (x, y), that reads 704
 abbrev asksOf : (scans radius : ℕ) (x y : ℤ) → Request
 asksOf scans radius x y =
-    asking 2 2 (tab 4 (λ p. pos 640)) (mast x y (pos 704) 1000 0 noEnd ∷ []) scans (tab scans (λ m. pos radius)) (tab scans (λ m. pos 64)) false roundMode 1000 60
+    asking 2 2 (tab 4 (λ p. pos 640)) (mast x y (pos 704) 1000 0 noEnd ∷ []) scans (tab scans (λ m. pos radius)) (tab scans (λ m. pos 64)) false roundMode equationRule 1000 60
 
 abbrev fromTo : ℕ → ℕ → Span
 fromTo first last = record { first = first; last = last }
@@ -505,7 +543,7 @@ pub record Posts : Type 0 where
   pub not-past-the-other-border : (onSpan 3 (fromTo 0 1) (pos 384) ≡ false) × (onSpan 3 (fromTo 1 2) (negsuc 255) ≡ false)
 
 posts : Posts
-unfolding analysis stored tab afterWithin scan start rowsJudged sumsAt corrected guess fieldOf R E beforeScans firstThatFits isMissing outOfService serves offGrid nearAxis judged afterTest difference valueAt place sumAt cell corners rounded total share gift weightAt blows weight correction backedBy onSpan
+unfolding analysis stored tab afterWithin scan start rowsJudged sumsAt corrected guess fieldOf R E beforeScans firstThatFits isMissing outOfService serves offGrid nearAxis judged afterTest difference valueAt place sumAt cell corners rounded total share gift weightAt blows weight divisor correction backedBy onSpan
 posts =
     record {
       west-of-the-grid = refl;
@@ -529,7 +567,7 @@ pub record Rims : Type 0 where
       ≡ record { grid = pos 640 ∷ pos 640 ∷ pos 704 ∷ pos 704 ∷ []; support = 0 ∷ 0 ∷ 1 ∷ 1 ∷ []; verdict = 0 ∷ [] }
 
 rims : Rims
-unfolding analysis stored tab afterWithin scan start rowsJudged sumsAt corrected guess fieldOf R E beforeScans firstThatFits isMissing outOfService serves offGrid nearAxis judged afterTest difference valueAt place sumAt cell corners rounded total share gift weightAt blows weight correction backedBy
+unfolding analysis stored tab afterWithin scan start rowsJudged sumsAt corrected guess fieldOf R E beforeScans firstThatFits isMissing outOfService serves offGrid nearAxis judged afterTest difference valueAt place sumAt cell corners rounded total share gift weightAt blows weight divisor correction backedBy
 rims = record { weighed-by-ten-thousandths = refl; inside-without-weight = refl }
 
 -- ---- streaks along the wind
@@ -543,7 +581,7 @@ windMast w x y value = record { x = x; y = y; value = value; observed = 1000; fr
 
 -- a grid of two by two, level at 640, one scan, limit 64
 abbrev breezy : (mode radius : ℕ) → List Station → Request
-breezy mode radius masts = asking 2 2 (tab 4 (λ p. pos 640)) masts 1 (pos radius ∷ []) (pos 64 ∷ []) false mode 1000 60
+breezy mode radius masts = asking 2 2 (tab 4 (λ p. pos 640)) masts 1 (pos radius ∷ []) (pos 64 ∷ []) false mode equationRule 1000 60
 
 -- two masts, on the first point and on the last, in a wind along the rows
 abbrev twoMasts : List Station
@@ -571,7 +609,7 @@ pub record Streaks : Type 0 where
       ≡ levelled (pos 704 ∷ pos 640 ∷ pos 704 ∷ pos 704 ∷ []) (1 ∷ 0 ∷ 1 ∷ 1 ∷ []) (0 ∷ [])
 
 streaks : Streaks
-unfolding analysis stored tab afterWithin scan start rowsJudged sumsAt corrected guess fieldOf R E beforeScans firstThatFits isMissing isNoWind outOfService serves offGrid nearAxis judged afterTest difference valueAt place sumAt cell corners rounded total share gift weightAt blows stretched weight correction backedBy
+unfolding analysis stored tab afterWithin scan start rowsJudged sumsAt corrected guess fieldOf R E beforeScans firstThatFits isMissing isNoWind outOfService serves offGrid nearAxis judged afterTest difference valueAt place sumAt cell corners rounded total share gift weightAt blows stretched weight divisor correction backedBy
 streaks =
     record {
       along-the-rows = (refl, refl, refl, refl, refl, refl);
@@ -579,6 +617,55 @@ streaks =
       past-64-bits = (refl, refl, refl);
       two-masts = (refl, refl);
       rim-along-the-wind = refl;
+    }
+
+-- ---- a lone station, by both rules
+
+-- a grid of two by two, level at 640, one scan, limit 64
+abbrev ruled : (mode rule radius : ℕ) → List Station → Request
+ruled mode rule radius masts = asking 2 2 (tab 4 (λ p. pos 640)) masts 1 (pos radius ∷ []) (pos 64 ∷ []) false mode rule 1000 60
+
+-- on the first point, and 20 off it
+abbrev onPoint : Station
+onPoint = mast (pos 0) (pos 0) (pos 704) 1000 0 noEnd
+
+abbrev beside : (value : ℤ) → Station
+beside value = mast (pos 20) (pos 0) value 1000 0 noEnd
+
+-- 12 and 72 off the first point: inside R = 73 there, and without weight
+abbrev atTheRim : Station
+atTheRim = mast (pos 12) (pos 72) (pos 704) 1000 0 noEnd
+
+pub record LoneStations : Type 0 where
+  -- weights 10,000, 3,846, 3,846 and 588 of D = 64, and where it stands all of D under both
+  pub by-both-rules : (analysis (ruled roundMode equationRule 96 (onPoint ∷ [])) ≡ levelled (pos 704 ∷ pos 704 ∷ pos 704 ∷ pos 704 ∷ []) (1 ∷ 1 ∷ 1 ∷ 1 ∷ []) (0 ∷ []))
+      × (analysis (ruled roundMode listingRule 96 (onPoint ∷ [])) ≡ levelled (pos 704 ∷ pos 665 ∷ pos 665 ∷ pos 644 ∷ []) (1 ∷ 1 ∷ 1 ∷ 1 ∷ []) (0 ∷ []))
+  -- the sign of D
+  pub below-the-guess : analysis (ruled roundMode listingRule 73 (beside (pos 576) ∷ [])) ≡ levelled (pos 585 ∷ pos 610 ∷ pos 635 ∷ pos 640 ∷ []) (1 ∷ 1 ∷ 1 ∷ 0 ∷ []) (0 ∷ [])
+  -- without weight it is inside: it moves nothing and supports nothing, and beside it no other is a lone one
+  pub lone-without-weight : analysis (ruled roundMode listingRule 73 (atTheRim ∷ [])) ≡ levelled (pos 640 ∷ pos 640 ∷ pos 699 ∷ pos 660 ∷ []) (0 ∷ 0 ∷ 1 ∷ 1 ∷ []) (0 ∷ [])
+  pub beside-one-without-weight : analysis (ruled roundMode listingRule 73 (atTheRim ∷ beside (pos 704) ∷ []))
+      ≡ levelled (pos 704 ∷ pos 670 ∷ pos 704 ∷ pos 660 ∷ []) (1 ∷ 1 ∷ 1 ∷ 1 ∷ []) (0 ∷ 0 ∷ [])
+  -- one that is rejected, or dead, is not inside: the other is a lone one
+  pub beside-one-rejected : analysis (ruled roundMode listingRule 96 (beside (pos 704) ∷ mast (pos 64) (pos 0) (pos 800) 1000 0 noEnd ∷ []))
+      ≡ levelled (pos 699 ∷ pos 682 ∷ pos 662 ∷ pos 653 ∷ []) (1 ∷ 1 ∷ 1 ∷ 1 ∷ []) (0 ∷ 11 ∷ [])
+  pub beside-one-dead : analysis (ruled roundMode listingRule 96 (beside (pos 704) ∷ mast (pos 64) (pos 0) missingMark 1000 0 noEnd ∷ []))
+      ≡ levelled (pos 699 ∷ pos 682 ∷ pos 662 ∷ pos 653 ∷ []) (1 ∷ 1 ∷ 1 ∷ 1 ∷ []) (0 ∷ 1 ∷ [])
+  -- along the wind it has weight there, 3,334
+  pub along-the-wind : analysis (ruled windMode listingRule 73 (windMast (wind (pos 1) (pos 6)) (pos 12) (pos 72) (pos 704) ∷ []))
+      ≡ levelled (pos 661 ∷ pos 640 ∷ pos 701 ∷ pos 660 ∷ []) (1 ∷ 0 ∷ 1 ∷ 1 ∷ []) (0 ∷ [])
+
+loneStations : LoneStations
+unfolding analysis stored tab afterWithin scan start rowsJudged sumsAt corrected guess fieldOf R E beforeScans firstThatFits isMissing isNoWind outOfService serves offGrid nearAxis judged afterTest difference valueAt place sumAt cell corners rounded total share gift weightAt blows stretched weight divisor correction backedBy
+loneStations =
+    record {
+      by-both-rules = (refl, refl);
+      below-the-guess = refl;
+      lone-without-weight = refl;
+      beside-one-without-weight = refl;
+      beside-one-rejected = refl;
+      beside-one-dead = refl;
+      along-the-wind = refl;
     }
 
 -- ---- the numbers that the names of Most stand for
@@ -601,6 +688,7 @@ pub record Cases : Type 0 where
   pub heard-so : Posts
   pub weighed-so : Rims
   pub streaked-so : Streaks
+  pub alone-so : LoneStations
   pub numbers : Numbers
 
 pub cases : Cases
@@ -614,5 +702,6 @@ cases =
       heard-so = posts;
       weighed-so = rims;
       streaked-so = streaks;
+      alone-so = loneStations;
       numbers = record { most-field = refl; most-difference = refl; most-weights = refl; most-pulls = refl; most-reach = refl };
     }

@@ -1,14 +1,16 @@
 -- The four cheats that document 01 names, refuted on its own example: the promises of analysis, window query and program admit none of them.
--- Each is asked for the example, whose plan has one scan, for the example with that scan twice, and for that with smoothing on.
-use Prim.Native.Nat.{ℕ}
+-- Each is asked for the example, whose plan has one scan, for the example with that scan twice, and for that with smoothing on, under either rule.
+use Prim.Native.Nat.{ℕ, _+_, _-_, _*_}
 use native.Mathlib.Omega.{arith}
-use mathlib.Core.Path.{_≡_, refl, sym, ap, _∙_}
+use mathlib.Core.Path.{_≡_, refl, sym, ap, subst, _∙_}
 use mathlib.Core.Bool.{true, false}
 use mathlib.Core.List.{List, _++_}
+use lib.Dec.{eqb}
 use lib.ListN.{length, take, drop, getD}
 use lib.IntN.{ℤ, pos, natAbs}
+use Rattle.lists.specs.Tests.{cond-both}
 use Rattle.lists.specs.Tab.{tab}
-use Rattle.scheme.specs.Units.{stored, Request}
+use Rattle.scheme.specs.Units.{stored, equationRule, Request}
 use Rattle.scheme.specs.Refusals.{Refusal, accepted, analysisRefusal, windowRefusal}
 use Rattle.scheme.specs.Scan.{after, Analysis, analysis}
 use Rattle.scheme.specs.Reach.{Tile, windowOf, wholeAt}
@@ -16,8 +18,9 @@ use Rattle.scheme.specs.Text.{answerText}
 use Rattle.scheme.specs.Text.Pieces.{ascii}
 use Rattle.scheme.specs.Text.Printed.{spelled, decimal, integer, cells, keyed, gridLines}
 use Rattle.scheme.specs.Promises.{Settles, putFirst, Analyses, Queries, Replies}
+use Rattle.scheme.specs.Accepted.{Ruled}
 use Rattle.scheme.specs.Calls.{callFor, asks}
-use Rattle.scheme.specs.Example.{level, example, corner, onceText, twiceText, smoothText, once, twice, smooth, onlySmoothed, cornerOnce, cornerTwice, cornerSmooth, onceAnswer, twiceAnswer, smoothAnswer, example-accepted, example-analysis, example-window, example-first-scan, example-first-scan-corner, example-only-smoothed, example-only-smoothed-corner, example-text}
+use Rattle.scheme.specs.Example.{byRule, under-both, level, example, corner, onceText, twiceText, smoothText, once, twice, smooth, onlySmoothed, cornerOnce, cornerTwice, cornerSmooth, onceAnswer, twiceAnswer, smoothAnswer, example-accepted, example-analysis, example-window, example-cheated, example-text}
 
 -- an accepted call answers 0 and leaves its result
 done : {A : Type 0} (found : A) {refusal : Refusal} {result left right : A} {answer : ℕ} → refusal ≡ accepted → result ≡ right
@@ -31,6 +34,10 @@ firstOf l = natAbs (getD l 0 (pos 0))
 begin-otherwise : {l m : List ℤ} (a b : ℕ) → firstOf l ≡ a → firstOf m ≡ b → (a ≡ b → ⊥) → l ≡ m → ⊥
 begin-otherwise a b p q n e = n (sym p ∙ ap firstOf e ∙ q)
 
+-- neither of two numbers is the third
+neither : (rule a b c : ℕ) → (a ≡ c → ⊥) → (b ≡ c → ⊥) → byRule rule a b ≡ c → ⊥
+neither rule a b c f g = cond-both (λ (n : ℕ). n ≡ c → ⊥) (eqb rule equationRule) a b (λ t. f) (λ t. g)
+
 -- ---- the whole analysis
 
 -- slices of the right length
@@ -43,17 +50,17 @@ ended q right found left answer (g, s, v) e r =
     let a : analysisRefusal (callFor q) (length (found .grid)) (length (found .support)) (length (found .verdict)) ≡ accepted = rw (g, s, v) e in
     done found a (ap analysis (asks q) ∙ r)
 
-module _ (found : Analysis) (long : Long found) (answer answer' answer'' : ℕ) (left left' left'' : Analysis)
-    (asked-once : Analyses (callFor (example 1 false)) found answer left) (asked-twice : Analyses (callFor (example 2 false)) found answer' left')
-    (asked-smooth : Analyses (callFor (example 2 true)) found answer'' left'') where
-  abbrev ended-once : (answer ≡ 0) × (left ≡ once)
-  ended-once = ended (example 1 false) once found left answer long (example-accepted .0 .0) (example-analysis .0) asked-once
+module _ (rule : ℕ) (ruled : Ruled rule) (found : Analysis) (long : Long found) (answer answer' answer'' : ℕ) (left left' left'' : Analysis)
+    (asked-once : Analyses (callFor (example rule 1 false)) found answer left) (asked-twice : Analyses (callFor (example rule 2 false)) found answer' left')
+    (asked-smooth : Analyses (callFor (example rule 2 true)) found answer'' left'') where
+  abbrev ended-once : (answer ≡ 0) × (left ≡ once rule)
+  ended-once = ended (example rule 1 false) (once rule) found left answer long (example-accepted rule ruled .0 .0) (example-analysis rule ruled .0) asked-once
 
-  abbrev ended-twice : (answer' ≡ 0) × (left' ≡ twice)
-  ended-twice = ended (example 2 false) twice found left' answer' long (example-accepted .1 .0) (example-analysis .1) asked-twice
+  abbrev ended-twice : (answer' ≡ 0) × (left' ≡ twice rule)
+  ended-twice = ended (example rule 2 false) (twice rule) found left' answer' long (example-accepted rule ruled .1 .0) (example-analysis rule ruled .1) asked-twice
 
-  abbrev ended-smooth : (answer'' ≡ 0) × (left'' ≡ smooth)
-  ended-smooth = ended (example 2 true) smooth found left'' answer'' long (example-accepted .2 .0) (example-analysis .2) asked-smooth
+  abbrev ended-smooth : (answer'' ≡ 0) × (left'' ≡ smooth rule)
+  ended-smooth = ended (example rule 2 true) (smooth rule) found left'' answer'' long (example-accepted rule ruled .2 .0) (example-analysis rule ruled .2) asked-smooth
 
   first-once : firstOf (left .grid) ≡ 587
   first-once = ap (λ (a : Analysis). firstOf (a .grid)) (ended-once .1)
@@ -61,7 +68,7 @@ module _ (found : Analysis) (long : Long found) (answer answer' answer'' : ℕ) 
   first-twice : firstOf (left' .grid) ≡ 577
   first-twice = ap (λ (a : Analysis). firstOf (a .grid)) (ended-twice .1)
 
-  first-smooth : firstOf (left'' .grid) ≡ 579
+  first-smooth : firstOf (left'' .grid) ≡ byRule rule 579 581
   first-smooth = ap (λ (a : Analysis). firstOf (a .grid)) (ended-smooth .1)
 
   -- refusing everything
@@ -78,17 +85,17 @@ module _ (found : Analysis) (long : Long found) (answer answer' answer'' : ℕ) 
 
   -- correcting in the first scan, and just smoothing afterwards: with smoothing off that leaves the first scan's grid, and with smoothing on
   -- that grid, smoothed
-  pub not-one-scan-only : left' .grid ≡ stored 3 3 (after (example 2 false) 1 .field) → ⊥
-  not-one-scan-only = begin-otherwise 577 587 first-twice (ap firstOf example-first-scan) (λ e. omega arith)
+  pub not-one-scan-only : left' .grid ≡ stored 3 3 (after (example rule 2 false) 1 .field) → ⊥
+  not-one-scan-only = begin-otherwise 577 587 first-twice (ap firstOf (example-cheated rule ruled .0)) (λ e. omega arith)
 
-  pub not-only-smoothed : left'' .grid ≡ stored 3 3 onlySmoothed → ⊥
-  not-only-smoothed = begin-otherwise 579 587 first-smooth (ap firstOf example-only-smoothed) (λ e. omega arith)
+  pub not-only-smoothed : left'' .grid ≡ stored 3 3 (onlySmoothed rule) → ⊥
+  not-only-smoothed = begin-otherwise (byRule rule 579 581) 587 first-smooth (ap firstOf (example-cheated rule ruled .2)) (neither rule 579 581 587 (λ e. omega arith) (λ e. omega arith))
 
   -- made-up support or verdicts
-  pub no-other-support : (left .support ≡ once .support) × (left' .support ≡ twice .support) × (left'' .support ≡ smooth .support)
+  pub no-other-support : (left .support ≡ once rule .support) × (left' .support ≡ twice rule .support) × (left'' .support ≡ smooth rule .support)
   no-other-support = (ap (λ (a : Analysis). a .support) (ended-once .1), ap (λ (a : Analysis). a .support) (ended-twice .1), ap (λ (a : Analysis). a .support) (ended-smooth .1))
 
-  pub no-other-verdicts : (left .verdict ≡ once .verdict) × (left' .verdict ≡ twice .verdict) × (left'' .verdict ≡ smooth .verdict)
+  pub no-other-verdicts : (left .verdict ≡ once rule .verdict) × (left' .verdict ≡ twice rule .verdict) × (left'' .verdict ≡ smooth rule .verdict)
   no-other-verdicts = (ap (λ (a : Analysis). a .verdict) (ended-once .1), ap (λ (a : Analysis). a .verdict) (ended-twice .1), ap (λ (a : Analysis). a .verdict) (ended-smooth .1))
 
 -- ---- the window query
@@ -99,17 +106,17 @@ window-ended q right found left answer (g, s) e r =
     let a : windowRefusal (callFor q) corner (length (found .grid)) (length (found .support)) ≡ accepted = rw (g, s) e in
     done found a (ap (λ (p : Request). wholeAt p corner) (asks q) ∙ r)
 
-module _ (found : Tile) (long : (length (found .grid) ≡ 4) × (length (found .support) ≡ 4)) (answer answer' answer'' : ℕ) (left left' left'' : Tile)
-    (asked-once : Queries (callFor (example 1 false)) corner found answer left) (asked-twice : Queries (callFor (example 2 false)) corner found answer' left')
-    (asked-smooth : Queries (callFor (example 2 true)) corner found answer'' left'') where
+module _ (rule : ℕ) (ruled : Ruled rule) (found : Tile) (long : (length (found .grid) ≡ 4) × (length (found .support) ≡ 4)) (answer answer' answer'' : ℕ) (left left' left'' : Tile)
+    (asked-once : Queries (callFor (example rule 1 false)) corner found answer left) (asked-twice : Queries (callFor (example rule 2 false)) corner found answer' left')
+    (asked-smooth : Queries (callFor (example rule 2 true)) corner found answer'' left'') where
   abbrev window-once : (answer ≡ 0) × (left ≡ cornerOnce)
-  window-once = window-ended (example 1 false) cornerOnce found left answer long (example-accepted .0 .1) (example-window .0) asked-once
+  window-once = window-ended (example rule 1 false) cornerOnce found left answer long (example-accepted rule ruled .0 .1) (example-window rule ruled .0) asked-once
 
   abbrev window-twice : (answer' ≡ 0) × (left' ≡ cornerTwice)
-  window-twice = window-ended (example 2 false) cornerTwice found left' answer' long (example-accepted .1 .1) (example-window .1) asked-twice
+  window-twice = window-ended (example rule 2 false) cornerTwice found left' answer' long (example-accepted rule ruled .1 .1) (example-window rule ruled .1) asked-twice
 
-  abbrev window-smooth : (answer'' ≡ 0) × (left'' ≡ cornerSmooth)
-  window-smooth = window-ended (example 2 true) cornerSmooth found left'' answer'' long (example-accepted .2 .1) (example-window .2) asked-smooth
+  abbrev window-smooth : (answer'' ≡ 0) × (left'' ≡ cornerSmooth rule)
+  window-smooth = window-ended (example rule 2 true) (cornerSmooth rule) found left'' answer'' long (example-accepted rule ruled .2 .1) (example-window rule ruled .2) asked-smooth
 
   tile-once : firstOf (left .grid) ≡ 587
   tile-once = ap (λ (t : Tile). firstOf (t .grid)) (window-once .1)
@@ -117,7 +124,7 @@ module _ (found : Tile) (long : (length (found .grid) ≡ 4) × (length (found .
   tile-twice : firstOf (left' .grid) ≡ 577
   tile-twice = ap (λ (t : Tile). firstOf (t .grid)) (window-twice .1)
 
-  tile-smooth : firstOf (left'' .grid) ≡ 579
+  tile-smooth : firstOf (left'' .grid) ≡ byRule rule 579 581
   tile-smooth = ap (λ (t : Tile). firstOf (t .grid)) (window-smooth .1)
 
   pub window-no-refusal : (answer ≡ 0) × (answer' ≡ 0) × (answer'' ≡ 0)
@@ -130,13 +137,13 @@ module _ (found : Tile) (long : (length (found .grid) ≡ 4) × (length (found .
   pub window-not-one-fixed-grid : left' .grid ≡ left .grid → ⊥
   window-not-one-fixed-grid = begin-otherwise 577 587 tile-twice tile-once (λ e. omega arith)
 
-  pub window-not-one-scan-only : left' .grid ≡ windowOf corner (after (example 2 false) 1 .field) → ⊥
-  window-not-one-scan-only = begin-otherwise 577 587 tile-twice (ap firstOf example-first-scan-corner) (λ e. omega arith)
+  pub window-not-one-scan-only : left' .grid ≡ windowOf corner (after (example rule 2 false) 1 .field) → ⊥
+  window-not-one-scan-only = begin-otherwise 577 587 tile-twice (ap firstOf (example-cheated rule ruled .1)) (λ e. omega arith)
 
-  pub window-not-only-smoothed : left'' .grid ≡ windowOf corner onlySmoothed → ⊥
-  window-not-only-smoothed = begin-otherwise 579 587 tile-smooth (ap firstOf example-only-smoothed-corner) (λ e. omega arith)
+  pub window-not-only-smoothed : left'' .grid ≡ windowOf corner (onlySmoothed rule) → ⊥
+  window-not-only-smoothed = begin-otherwise (byRule rule 579 581) 587 tile-smooth (ap firstOf (example-cheated rule ruled .3)) (neither rule 579 581 587 (λ e. omega arith) (λ e. omega arith))
 
-  pub window-no-other-support : (left .support ≡ cornerOnce .support) × (left' .support ≡ cornerTwice .support) × (left'' .support ≡ cornerSmooth .support)
+  pub window-no-other-support : (left .support ≡ cornerOnce .support) × (left' .support ≡ cornerTwice .support) × (left'' .support ≡ cornerSmooth rule .support)
   window-no-other-support = (ap (λ (t : Tile). t .support) (window-once .1), ap (λ (t : Tile). t .support) (window-twice .1), ap (λ (t : Tile). t .support) (window-smooth .1))
 
 -- ---- the program
@@ -163,51 +170,68 @@ text-ended : (input found : List ℕ) {answer left : List ℕ} {bytes : ℕ} →
 unfolding putFirst
 text-ended input found e p = (ap (λ (o : ℕ × List ℕ). o .0) p ∙ rw e, ap (λ (o : ℕ × List ℕ). o .1) p ∙ rw e)
 
--- two texts that have another byte at the second digit of their first value
-read-otherwise : {l m : List ℕ} (a b : ℕ) → getD l 5 0 ≡ a → getD m 5 0 ≡ b → (a ≡ b → ⊥) → l ≡ m → ⊥
-read-otherwise a b p q n e = n (sym p ∙ ap (λ (l : List ℕ). getD l 5 0) e ∙ q)
+-- the last two digits of the first of three-digit values, as one number
+abbrev lastDigits : List ℕ → ℕ
+lastDigits l = 10 * getD l 5 0 + getD l 6 0 - 528
 
-module _ (found left left' left'' : List ℕ) (bytes bytes' bytes'' : ℕ) (asked-once : Replies onceText found bytes left)
-    (asked-twice : Replies twiceText found bytes' left') (asked-smooth : Replies smoothText found bytes'' left'') where
-  abbrev text-once : (bytes ≡ 106) × (left ≡ onceAnswer ++ drop 106 found)
-  text-once = text-ended onceText found (example-text .0) asked-once
+-- two texts that have others there
+read-otherwise : {l m : List ℕ} (a b : ℕ) → lastDigits l ≡ a → lastDigits m ≡ b → (a ≡ b → ⊥) → l ≡ m → ⊥
+read-otherwise a b p q n e = n (sym p ∙ ap lastDigits e ∙ q)
 
-  abbrev text-twice : (bytes' ≡ 106) × (left' ≡ twiceAnswer ++ drop 106 found)
-  text-twice = text-ended twiceText found (example-text .1) asked-twice
+-- what an answer says, whatever stands after it
+record Says (digits : ℕ) (sup left : List ℕ) : Type 0 where
+  opening : firstTwoLines left ≡ ascii "refusal=0\nplace=0\n"
+  values : lastDigits (rowLines left) ≡ digits
+  supports : supLines left ≡ sup
+  verdicts : verLine left ≡ ascii "ver=0,0,2\n"
 
-  abbrev text-smooth : (bytes'' ≡ 106) × (left'' ≡ smoothAnswer ++ drop 106 found)
-  text-smooth = text-ended smoothText found (example-text .2) asked-smooth
+abbrev SaysFirst : (digits : ℕ) (sup answer : List ℕ) → Type 0
+SaysFirst digits sup answer = (after : List ℕ) → Says digits sup (answer ++ after)
 
-  digit-once : getD (rowLines left) 5 0 ≡ 56
-  digit-once = ap (λ (l : List ℕ). getD (rowLines l) 5 0) (text-once .1)
+said : {digits : ℕ} {sup left after : List ℕ} (answer : List ℕ) → left ≡ answer ++ after → SaysFirst digits sup answer → Says digits sup left
+said {digits = digits} {sup = sup} {after = after} answer e h = subst (Says digits sup) (sym e) (h after)
 
-  digit-twice : getD (rowLines left') 5 0 ≡ 55
-  digit-twice = ap (λ (l : List ℕ). getD (rowLines l) 5 0) (text-twice .1)
+module _ (rule : ℕ) (ruled : Ruled rule) (found left left' left'' : List ℕ) (bytes bytes' bytes'' : ℕ) (asked-once : Replies (onceText rule) found bytes left)
+    (asked-twice : Replies (twiceText rule) found bytes' left') (asked-smooth : Replies (smoothText rule) found bytes'' left'') where
+  abbrev text-once : (bytes ≡ length (onceAnswer rule)) × (left ≡ onceAnswer rule ++ drop (length (onceAnswer rule)) found)
+  text-once = text-ended (onceText rule) found (example-text rule ruled .0) asked-once
 
-  digit-smooth : getD (rowLines left'') 5 0 ≡ 55
-  digit-smooth = ap (λ (l : List ℕ). getD (rowLines l) 5 0) (text-smooth .1)
+  abbrev text-twice : (bytes' ≡ length (twiceAnswer rule)) × (left' ≡ twiceAnswer rule ++ drop (length (twiceAnswer rule)) found)
+  text-twice = text-ended (twiceText rule) found (example-text rule ruled .1) asked-twice
+
+  abbrev text-smooth : (bytes'' ≡ length (smoothAnswer rule)) × (left'' ≡ smoothAnswer rule ++ drop (length (smoothAnswer rule)) found)
+  text-smooth = text-ended (smoothText rule) found (example-text rule ruled .2) asked-smooth
+
+  abbrev says-once : Says 87 (ascii "sup=1,1,1\nsup=1,1,1\nsup=1,1,1\n") left
+  says-once = said (onceAnswer rule) (text-once .1) (under-both (λ r. SaysFirst 87 (ascii "sup=1,1,1\nsup=1,1,1\nsup=1,1,1\n") (onceAnswer r)) (λ t. record { opening = refl; values = refl; supports = refl; verdicts = refl }) (λ t. record { opening = refl; values = refl; supports = refl; verdicts = refl }) rule ruled)
+
+  abbrev says-twice : Says 77 (ascii "sup=3,3,3\nsup=3,3,3\nsup=3,3,3\n") left'
+  says-twice = said (twiceAnswer rule) (text-twice .1) (under-both (λ r. SaysFirst 77 (ascii "sup=3,3,3\nsup=3,3,3\nsup=3,3,3\n") (twiceAnswer r)) (λ t. record { opening = refl; values = refl; supports = refl; verdicts = refl }) (λ t. record { opening = refl; values = refl; supports = refl; verdicts = refl }) rule ruled)
+
+  abbrev says-smooth : Says (byRule rule 79 81) (ascii "sup=3,3,3\nsup=3,3,3\nsup=3,3,3\n") left''
+  says-smooth = said (smoothAnswer rule) (text-smooth .1) (under-both (λ r. SaysFirst (byRule r 79 81) (ascii "sup=3,3,3\nsup=3,3,3\nsup=3,3,3\n") (smoothAnswer r)) (λ t. record { opening = refl; values = refl; supports = refl; verdicts = refl }) (λ t. record { opening = refl; values = refl; supports = refl; verdicts = refl }) rule ruled)
 
   pub text-no-refusal : (firstTwoLines left ≡ ascii "refusal=0\nplace=0\n") × (firstTwoLines left' ≡ ascii "refusal=0\nplace=0\n") × (firstTwoLines left'' ≡ ascii "refusal=0\nplace=0\n")
-  text-no-refusal = (ap firstTwoLines (text-once .1), ap firstTwoLines (text-twice .1), ap firstTwoLines (text-smooth .1))
+  text-no-refusal = (says-once .opening, says-twice .opening, says-smooth .opening)
 
   pub text-not-the-first-guess : rowLines left ≡ shown level → ⊥
   unfolding tab gridLines keyed cells integer decimal spelled
-  text-not-the-first-guess = read-otherwise 56 52 digit-once refl (λ e. omega arith)
+  text-not-the-first-guess = read-otherwise 87 40 (says-once .values) refl (λ e. omega arith)
 
   pub text-not-one-fixed-grid : rowLines left' ≡ rowLines left → ⊥
-  text-not-one-fixed-grid = read-otherwise 55 56 digit-twice digit-once (λ e. omega arith)
+  text-not-one-fixed-grid = read-otherwise 77 87 (says-twice .values) (says-once .values) (λ e. omega arith)
 
-  pub text-not-one-scan-only : rowLines left' ≡ shown (stored 3 3 (after (example 2 false) 1 .field)) → ⊥
+  pub text-not-one-scan-only : rowLines left' ≡ shown (stored 3 3 (after (example rule 2 false) 1 .field)) → ⊥
   unfolding gridLines keyed cells integer decimal spelled
-  text-not-one-scan-only = read-otherwise 55 56 digit-twice (ap (λ (g : List ℤ). getD (shown g) 5 0) example-first-scan) (λ e. omega arith)
+  text-not-one-scan-only = read-otherwise 77 87 (says-twice .values) (ap (λ (g : List ℤ). lastDigits (shown g)) (example-cheated rule ruled .0)) (λ e. omega arith)
 
-  pub text-not-only-smoothed : rowLines left'' ≡ shown (stored 3 3 onlySmoothed) → ⊥
+  pub text-not-only-smoothed : rowLines left'' ≡ shown (stored 3 3 (onlySmoothed rule)) → ⊥
   unfolding gridLines keyed cells integer decimal spelled
-  text-not-only-smoothed = read-otherwise 55 56 digit-smooth (ap (λ (g : List ℤ). getD (shown g) 5 0) example-only-smoothed) (λ e. omega arith)
+  text-not-only-smoothed = read-otherwise (byRule rule 79 81) 87 (says-smooth .values) (ap (λ (g : List ℤ). lastDigits (shown g)) (example-cheated rule ruled .2)) (neither rule 79 81 87 (λ e. omega arith) (λ e. omega arith))
 
   pub text-no-other-support : (supLines left ≡ ascii "sup=1,1,1\nsup=1,1,1\nsup=1,1,1\n") × (supLines left' ≡ ascii "sup=3,3,3\nsup=3,3,3\nsup=3,3,3\n")
       × (supLines left'' ≡ ascii "sup=3,3,3\nsup=3,3,3\nsup=3,3,3\n")
-  text-no-other-support = (ap supLines (text-once .1), ap supLines (text-twice .1), ap supLines (text-smooth .1))
+  text-no-other-support = (says-once .supports, says-twice .supports, says-smooth .supports)
 
   pub text-no-other-verdicts : (verLine left ≡ ascii "ver=0,0,2\n") × (verLine left' ≡ ascii "ver=0,0,2\n") × (verLine left'' ≡ ascii "ver=0,0,2\n")
-  text-no-other-verdicts = (ap verLine (text-once .1), ap verLine (text-twice .1), ap verLine (text-smooth .1))
+  text-no-other-verdicts = (says-once .verdicts, says-twice .verdicts, says-smooth .verdicts)

@@ -67,7 +67,7 @@ module _ (q : Request) where
         judge = λ m d h v. afterTest (m + 1) (E (q .plan) m) d v;
         judged = λ m D r others. judged (m + 1) (E (q .plan) m) D r;
         pull = pull;
-        correct = λ m s z. z +ℤ correction s;
+        correct = λ m s z. z +ℤ correction (q .plan .rule) s;
         unmarked = 0;
         mark = backedBy;
         smooth = q .plan .smooth;

@@ -180,8 +180,8 @@ module _ (q : Request) where
         same-corrected : corrected withoutDeadMasts m (after withoutDeadMasts m) ≡ corrected q m (after q m)
         same-corrected =
             unfold corrected in
-            (ap (λ (f : Field Sums). λ i j. after withoutDeadMasts m .field i j +ℤ correction (f i j)) same-sums
-            ∙ ap (λ (z : Field ℤ). λ i j. z i j +ℤ correction (sumsAt q m (after q m) i j)) (h .field))
+            (ap (λ (f : Field Sums). λ i j. after withoutDeadMasts m .field i j +ℤ correction (q .plan .rule) (f i j)) same-sums
+            ∙ ap (λ (z : Field ℤ). λ i j. z i j +ℤ correction (q .plan .rule) (sumsAt q m (after q m) i j)) (h .field))
 
   alike : (m : ℕ) → Alike m
   alike zero = alike-start

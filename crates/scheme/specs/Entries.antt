@@ -20,13 +20,14 @@ use Rattle.scheme.specs.Accepted.{fromSix}
 
 -- the same request with another plan
 abbrev pub withPlan : Request → Plan → Request
-withPlan q p = asking (q .nx) (q .ny) (q .firstGuess) (q .stations) (p .scans) (p .radius) (p .limit) (p .smooth) (p .mode) (q .T) (q .A)
+withPlan q p = asking (q .nx) (q .ny) (q .firstGuess) (q .stations) (p .scans) (p .radius) (p .limit) (p .smooth) (p .mode) (p .rule) (q .T) (q .A)
 
 -- equal up to the count
 pub record UpToCount (p p' : Plan) : Type 0 where
   pub scans : p' .scans ≡ p .scans
   pub smooth : p' .smooth ≡ p .smooth
   pub mode : p' .mode ≡ p .mode
+  pub rule : p' .rule ≡ p .rule
   pub radii : (m : ℕ) → m < p .scans → getD (p' .radius) m (pos 0) ≡ getD (p .radius) m (pos 0)
   pub limits : (m : ℕ) → m < p .scans → getD (p' .limit) m (pos 0) ≡ getD (p .limit) m (pos 0)
 
@@ -39,8 +40,8 @@ module _ (q : Request) (p' : Plan) (same : UpToCount (q .plan) p') where
   unfolding E
   same-E m h = ap natAbs (same .limits m h)
 
-  -- a scan that is made: it takes R, E, the switch and the mode of the plan
-  module _ (m : ℕ) (found : State) (radius limit : ℕ) (smooth : Bool) (mode : ℕ) where
+  -- a scan that is made: it takes R, E, the switch, the mode and the rule of the plan
+  module _ (m : ℕ) (found : State) (radius limit : ℕ) (smooth : Bool) (mode rule : ℕ) where
     abbrev rowsBy : List Row
     rowsBy = map (judged (m + 1) limit (differences q found)) (found .rows)
 
@@ -48,7 +49,7 @@ module _ (q : Request) (p' : Plan) (same : UpToCount (q .plan) p') where
     sumsBy i j = total nothing plus (share mode radius (differences q found) i j) rowsBy
 
     abbrev correctedBy : Field ℤ
-    correctedBy i j = found .field i j +ℤ correction (sumsBy i j)
+    correctedBy i j = found .field i j +ℤ correction rule (sumsBy i j)
 
     abbrev scanBy : State
     scanBy =
@@ -61,10 +62,11 @@ module _ (q : Request) (p' : Plan) (same : UpToCount (q .plan) p') where
   scan-same : (m : ℕ) → m < q .plan .scans → (found : State) → scan (withPlan q p') m found ≡ scan q m found
   unfolding scan corrected sumsAt rowsJudged guess
   scan-same m h found =
-      ap (λ (r : ℕ). scanBy m found r (E p' m) (p' .smooth) (p' .mode)) (same-R m h)
-      ∙ ap (λ (e : ℕ). scanBy m found (R (q .plan) m) e (p' .smooth) (p' .mode)) (same-E m h)
-      ∙ ap (λ (b : Bool). scanBy m found (R (q .plan) m) (E (q .plan) m) b (p' .mode)) (same .smooth)
-      ∙ ap (scanBy m found (R (q .plan) m) (E (q .plan) m) (q .plan .smooth)) (same .mode)
+      ap (λ (r : ℕ). scanBy m found r (E p' m) (p' .smooth) (p' .mode) (p' .rule)) (same-R m h)
+      ∙ ap (λ (e : ℕ). scanBy m found (R (q .plan) m) e (p' .smooth) (p' .mode) (p' .rule)) (same-E m h)
+      ∙ ap (λ (b : Bool). scanBy m found (R (q .plan) m) (E (q .plan) m) b (p' .mode) (p' .rule)) (same .smooth)
+      ∙ ap (λ (n : ℕ). scanBy m found (R (q .plan) m) (E (q .plan) m) (q .plan .smooth) n (p' .rule)) (same .mode)
+      ∙ ap (scanBy m found (R (q .plan) m) (E (q .plan) m) (q .plan .smooth) (q .plan .mode)) (same .rule)
 
   after-same : (m : ℕ) → m ≤ q .plan .scans → after (withPlan q p') m ≡ after q m
   unfolding afterWithin
@@ -119,6 +121,7 @@ module _ (q : Request) (p' : Plan) (same : UpToCount (q .plan) p') where
         rw (
           same .scans,
           same .mode,
+          same .rule,
           le-ltb (length (p' .radius)) (q .plan .scans) r',
           le-ltb (length (p' .limit)) (q .plan .scans) l',
           le-ltb (length (q .plan .radius)) (q .plan .scans) r,

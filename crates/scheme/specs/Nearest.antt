@@ -145,7 +145,7 @@ nearest-is-one (negsuc n) d r s some p q =
     ∙ negℤ-negℤ s
 
 -- what is at most `most` times d is, over d and rounded, at most `most`
-half-size : (n d most : ℕ) → n ≤ most * d → halfUp n d ≤ most
+pub half-size : (n d most : ℕ) → n ≤ most * d → halfUp n d ≤ most
 half-size n zero most h = omega (arith, div-zero (2 * n + 0))
 half-size n (suc d) most h =
     let p : 0 < 2 * suc d = omega arith in

@@ -49,7 +49,7 @@ small-from-five : (q : Request) → Shaped (q .nx) (q .ny) (length (q .firstGues
 unfolding fromFive badScans
 small-from-five q shape few =
     small-if 5 (badScans (q .plan)) _ (λ five.
-    small-at 6 (q .plan .scans) _ _ (omega (arith, scans-fit (q .plan .scans) (length (q .plan .radius)) (length (q .plan .limit)) (q .plan .mode) five))
+    small-at 6 (q .plan .scans) _ _ (omega (arith, scans-fit (q .plan .scans) (length (q .plan .radius)) (length (q .plan .limit)) (q .plan .mode) (q .plan .rule) five))
     (small-in 7 badGuess (pos 0) (q .firstGuess) _ (omega (arith, shape .whole, mul-le-mul (shape .few-columns) (shape .few-rows)))
     (small-in 8 badStation noStation (q .stations) [] (omega arith) small-none)))
 

@@ -10,7 +10,7 @@ use lib.Signed.{ltZ}
 use Rattle.lists.specs.Tab.{tab}
 use Rattle.lists.specs.Sums.{total}
 use Rattle.lists.specs.First.{Found, nowhere, at, first, firstIn}
-use Rattle.scheme.specs.Units.{among, amongℤ, within, mostValue, isMissing, leastSide, mostSide, mostStations, Wind, mostWind, isNoWind, Station, mostPosition, Columns, mostScans, mostRadius, mostLimit, windMode, Plan, Request, Call, asked}
+use Rattle.scheme.specs.Units.{among, amongℤ, within, mostValue, isMissing, leastSide, mostSide, mostStations, Wind, mostWind, isNoWind, Station, mostPosition, Columns, mostScans, mostRadius, mostLimit, windMode, equationRule, listingRule, Plan, Request, Call, asked}
 
 pub data Refusal : Type 0 where
   accepted : Refusal
@@ -122,11 +122,13 @@ badColumns c =
     || not (eqb (length (c .windV)) n)
     || ltb mostStations n
 
--- 5: scan count out of 1..6, or in C a plan column shorter than it; another mode, after the scan count (document 02, 5)
+-- 5: scan count out of 1..6, or in C a plan column shorter than it; another mode, after the scan count (document 02, 5), and
+-- after it another rule (document 02, 6)
 unfoldable pub badScans : Plan → Bool
 badScans p =
     not (among 1 mostScans (p .scans)) || ltb (length (p .radius)) (p .scans) || ltb (length (p .limit)) (p .scans)
     || ltb windMode (p .mode)
+    || not (among equationRule listingRule (p .rule))
 
 -- 6: R out of range or rising, or E out of range, at scan m
 unfoldable pub rising : Plan → ℕ → Bool

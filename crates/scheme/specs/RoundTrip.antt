@@ -1,4 +1,5 @@
--- A printed request reads back: to print a request in range and to read the text gives the request again, so that no two print alike.
+-- A printed request reads back: to print a request in range and to read the text gives the request again, so that no two print alike. The line of
+-- rule 1 may be left out.
 use Prim.Native.Nat.{ℕ, zero, suc, _+_, _-_, _*_, _/_, _%_, _^_, _≤_, _<_}
 use native.Mathlib.Omega.{arith}
 use native.Mathlib.Nat.{suc-mul}
@@ -13,12 +14,12 @@ use lib.Signed.{mag}
 use Rattle.lists.specs.Tests.{cond-both}
 use Rattle.lists.specs.Members.{All, none, more, all-take, all-drop}
 use Rattle.lists.specs.Tab.{tab, map-tab, tab-getD, length-tab}
-use Rattle.scheme.specs.Units.{among, noWind, Station, roundMode, Plan, Request, mostScans, mostStations}
-use Rattle.scheme.specs.Text.{requestLines}
-use Rattle.scheme.specs.Text.Reader.{Result, fails, reads, onward, gives, _or_}
+use Rattle.scheme.specs.Units.{among, noWind, Station, roundMode, equationRule, listingRule, asking, Plan, Request, mostScans, mostStations}
+use Rattle.scheme.specs.Text.{defaultRule, requestLines}
+use Rattle.scheme.specs.Text.Reader.{Result, fails, reads, onward, _>>=_, _>>_, gives, _or_}
 use Rattle.scheme.specs.Text.Pieces.{ascii, Piece, word, digits, positive, natural, between, count, unsigned, negative, signed, mark, values}
-use Rattle.scheme.specs.Text.Lines.{Entry, number, gridLine, scanLine, rowLine, observation, end, stationLine}
-use Rattle.scheme.specs.Text.Order.{line, lines, rows, nothingAfter}
+use Rattle.scheme.specs.Text.Lines.{Size, Entry, number, gridLine, scanLine, rowLine, observation, end, stationLine}
+use Rattle.scheme.specs.Text.Order.{Text, line, lines, rows, nothingAfter}
 use Rattle.scheme.specs.Text.Printed.{decimal, integer, cells, keyed, gridLines}
 use Rattle.scheme.specs.Decimals.{digit, decimal-one, decimal-more, digit-ind}
 
@@ -40,17 +41,26 @@ linesText shown (a ∷ rest) = shown a ++ linesText shown rest
 abbrev pub entries : Plan → List Entry
 entries p = tab (p .scans) (λ m. record { radius = getD (p .radius) m (pos 0); limit = getD (p .limit) m (pos 0) })
 
-unfoldable pub requestText : Request → List ℕ
-requestText q =
+-- with those bytes where the line of its rule stands
+unfoldable pub requestTextWith : List ℕ → Request → List ℕ
+requestTextWith rule q =
     keyed (ascii "grid=") decimal (q .nx ∷ q .ny ∷ [])
     ++ (keyed (ascii "time=") decimal (q .T ∷ [])
     ++ (keyed (ascii "age=") decimal (q .A ∷ [])
     ++ (keyed (ascii "smooth=") decimal (cond (q .plan .smooth) 1 0 ∷ [])
+    ++ (rule
     ++ (keyed (ascii "scans=") decimal (q .plan .scans ∷ [])
     ++ (linesText entryText (entries (q .plan))
     ++ (gridLines (ascii "row=") integer (q .nx) (q .ny) (q .firstGuess)
     ++ (keyed (ascii "stations=") decimal (length (q .stations) ∷ [])
-    ++ (linesText stationText (q .stations) ++ []))))))))
+    ++ (linesText stationText (q .stations) ++ [])))))))))
+
+abbrev pub requestText : Request → List ℕ
+requestText q = requestTextWith (keyed (ascii "rule=") decimal (q .plan .rule ∷ [])) q
+
+-- and without that line
+abbrev pub shorterText : Request → List ℕ
+shorterText q = requestTextWith [] q
 
 -- ---- a request whose numbers are those of a text: its weights are round, and it has no winds
 
@@ -86,6 +96,8 @@ pub record InRange (q : Request) : Type 0 where
   pub radii : length (q .plan .radius) ≡ q .plan .scans
   pub limits : length (q .plan .limit) ≡ q .plan .scans
   pub mode : q .plan .mode ≡ roundMode
+  pub first-rule : equationRule ≤ q .plan .rule
+  pub last-rule : q .plan .rule ≤ listingRule
   pub entries : All EntryInRange (entries (q .plan))
   pub whole : length (q .firstGuess) ≡ q .ny * q .nx
   pub first-guess : All Signed (q .firstGuess)
@@ -103,11 +115,26 @@ ageLine = number (ascii "age=") unsigned
 abbrev pub smoothLine : Piece ℕ
 smoothLine = number (ascii "smooth=") (count 0 1)
 
+abbrev pub ruleLine : Piece ℕ
+ruleLine = number (ascii "rule=") (count equationRule listingRule)
+
 abbrev pub scansLine : Piece ℕ
 scansLine = number (ascii "scans=") (count 1 mostScans)
 
 abbrev pub stationsLine : Piece ℕ
 stationsLine = number (ascii "stations=") (count 0 mostStations)
+
+-- ---- the lines after that of the rule, by name
+
+unfoldable pub fromScans : Size → (time age smooth rule : ℕ) → Text Request
+fromScans size time age smooth rule = do
+  scans ← line scansLine
+  plan ← lines scans scanLine
+  guess ← rows (size .ny) (rowLine (size .nx))
+  many ← line stationsLine
+  stations ← lines many stationLine
+  nothingAfter
+  gives (asking (size .nx) (size .ny) guess stations scans (map (λ t. t .radius) plan) (map (λ t. t .limit) plan) (eqb smooth 1) roundMode rule time age)
 
 -- ---- numbers read back
 
@@ -388,38 +415,17 @@ module _ (q : Request) (r : InRange q) where
   abbrev afterScans : List ℕ
   afterScans = linesText entryText (entries (q .plan)) ++ afterPlan
 
-  abbrev afterSmooth : List ℕ
-  afterSmooth = keyed (ascii "scans=") decimal (q .plan .scans ∷ []) ++ afterScans
+  abbrev afterRule : List ℕ
+  afterRule = keyed (ascii "scans=") decimal (q .plan .scans ∷ []) ++ afterScans
 
-  abbrev afterAge : List ℕ
-  afterAge = keyed (ascii "smooth=") decimal (cond (q .plan .smooth) 1 0 ∷ []) ++ afterSmooth
-
-  abbrev afterTime : List ℕ
-  afterTime = keyed (ascii "age=") decimal (q .A ∷ []) ++ afterAge
-
-  abbrev afterGrid : List ℕ
-  afterGrid = keyed (ascii "time=") decimal (q .T ∷ []) ++ afterTime
-
-  time-read : timeLine afterGrid ≡ reads (q .T) afterTime
-  unfolding unsigned word
-  time-read = number-keyed (ascii "time=") 0 (2 ^ 32 - 1) (q .T) afterTime (λ bs. refl) (omega arith) (r .time)
-
-  age-read : ageLine afterTime ≡ reads (q .A) afterAge
-  unfolding unsigned word
-  age-read = number-keyed (ascii "age=") 0 (2 ^ 32 - 1) (q .A) afterAge (λ bs. refl) (omega arith) (r .age)
-
-  smooth-read : smoothLine afterAge ≡ reads (cond (q .plan .smooth) 1 0) afterSmooth
-  unfolding word
-  smooth-read = number-keyed (ascii "smooth=") 0 1 (cond (q .plan .smooth) 1 0) afterSmooth (λ bs. refl) (omega arith) (cond-both (λ n. n ≤ 1) (q .plan .smooth) 1 0 (λ e. omega arith) (λ e. omega arith))
-
-  scans-read : scansLine afterSmooth ≡ reads (q .plan .scans) afterScans
+  scans-read : scansLine afterRule ≡ reads (q .plan .scans) afterScans
   unfolding word
   scans-read = number-keyed (ascii "scans=") 1 mostScans (q .plan .scans) afterScans (λ bs. refl) (r .some-scans) (r .few-scans)
 
-  plan-read : lines (q .plan .scans) scanLine (6, afterScans) ≡ reads (entries (q .plan)) (6 + q .plan .scans, afterPlan)
-  plan-read =
+  plan-read : (k : ℕ) → lines (q .plan .scans) scanLine (k, afterScans) ≡ reads (entries (q .plan)) (k + q .plan .scans, afterPlan)
+  plan-read k =
       let e = length-tab (q .plan .scans) (λ m. entry m) in
-      rw e at (lines-read EntryInRange scanLine entryText scan-keyed (r .entries) 6 afterPlan)
+      rw e at (lines-read EntryInRange scanLine entryText scan-keyed (r .entries) k afterPlan)
     where
       entry : ℕ → Entry
       entry m = record { radius = getD (q .plan .radius) m (pos 0); limit = getD (q .plan .limit) m (pos 0) }
@@ -434,26 +440,71 @@ module _ (q : Request) (r : InRange q) where
   count-read =
       number-keyed (ascii "stations=") 0 mostStations (length (q .stations)) afterCount (λ bs. refl) (omega arith) (r .few-stations)
 
-  pub printed-reads-back : requestLines (1, requestText q) ≡ reads q (suc (6 + q .plan .scans + q .ny) + length (q .stations), [])
-  unfolding requestLines requestText nothingAfter
-  printed-reads-back =
+  -- the lines from the scan count on, of which the first is line k
+  rest-reads-back : (k : ℕ) → fromScans (record { nx = q .nx; ny = q .ny }) (q .T) (q .A) (cond (q .plan .smooth) 1 0) (q .plan .rule) (k, afterRule)
+      ≡ reads q (suc (suc k + q .plan .scans + q .ny) + length (q .stations), [])
+  unfolding fromScans nothingAfter
+  rest-reads-back k =
       rw (
-        grid-keyed (q .nx) (q .ny) afterGrid (r .two-columns) (r .few-columns) (r .two-rows) (r .few-rows),
-        line,
-        _or_,
-        time-read,
-        age-read,
-        smooth-read,
         scans-read,
-        plan-read,
-        rows-back (q .nx) (omega (arith, r .two-columns)) (r .whole) (6 + q .plan .scans) afterRows,
+        line,
+        plan-read (suc k),
+        rows-back (q .nx) (omega (arith, r .two-columns)) (r .whole) (suc k + q .plan .scans) afterRows,
         count-read,
-        lines-read StationInRange stationLine stationText station-keyed (r .rows) (suc (6 + q .plan .scans + q .ny)) [],
+        lines-read StationInRange stationLine stationText station-keyed (r .rows) (suc (suc k + q .plan .scans + q .ny)) [],
         radius-back,
         limit-back,
         smooth-back,
         r .mode,
       )
+
+  -- the lines before, with what stands for the rule's
+  module _ (said : List ℕ) where
+    abbrev afterSmooth : List ℕ
+    afterSmooth = said ++ afterRule
+
+    abbrev afterAge : List ℕ
+    afterAge = keyed (ascii "smooth=") decimal (cond (q .plan .smooth) 1 0 ∷ []) ++ afterSmooth
+
+    abbrev afterTime : List ℕ
+    afterTime = keyed (ascii "age=") decimal (q .A ∷ []) ++ afterAge
+
+    abbrev afterGrid : List ℕ
+    afterGrid = keyed (ascii "time=") decimal (q .T ∷ []) ++ afterTime
+
+    time-read : timeLine afterGrid ≡ reads (q .T) afterTime
+    unfolding unsigned word
+    time-read = number-keyed (ascii "time=") 0 (2 ^ 32 - 1) (q .T) afterTime (λ bs. refl) (omega arith) (r .time)
+
+    age-read : ageLine afterTime ≡ reads (q .A) afterAge
+    unfolding unsigned word
+    age-read = number-keyed (ascii "age=") 0 (2 ^ 32 - 1) (q .A) afterAge (λ bs. refl) (omega arith) (r .age)
+
+    smooth-read : smoothLine afterAge ≡ reads (cond (q .plan .smooth) 1 0) afterSmooth
+    unfolding word
+    smooth-read = number-keyed (ascii "smooth=") 0 1 (cond (q .plan .smooth) 1 0) afterSmooth (λ bs. refl) (omega arith) (cond-both (λ n. n ≤ 1) (q .plan .smooth) 1 0 (λ e. omega arith) (λ e. omega arith))
+
+    head-read : requestLines (1, requestTextWith said q)
+        ≡ onward ((line ruleLine or gives defaultRule) (5, afterSmooth)) (λ rule. fromScans (record { nx = q .nx; ny = q .ny }) (q .T) (q .A) (cond (q .plan .smooth) 1 0) rule)
+    unfolding requestLines requestTextWith fromScans
+    head-read =
+        rw (grid-keyed (q .nx) (q .ny) afterGrid (r .two-columns) (r .few-columns) (r .two-rows) (r .few-rows), line, _or_, time-read, age-read, smooth-read)
+
+  rule-read : ruleLine (keyed (ascii "rule=") decimal (q .plan .rule ∷ []) ++ afterRule) ≡ reads (q .plan .rule) afterRule
+  unfolding word
+  rule-read = number-keyed (ascii "rule=") equationRule listingRule (q .plan .rule) afterRule (λ bs. refl) (r .first-rule) (r .last-rule)
+
+  -- the line of the scan count is no line of a rule
+  rule-absent : ruleLine afterRule ≡ fails tt
+  unfolding number keyed word
+  rule-absent = refl
+
+  pub printed-reads-back : requestLines (1, requestText q) ≡ reads q (suc (7 + q .plan .scans + q .ny) + length (q .stations), [])
+  printed-reads-back = head-read (keyed (ascii "rule=") decimal (q .plan .rule ∷ [])) ∙ rw (rule-read, line, _or_) (rest-reads-back 6)
+
+  pub rule-1-may-be-left-out : q .plan .rule ≡ equationRule
+      → requestLines (1, shorterText q) ≡ reads q (suc (6 + q .plan .scans + q .ny) + length (q .stations), [])
+  rule-1-may-be-left-out e = head-read [] ∙ rw (rule-absent, line, _or_, sym e) (rest-reads-back 5)
 
 -- no two requests print alike
 same-read : {L F A : Type 0} {a b : A} {l n : L} → _≡_ {A = Result L F A} (reads a l) (reads b n) → a ≡ b

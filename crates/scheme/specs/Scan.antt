@@ -39,7 +39,7 @@ module _ (q : Request) (m : ℕ) (found : State) where
 
   -- All points change together
   unfoldable pub corrected : Field ℤ
-  corrected i j = found .field i j +ℤ correction (sumsAt i j)
+  corrected i j = found .field i j +ℤ correction (q .plan .rule) (sumsAt i j)
 
   unfoldable pub scan : State
   scan =

@@ -15,7 +15,7 @@ use mir.Syntax.{w32}
 use mir.Val.{SFits}
 use Rattle.lists.specs.Tab.{tab}
 use Rattle.lists.specs.First.{firstIn}
-use Rattle.lists.specs.Members.{All, Some}
+use Rattle.lists.specs.Members.{All, Some, some-also}
 use Rattle.lists.specs.Keep.{keep}
 use Rattle.lists.specs.Parted.{rank}
 use Rattle.lists.specs.Sums.{upTo}
@@ -27,9 +27,9 @@ use Rattle.scheme.specs.Verdicts.{serves, onGrid, offGrid, isAccepted, b
 use Rattle.scheme.specs.Rounding.{rounded}
 use Rattle.scheme.specs.Value.{place, sumAt, valueAt}
 use Rattle.scheme.specs.Difference.{Row}
-use Rattle.scheme.specs.Weight.{scale, weight, square, weightAt}
-use Rattle.scheme.specs.Correction.{nothing, gift, share, correction}
-use Rattle.scheme.specs.Scan.{State, differences, rowsJudged, sumsAt, afterWithin, after, atEnd, Analysis, analysis}
+use Rattle.scheme.specs.Weight.{scale, weight, square, inside, weightAt}
+use Rattle.scheme.specs.Correction.{Sums, nothing, gift, share, correction}
+use Rattle.scheme.specs.Scan.{State, differences, rowsJudged, sumsAt, corrected, scan, afterWithin, after, atEnd, Analysis, analysis}
 use Rattle.scheme.specs.Reach.{reach, cutOf, onWindow, counted, cut, Tile, windowOf, wholeAt}
 use Rattle.scheme.specs.Readings.{double, positiveZero, reading, valueOf, lowest, highest, summary}
 use Rattle.scheme.specs.Text.{requestLines, analysisText}
@@ -53,6 +53,7 @@ use Rattle.scheme.specs.DeadMasts as dead
 use Rattle.scheme.specs.DeadMasts.{noRow}
 use Rattle.scheme.specs.Posts as posts
 use Rattle.scheme.specs.Winds as winds
+use Rattle.scheme.specs.Lone as lones
 use Rattle.scheme.specs.Entries as entries
 use Rattle.scheme.specs.Laws.{Scheme}
 use Rattle.scheme.specs.Near.{Side}
@@ -66,7 +67,7 @@ use Rattle.scheme.specs.Exact as exactness
 use Rattle.scheme.specs.Exact.{negative, ReadsExactly, ExactUnits, IsZero, ZerosPositive}
 use Rattle.scheme.specs.AnswerSize as size
 use Rattle.scheme.specs.RoundTrip as round
-use Rattle.scheme.specs.RoundTrip.{requestText, InRange}
+use Rattle.scheme.specs.RoundTrip.{requestText, shorterText, InRange}
 use Rattle.scheme.specs.Example as examples
 use Rattle.scheme.specs.Example.{level, example, lone, corner, onceText, twiceText, smoothText, once, twice, smooth, onlySmoothed, cornerOnce, cornerTwice, cornerSmooth}
 use Rattle.scheme.specs.Cheats as cheats
@@ -344,7 +345,7 @@ abbrev withWinds : (mode : ℕ) → (Wind → Wind) → Request → Request
 withWinds mode f q =
     asking (q .nx) (q .ny) (q .firstGuess)
     (map (λ s. record { x = s .x; y = s .y; value = s .value; observed = s .observed; from = s .from; until = s .until; wind = f (s .wind) }) (q .stations))
-    (q .plan .scans) (q .plan .radius) (q .plan .limit) (q .plan .smooth) mode (q .T) (q .A)
+    (q .plan .scans) (q .plan .radius) (q .plan .limit) (q .plan .smooth) mode (q .plan .rule) (q .T) (q .A)
 
 -- two requests in mode 0 that are unlike in their winds alone
 module _ (p q : Request) (round : p .plan .mode ≡ 0) (round' : q .plan .mode ≡ 0) (same : withWinds 0 (λ w. noWind) p ≡ withWinds 0 (λ w. noWind) q) where
@@ -367,11 +368,74 @@ pub turned-winds-change-no-answer : (c : Call) (grid support verdict : ℕ) → 
     → analysis (withWinds (c .plan .mode) (λ w. cond (isNoWind w) w (record { u = negℤ (w .u); v = negℤ (w .v) })) (asked c)) ≡ analysis (asked c)
 turned-winds-change-no-answer = winds.turned-winds-change-no-answer
 
+-- ---- the lone-station rule, old and new: in every mode
+
+pub rule-1-is-document-01 : (s : Sums) → correction 1 s ≡ cond (eqb (s .weights) 0) (pos 0) (rounded (s .pulls) (s .weights))
+rule-1-is-document-01 = lones.rule-1-is-document-01
+
+-- the same request under another rule
+abbrev withRule : ℕ → Request → Request
+withRule rule q =
+    asking (q .nx) (q .ny) (q .firstGuess) (q .stations) (q .plan .scans) (q .plan .radius) (q .plan .limit) (q .plan .smooth) (q .plan .mode) rule (q .T) (q .A)
+
+-- from the state that a scan finds
+module _ (q : Request) (rule m : ℕ) (found : State) where
+  pub rules-judge-alike : rowsJudged (withRule rule q) m found ≡ rowsJudged q m found
+  rules-judge-alike = lones.rules-judge-alike q rule m found
+
+  pub rules-support-alike : scan (withRule rule q) m found .support ≡ scan q m found .support
+  rules-support-alike = lones.rules-support-alike q rule m found
+
+  -- of an accepted row: its station strictly inside the radius at point (i, j), and its weight there
+  abbrev insideAt : (i j : ℕ) → Row → Bool
+  insideAt i j r = isAccepted (r .verdict) && inside (R (q .plan) m * R (q .plan) m) (r .station .x -ℤ pos (step * i)) (r .station .y -ℤ pos (step * j))
+
+  abbrev weighs : (i j : ℕ) → Row → ℕ
+  weighs i j r =
+      weightAt (q .plan .mode) (R (q .plan) m * R (q .plan) m) (r .station .wind) (r .station .x -ℤ pos (step * i)) (r .station .y -ℤ pos (step * j))
+
+  -- the accepted stations strictly inside, whatever their weight
+  pub inside-is-how-many : (i j : ℕ) → sumsAt q m found i j .inside ≡ length (keep (insideAt i j) (rowsJudged q m found))
+  unfolding sumsAt
+  inside-is-how-many i j = lones.inside-is-how-many (q .plan .mode) (R (q .plan) m) (differences q found) i j (rowsJudged q m found)
+
+  -- before smoothing the rules differ only where exactly one is inside
+  pub rules-differ-only-where-one-is-inside : (i j : ℕ) → eqb (sumsAt q m found i j .inside) 1 ≡ false → corrected (withRule rule q) m found i j ≡ corrected q m found i j
+  rules-differ-only-where-one-is-inside = lones.rules-differ-only-where-one-is-inside q rule m found
+
+  -- there under rule 2 the point moves by that station's weight·D over the scale, which has the sign of D and at most its size, and under rule 1 by all
+  -- of D, if it has weight
+  pub lone-station-moves-alone : (i j : ℕ) → eqb (sumsAt q m found i j .inside) 1 ≡ true
+      → Some (λ r. (insideAt i j r ≡ true) × (sumsAt q m found i j .weights ≡ weighs i j r)
+      × (let D = differences q found (r .station) in let c = correction 2 (sumsAt q m found i j) in
+      (c ≡ rounded (pos (weighs i j r) *ℤ D) 10000)
+      × ((leZ (pos 0) D ≡ true → (leZ (pos 0) c && leZ c D) ≡ true) × (leZ D (pos 0) ≡ true → (leZ D c && leZ c (pos 0)) ≡ true))
+      × (0 < weighs i j r → correction 1 (sumsAt q m found i j) ≡ D))) (rowsJudged q m found)
+  lone-station-moves-alone i j e =
+      some-also (lones.MovesAlone q rule m found i j) _ (λ r a. (a .accepted-inside, a .weight, a .by-its-weight, a .toward-D, a .by-all-of-D))
+      (lones.lone-station-moves-alone q rule m found i j e)
+
+-- at the station itself its weight is the whole scale, and there the rules agree
+pub at-the-station-weighs-all : (mode r2 : ℕ) (w : Wind) → 0 < r2 → weightAt mode r2 w (pos 0) (pos 0) ≡ scale
+at-the-station-weighs-all = streaks.at-the-station-weighs-all
+
+pub rules-agree-at-the-whole-scale : (rule rule' : ℕ) (s : Sums) → s .weights ≡ scale → correction rule s ≡ correction rule' s
+rules-agree-at-the-whole-scale = lones.rules-agree-at-the-whole-scale
+
+pub of-one-scan-the-rules-support-and-judge-alike : (q : Request) (rule : ℕ) → q .plan .scans ≡ 1
+    → (analysis (withRule rule q) .support ≡ analysis q .support) × (analysis (withRule rule q) .verdict ≡ analysis q .verdict)
+of-one-scan-the-rules-support-and-judge-alike = lones.of-one-scan-the-rules-support-and-judge-alike
+
+pub where-no-station-is-lone-the-rules-answer-alike : (q : Request) (rule : ℕ) → 2 ≤ q .nx → 2 ≤ q .ny
+    → ((m i j : ℕ) → m < q .plan .scans → i < q .nx → j < q .ny → eqb (sumsAt q m (after q m) i j .inside) 1 ≡ false)
+    → analysis (withRule rule q) ≡ analysis q
+where-no-station-is-lone-the-rules-answer-alike = lones.where-no-station-is-lone-the-rules-answer-alike
+
 pub gift-far : (mode radius : ℕ) (wind : Wind) (D dx dy : ℤ) → (radius ≤ natAbs dx) ⊎ (radius ≤ natAbs dy)
     → gift mode (radius * radius) wind D dx dy ≡ nothing
 gift-far = gifts.gift-far
 
-pub correction-at-most-E : (q : Request) (m : ℕ) (found : State) (i j : ℕ) → natAbs (correction (sumsAt q m found i j)) ≤ E (q .plan) m
+pub correction-at-most-E : (q : Request) (m : ℕ) (found : State) (i j : ℕ) → natAbs (correction (q .plan .rule) (sumsAt q m found i j)) ≤ E (q .plan) m
 correction-at-most-E = bounds.correction-at-most-E
 
 pub run-stays-within : (q : Request) (most limit : ℕ) → ((i j : ℕ) → natAbs (guess q i j) ≤ most) → (n : ℕ) → ((m : ℕ) → m < n → E (q .plan) m ≤ limit)
@@ -405,14 +469,14 @@ smoothing-may-move-an-unsupported-point = examples.smoothing-may-move-an-unsuppo
 
 -- entries past the scan count: two plans that count as many scans and are equal up to there
 module _ (q : Request) (p' : Plan) (scans : p' .scans ≡ q .plan .scans) (smooth : p' .smooth ≡ q .plan .smooth)
-    (mode : p' .mode ≡ q .plan .mode)
+    (mode : p' .mode ≡ q .plan .mode) (rule : p' .rule ≡ q .plan .rule)
     (radii : (m : ℕ) → m < q .plan .scans → getD (p' .radius) m (pos 0) ≡ getD (q .plan .radius) m (pos 0))
     (limits : (m : ℕ) → m < q .plan .scans → getD (p' .limit) m (pos 0) ≡ getD (q .plan .limit) m (pos 0)) where
   abbrev other : Request
-  other = asking (q .nx) (q .ny) (q .firstGuess) (q .stations) (p' .scans) (p' .radius) (p' .limit) (p' .smooth) (p' .mode) (q .T) (q .A)
+  other = asking (q .nx) (q .ny) (q .firstGuess) (q .stations) (p' .scans) (p' .radius) (p' .limit) (p' .smooth) (p' .mode) (p' .rule) (q .T) (q .A)
 
   abbrev same : entries.UpToCount (q .plan) p'
-  same = record { scans = scans; smooth = smooth; mode = mode; radii = radii; limits = limits }
+  same = record { scans = scans; smooth = smooth; mode = mode; rule = rule; radii = radii; limits = limits }
 
   pub entries-past-the-count-change-no-analysis : analysis other ≡ analysis q
   entries-past-the-count-change-no-analysis = entries.entries-past-the-count-change-no-analysis q p' same
@@ -469,8 +533,12 @@ pub accepted-answer-is-short : (c : Call) (grid support verdict : ℕ) → analy
     → length (analysisText (c .nx) (c .ny) (analysis (asked c))) < 56000
 accepted-answer-is-short = size.accepted-answer-is-short
 
-pub printed-reads-back : (q : Request) → InRange q → requestLines (1, requestText q) ≡ reads q (suc (6 + q .plan .scans + q .ny) + length (q .stations), [])
+pub printed-reads-back : (q : Request) → InRange q → requestLines (1, requestText q) ≡ reads q (suc (7 + q .plan .scans + q .ny) + length (q .stations), [])
 printed-reads-back = round.printed-reads-back
+
+pub rule-1-may-be-left-out : (q : Request) → InRange q → q .plan .rule ≡ 1
+    → requestLines (1, shorterText q) ≡ reads q (suc (6 + q .plan .scans + q .ny) + length (q .stations), [])
+rule-1-may-be-left-out = round.rule-1-may-be-left-out
 
 pub no-two-print-alike : (p q : Request) → InRange p → InRange q → requestText p ≡ requestText q → p ≡ q
 no-two-print-alike = round.no-two-print-alike
@@ -483,73 +551,73 @@ table = tables.table
 pub cases : Cases
 cases = computed.cases
 
--- ---- the four cheats, on the paper's example with its scan once, twice, and twice with smoothing on
+-- ---- the four cheats, on the paper's example with its scan once, twice, and twice with smoothing on, under either rule
 
-module _ (found : Analysis) (long : (length (found .grid) ≡ 9) × (length (found .support) ≡ 9) × (length (found .verdict) ≡ 3))
-    (answer answer' answer'' : ℕ) (left left' left'' : Analysis) (asked-once : Analyses (callFor (example 1 false)) found answer left)
-    (asked-twice : Analyses (callFor (example 2 false)) found answer' left') (asked-smooth : Analyses (callFor (example 2 true)) found answer'' left'') where
+module _ (rule : ℕ) (ruled : (1 ≤ rule) × (rule ≤ 2)) (found : Analysis) (long : (length (found .grid) ≡ 9) × (length (found .support) ≡ 9) × (length (found .verdict) ≡ 3))
+    (answer answer' answer'' : ℕ) (left left' left'' : Analysis) (asked-once : Analyses (callFor (example rule 1 false)) found answer left)
+    (asked-twice : Analyses (callFor (example rule 2 false)) found answer' left') (asked-smooth : Analyses (callFor (example rule 2 true)) found answer'' left'') where
   pub no-refusal : (answer ≡ 0) × (answer' ≡ 0) × (answer'' ≡ 0)
-  no-refusal = cheats.no-refusal found long answer answer' answer'' left left' left'' asked-once asked-twice asked-smooth
+  no-refusal = cheats.no-refusal rule ruled found long answer answer' answer'' left left' left'' asked-once asked-twice asked-smooth
 
   pub not-the-first-guess : left .grid ≡ level → ⊥
-  not-the-first-guess = cheats.not-the-first-guess found long answer answer' answer'' left left' left'' asked-once asked-twice asked-smooth
+  not-the-first-guess = cheats.not-the-first-guess rule ruled found long answer answer' answer'' left left' left'' asked-once asked-twice asked-smooth
 
   pub not-one-fixed-grid : left' .grid ≡ left .grid → ⊥
-  not-one-fixed-grid = cheats.not-one-fixed-grid found long answer answer' answer'' left left' left'' asked-once asked-twice asked-smooth
+  not-one-fixed-grid = cheats.not-one-fixed-grid rule ruled found long answer answer' answer'' left left' left'' asked-once asked-twice asked-smooth
 
-  pub not-one-scan-only : left' .grid ≡ stored 3 3 (after (example 2 false) 1 .field) → ⊥
-  not-one-scan-only = cheats.not-one-scan-only found long answer answer' answer'' left left' left'' asked-once asked-twice asked-smooth
+  pub not-one-scan-only : left' .grid ≡ stored 3 3 (after (example rule 2 false) 1 .field) → ⊥
+  not-one-scan-only = cheats.not-one-scan-only rule ruled found long answer answer' answer'' left left' left'' asked-once asked-twice asked-smooth
 
-  pub not-only-smoothed : left'' .grid ≡ stored 3 3 onlySmoothed → ⊥
-  not-only-smoothed = cheats.not-only-smoothed found long answer answer' answer'' left left' left'' asked-once asked-twice asked-smooth
+  pub not-only-smoothed : left'' .grid ≡ stored 3 3 (onlySmoothed rule) → ⊥
+  not-only-smoothed = cheats.not-only-smoothed rule ruled found long answer answer' answer'' left left' left'' asked-once asked-twice asked-smooth
 
-  pub no-other-support : (left .support ≡ once .support) × (left' .support ≡ twice .support) × (left'' .support ≡ smooth .support)
-  no-other-support = cheats.no-other-support found long answer answer' answer'' left left' left'' asked-once asked-twice asked-smooth
+  pub no-other-support : (left .support ≡ once rule .support) × (left' .support ≡ twice rule .support) × (left'' .support ≡ smooth rule .support)
+  no-other-support = cheats.no-other-support rule ruled found long answer answer' answer'' left left' left'' asked-once asked-twice asked-smooth
 
-  pub no-other-verdicts : (left .verdict ≡ once .verdict) × (left' .verdict ≡ twice .verdict) × (left'' .verdict ≡ smooth .verdict)
-  no-other-verdicts = cheats.no-other-verdicts found long answer answer' answer'' left left' left'' asked-once asked-twice asked-smooth
+  pub no-other-verdicts : (left .verdict ≡ once rule .verdict) × (left' .verdict ≡ twice rule .verdict) × (left'' .verdict ≡ smooth rule .verdict)
+  no-other-verdicts = cheats.no-other-verdicts rule ruled found long answer answer' answer'' left left' left'' asked-once asked-twice asked-smooth
 
-module _ (found : Tile) (long : (length (found .grid) ≡ 4) × (length (found .support) ≡ 4)) (answer answer' answer'' : ℕ) (left left' left'' : Tile)
-    (asked-once : Queries (callFor (example 1 false)) corner found answer left) (asked-twice : Queries (callFor (example 2 false)) corner found answer' left')
-    (asked-smooth : Queries (callFor (example 2 true)) corner found answer'' left'') where
+module _ (rule : ℕ) (ruled : (1 ≤ rule) × (rule ≤ 2)) (found : Tile) (long : (length (found .grid) ≡ 4) × (length (found .support) ≡ 4)) (answer answer' answer'' : ℕ) (left left' left'' : Tile)
+    (asked-once : Queries (callFor (example rule 1 false)) corner found answer left) (asked-twice : Queries (callFor (example rule 2 false)) corner found answer' left')
+    (asked-smooth : Queries (callFor (example rule 2 true)) corner found answer'' left'') where
   pub window-no-refusal : (answer ≡ 0) × (answer' ≡ 0) × (answer'' ≡ 0)
-  window-no-refusal = cheats.window-no-refusal found long answer answer' answer'' left left' left'' asked-once asked-twice asked-smooth
+  window-no-refusal = cheats.window-no-refusal rule ruled found long answer answer' answer'' left left' left'' asked-once asked-twice asked-smooth
 
   pub window-not-the-first-guess : left .grid ≡ tab 4 (λ p. pos 640) → ⊥
-  window-not-the-first-guess = cheats.window-not-the-first-guess found long answer answer' answer'' left left' left'' asked-once asked-twice asked-smooth
+  window-not-the-first-guess = cheats.window-not-the-first-guess rule ruled found long answer answer' answer'' left left' left'' asked-once asked-twice asked-smooth
 
   pub window-not-one-fixed-grid : left' .grid ≡ left .grid → ⊥
-  window-not-one-fixed-grid = cheats.window-not-one-fixed-grid found long answer answer' answer'' left left' left'' asked-once asked-twice asked-smooth
+  window-not-one-fixed-grid = cheats.window-not-one-fixed-grid rule ruled found long answer answer' answer'' left left' left'' asked-once asked-twice asked-smooth
 
-  pub window-not-one-scan-only : left' .grid ≡ windowOf corner (after (example 2 false) 1 .field) → ⊥
-  window-not-one-scan-only = cheats.window-not-one-scan-only found long answer answer' answer'' left left' left'' asked-once asked-twice asked-smooth
+  pub window-not-one-scan-only : left' .grid ≡ windowOf corner (after (example rule 2 false) 1 .field) → ⊥
+  window-not-one-scan-only = cheats.window-not-one-scan-only rule ruled found long answer answer' answer'' left left' left'' asked-once asked-twice asked-smooth
 
-  pub window-not-only-smoothed : left'' .grid ≡ windowOf corner onlySmoothed → ⊥
-  window-not-only-smoothed = cheats.window-not-only-smoothed found long answer answer' answer'' left left' left'' asked-once asked-twice asked-smooth
+  pub window-not-only-smoothed : left'' .grid ≡ windowOf corner (onlySmoothed rule) → ⊥
+  window-not-only-smoothed = cheats.window-not-only-smoothed rule ruled found long answer answer' answer'' left left' left'' asked-once asked-twice asked-smooth
 
-  pub window-no-other-support : (left .support ≡ cornerOnce .support) × (left' .support ≡ cornerTwice .support) × (left'' .support ≡ cornerSmooth .support)
-  window-no-other-support = cheats.window-no-other-support found long answer answer' answer'' left left' left'' asked-once asked-twice asked-smooth
+  pub window-no-other-support : (left .support ≡ cornerOnce .support) × (left' .support ≡ cornerTwice .support) × (left'' .support ≡ cornerSmooth rule .support)
+  window-no-other-support = cheats.window-no-other-support rule ruled found long answer answer' answer'' left left' left'' asked-once asked-twice asked-smooth
 
-module _ (found left left' left'' : List ℕ) (bytes bytes' bytes'' : ℕ) (asked-once : Replies onceText found bytes left)
-    (asked-twice : Replies twiceText found bytes' left') (asked-smooth : Replies smoothText found bytes'' left'') where
+module _ (rule : ℕ) (ruled : (1 ≤ rule) × (rule ≤ 2)) (found left left' left'' : List ℕ) (bytes bytes' bytes'' : ℕ) (asked-once : Replies (onceText rule) found bytes left)
+    (asked-twice : Replies (twiceText rule) found bytes' left') (asked-smooth : Replies (smoothText rule) found bytes'' left'') where
   pub text-no-refusal : (firstTwoLines left ≡ ascii "refusal=0\nplace=0\n") × (firstTwoLines left' ≡ ascii "refusal=0\nplace=0\n") × (firstTwoLines left'' ≡ ascii "refusal=0\nplace=0\n")
-  text-no-refusal = cheats.text-no-refusal found left left' left'' bytes bytes' bytes'' asked-once asked-twice asked-smooth
+  text-no-refusal = cheats.text-no-refusal rule ruled found left left' left'' bytes bytes' bytes'' asked-once asked-twice asked-smooth
 
   pub text-not-the-first-guess : rowLines left ≡ shown level → ⊥
-  text-not-the-first-guess = cheats.text-not-the-first-guess found left left' left'' bytes bytes' bytes'' asked-once asked-twice asked-smooth
+  text-not-the-first-guess = cheats.text-not-the-first-guess rule ruled found left left' left'' bytes bytes' bytes'' asked-once asked-twice asked-smooth
 
   pub text-not-one-fixed-grid : rowLines left' ≡ rowLines left → ⊥
-  text-not-one-fixed-grid = cheats.text-not-one-fixed-grid found left left' left'' bytes bytes' bytes'' asked-once asked-twice asked-smooth
+  text-not-one-fixed-grid = cheats.text-not-one-fixed-grid rule ruled found left left' left'' bytes bytes' bytes'' asked-once asked-twice asked-smooth
 
-  pub text-not-one-scan-only : rowLines left' ≡ shown (stored 3 3 (after (example 2 false) 1 .field)) → ⊥
-  text-not-one-scan-only = cheats.text-not-one-scan-only found left left' left'' bytes bytes' bytes'' asked-once asked-twice asked-smooth
+  pub text-not-one-scan-only : rowLines left' ≡ shown (stored 3 3 (after (example rule 2 false) 1 .field)) → ⊥
+  text-not-one-scan-only = cheats.text-not-one-scan-only rule ruled found left left' left'' bytes bytes' bytes'' asked-once asked-twice asked-smooth
 
-  pub text-not-only-smoothed : rowLines left'' ≡ shown (stored 3 3 onlySmoothed) → ⊥
-  text-not-only-smoothed = cheats.text-not-only-smoothed found left left' left'' bytes bytes' bytes'' asked-once asked-twice asked-smooth
+  pub text-not-only-smoothed : rowLines left'' ≡ shown (stored 3 3 (onlySmoothed rule)) → ⊥
+  text-not-only-smoothed = cheats.text-not-only-smoothed rule ruled found left left' left'' bytes bytes' bytes'' asked-once asked-twice asked-smooth
 
   pub text-no-other-support : (supLines left ≡ ascii "sup=1,1,1\nsup=1,1,1\nsup=1,1,1\n") × (supLines left' ≡ ascii "sup=3,3,3\nsup=3,3,3\nsup=3,3,3\n")
       × (supLines left'' ≡ ascii "sup=3,3,3\nsup=3,3,3\nsup=3,3,3\n")
-  text-no-other-support = cheats.text-no-other-support found left left' left'' bytes bytes' bytes'' asked-once asked-twice asked-smooth
+  text-no-other-support = cheats.text-no-other-support rule ruled found left left' left'' bytes bytes' bytes'' asked-once asked-twice asked-smooth
 
   pub text-no-other-verdicts : (verLine left ≡ ascii "ver=0,0,2\n") × (verLine left' ≡ ascii "ver=0,0,2\n") × (verLine left'' ≡ ascii "ver=0,0,2\n")
-  text-no-other-verdicts = cheats.text-no-other-verdicts found left left' left'' bytes bytes' bytes'' asked-once asked-twice asked-smooth
+  text-no-other-verdicts = cheats.text-no-other-verdicts rule ruled found left left' left'' bytes bytes' bytes'' asked-once asked-twice asked-smooth

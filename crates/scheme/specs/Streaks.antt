@@ -15,8 +15,8 @@ use Rattle.integers.specs.Sizes.{size-mul}
 use Rattle.integers.specs.Ring.{mul-add, mul-assoc}
 use Rattle.lists.specs.Tests.{lt-or-le, true-or-false, not-both, and-true, ltb-same}
 use Rattle.scheme.specs.Units.{Wind, mostWind, missingMark, isMissing, isNoWind, roundMode, windMode}
-use Rattle.scheme.specs.Weight.{scale, weight, square, squares, along, strength, stretched, blows, weightAt}
-use Rattle.scheme.specs.Weights.{weight-beyond, weight-most, weight-grows, weight-scaled}
+use Rattle.scheme.specs.Weight.{scale, weight, square, squares, inside, along, strength, stretched, blows, weightAt}
+use Rattle.scheme.specs.Weights.{weight-beyond, weight-most, inside-alone, weight-at-station, weight-grows, weight-scaled}
 
 -- ---- the cases of a weight
 
@@ -46,6 +46,10 @@ module _ (mode r2 : ℕ) (w : Wind) (dx dy : ℤ) where
       go (inl h) (inl b) = rw (weight-inside h, b) (unfold stretched in weight-most _ _)
       go (inl h) (inr b) = rw (round-if-still b) (weight-most r2 (squares dx dy))
 
+  -- at most the whole scale inside the radius, and nothing outside
+  pub weight-inside-alone : weightAt mode r2 w dx dy ≤ scale * cond (inside r2 dx dy) 1 0
+  weight-inside-alone = inside-alone (weightAt mode r2 w dx dy) r2 (squares dx dy) weight-lies-in-the-scale no-weight-outside
+
 -- in mode 0 no wind is read
 pub still-in-mode-0 : (w : Wind) (dx dy : ℤ) → blows roundMode w dx dy ≡ false
 unfolding blows
@@ -59,6 +63,17 @@ still-if-missing mode w dx dy e = rw e (go (eqb mode windMode))
     go : (b : Bool) → b && false && ltb 0 (strength w * squares dx dy) ≡ false
     go true = refl
     go false = refl
+
+-- nor is any at the station itself, which has there the whole scale
+pub at-the-station-weighs-all : (mode r2 : ℕ) (w : Wind) → 0 < r2 → weightAt mode r2 w (pos 0) (pos 0) ≡ scale
+at-the-station-weighs-all mode r2 w some = round-if-still mode r2 w (pos 0) (pos 0) still ∙ weight-at-station r2 some
+  where
+    still : blows mode w (pos 0) (pos 0) ≡ false
+    still = unfold blows in (let e : strength w * 0 ≡ 0 = omega arith in rw e (go (eqb mode windMode && not (isNoWind w))))
+      where
+        go : (b : Bool) → b && false ≡ false
+        go true = refl
+        go false = refl
 
 pub blown : (mode : ℕ) (w : Wind) (dx dy : ℤ) → blows mode w dx dy ≡ true → 0 < strength w * squares dx dy
 unfolding blows

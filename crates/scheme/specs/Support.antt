@@ -127,9 +127,9 @@ supported-exactly-where-a-mast-weighs q m k i j h = (there, back)
 
 -- ---- without smoothing, a point with no support keeps its first guess
 
-no-correction : (s : Sums) → s .weights ≡ 0 → correction s ≡ pos 0
+no-correction : (rule : ℕ) (s : Sums) → s .weights ≡ 0 → correction rule s ≡ pos 0
 unfolding correction
-no-correction s e = rw (eq-eqb (s .weights) 0 e)
+no-correction rule s e = rw (eq-eqb (s .weights) 0 e)
 
 module _ (q : Request) (rough : q .plan .smooth ≡ false) (i j : ℕ) where
   pub unsupported-point-keeps-first-guess : (m : ℕ) → after q m .support i j ≡ 0 → after q m .field i j ≡ guess q i j
@@ -153,7 +153,7 @@ module _ (q : Request) (rough : q .plan .smooth ≡ false) (i j : ℕ) where
       unmoved : weightsIn q i j m ≡ 0 → corrected q m (after q m) i j ≡ after q m .field i j
       unmoved w =
           unfold corrected in
-          ap (λ (c : ℤ). after q m .field i j +ℤ c) (no-correction (sumsAt q m (after q m) i j) w) ∙ +ℤ-idr (after q m .field i j)
+          ap (λ (c : ℤ). after q m .field i j +ℤ c) (no-correction (q .plan .rule) (sumsAt q m (after q m) i j) w) ∙ +ℤ-idr (after q m .field i j)
 
 -- ---- with no stations there is no support
 

@@ -9,7 +9,7 @@ use lib.Ieee.{div, ofInt, round, units, odd, span, climb, size}
 use lib.Ieee.Exact.{HasValue}
 use Rattle.lists.specs.Sums.{upTo}
 use Rattle.scheme.specs.declared.Reading.the-variants.{FirstGuess}
-use Rattle.scheme.specs.Units.{Field, fieldOf, roundMode, Plan, R, Request, guess}
+use Rattle.scheme.specs.Units.{Field, fieldOf, roundMode, equationRule, Plan, R, Request, guess}
 use Rattle.scheme.specs.Refusals.{refusedWith, badShape, readingRefusal}
 use Rattle.scheme.specs.Verdicts.{nearAxis}
 use Rattle.scheme.specs.Rounding.{rounded}
@@ -36,7 +36,7 @@ fourCorners = pos 0 ∷ pos 1 ∷ pos 0 ∷ pos 0 ∷ []
 
 -- radii 96, 64 with smoothing
 abbrev twoScans : Plan
-twoScans = record { scans = 2; radius = pos 96 ∷ pos 64 ∷ []; limit = pos 0 ∷ pos 0 ∷ []; smooth = true; mode = roundMode }
+twoScans = record { scans = 2; radius = pos 96 ∷ pos 64 ∷ []; limit = pos 0 ∷ pos 0 ∷ []; smooth = true; mode = roundMode; rule = equationRule }
 
 -- ---- the table
 

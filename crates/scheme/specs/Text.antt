@@ -14,13 +14,17 @@ use Pieces.{ascii, count, unsigned}
 use Lines.{number, gridLine, scanLine, rowLine, stationLine}
 use Order.{Text, line, lines, rows, nothingAfter}
 use Printed.{decimal, integer, keyed, gridLines}
-use Rattle.scheme.specs.Units.{mostScans, mostStations, roundMode, asking, Request}
+use Rattle.scheme.specs.Units.{mostScans, mostStations, roundMode, equationRule, listingRule, asking, Request}
 use Rattle.scheme.specs.Refusals.{numberOf, placeOf, unlessRefused, inOrder, fromFive}
 use Rattle.scheme.specs.Scan.{Analysis, analysis}
 
 -- `age` may be left out, which means 120
 abbrev pub defaultAge : ℕ
 defaultAge = 120
+
+-- `rule` may be left out, which means 1 (document 02, 6)
+abbrev pub defaultRule : ℕ
+defaultRule = equationRule
 
 abbrev pub mostBytes : ℕ
 mostBytes = 65536
@@ -33,13 +37,14 @@ requestLines = do
   time ← line (number (ascii "time=") unsigned)
   age ← line (number (ascii "age=") unsigned) or gives defaultAge
   smooth ← line (number (ascii "smooth=") (count 0 1))
+  rule ← line (number (ascii "rule=") (count equationRule listingRule)) or gives defaultRule
   scans ← line (number (ascii "scans=") (count 1 mostScans))
   plan ← lines scans scanLine
   guess ← rows (size .ny) (rowLine (size .nx))
   many ← line (number (ascii "stations=") (count 0 mostStations))
   stations ← lines many stationLine
   nothingAfter
-  gives (asking (size .nx) (size .ny) guess stations scans (map (λ t. t .radius) plan) (map (λ t. t .limit) plan) (eqb smooth 1) roundMode time age)
+  gives (asking (size .nx) (size .ny) guess stations scans (map (λ t. t .radius) plan) (map (λ t. t .limit) plan) (eqb smooth 1) roundMode rule time age)
 
 -- ---- the answer
 

@@ -143,12 +143,20 @@ roundMode = 0
 abbrev pub windMode : ℕ
 windMode = 1
 
+-- Rule 1 is document 01's, by the equations of 002, and rule 2 that of its listings, where a lone station stands apart (document 02, 6)
+abbrev pub equationRule : ℕ
+equationRule = 1
+
+abbrev pub listingRule : ℕ
+listingRule = 2
+
 pub record Plan : Type 0 where
   pub scans : ℕ
   pub radius : List ℤ
   pub limit : List ℤ
   pub smooth : Bool
   pub mode : ℕ
+  pub rule : ℕ
 
 -- R and E of scan m, counted from 0. In an accepted plan neither is negative
 unfoldable pub R : Plan → ℕ → ℕ
@@ -176,9 +184,9 @@ abbrev pub Call : Type 0
 Call = Asking Columns
 
 -- what is asked, from its parts: as a text says them, or a call is handed them
-abbrev pub asking : {S : Type 0} (nx ny : ℕ) (firstGuess : List ℤ) → S → (scans : ℕ) (radius limit : List ℤ) → Bool → (mode T A : ℕ) → Asking S
-asking nx ny firstGuess stations scans radius limit smooth mode T A =
-    let plan : Plan = record { scans = scans; radius = radius; limit = limit; smooth = smooth; mode = mode } in
+abbrev pub asking : {S : Type 0} (nx ny : ℕ) (firstGuess : List ℤ) → S → (scans : ℕ) (radius limit : List ℤ) → Bool → (mode rule T A : ℕ) → Asking S
+asking nx ny firstGuess stations scans radius limit smooth mode rule T A =
+    let plan : Plan = record { scans = scans; radius = radius; limit = limit; smooth = smooth; mode = mode; rule = rule } in
     record { nx = nx; ny = ny; firstGuess = firstGuess; stations = stations; plan = plan; T = T; A = A }
 
 -- the same, of other stations

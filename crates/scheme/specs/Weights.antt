@@ -5,6 +5,9 @@ use native.Mathlib.Omega.{arith}
 use native.Mathlib.Nat.{div-lt-iff-lt-mul, mul-div-cancel, mul-div-mul-left, mul-le-mul-left, zero-div}
 use mathlib.Core.Path.{_≡_, sym, ap}
 use mathlib.Core.Logic.{_⊎_, inl, inr}
+use mathlib.Core.Bool.{cond}
+use borrow.Author.Tests.{lt-ltb, le-ltb}
+use lib.Dec.{ltb}
 use Rattle.integers.specs.Fractions.{whole-part-order}
 use Rattle.lists.specs.Tests.{lt-or-le}
 use Rattle.scheme.specs.Weight.{scale, weight}
@@ -23,6 +26,14 @@ weight-most r2 d2 = go (lt-or-le d2 (r2))
         let some : 0 < r2 + d2 = omega arith in
         let l : scale * (r2 - d2) < (scale + 1) * (r2 + d2) = omega arith in
         unfold weight in omega (arith, div-lt-iff-lt-mul {k = r2 + d2} some .1 l)
+
+-- what is in the scale, and nothing from the radius on, is at most the whole scale inside and nothing outside
+pub inside-alone : (w r2 d2 : ℕ) → w ≤ scale → (r2 ≤ d2 → w ≡ 0) → w ≤ scale * cond (ltb d2 r2) 1 0
+inside-alone w r2 d2 h none = go (lt-or-le d2 r2)
+  where
+    go : (d2 < r2) ⊎ (r2 ≤ d2) → w ≤ scale * cond (ltb d2 r2) 1 0
+    go (inl l) = rw (lt-ltb d2 r2 l) (omega arith)
+    go (inr l) = rw (le-ltb d2 r2 l) (omega (arith, none l))
 
 pub weight-at-station : (r2 : ℕ) → 0 < r2 → weight r2 0 ≡ scale
 unfolding weight

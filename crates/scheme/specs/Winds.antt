@@ -37,7 +37,7 @@ withWinds mode f q =
       ny = q .ny;
       firstGuess = q .firstGuess;
       stations = map (withWind f) (q .stations);
-      plan = record { scans = q .plan .scans; radius = q .plan .radius; limit = q .plan .limit; smooth = q .plan .smooth; mode = mode };
+      plan = record { scans = q .plan .scans; radius = q .plan .radius; limit = q .plan .limit; smooth = q .plan .smooth; mode = mode; rule = q .plan .rule };
       T = q .T;
       A = q .A;
     }
@@ -153,8 +153,8 @@ module _ (q : Request) (mode : ℕ) (f : Wind → Wind) where
         same-corrected : corrected other m (after other m) ≡ corrected q m (after q m)
         same-corrected =
             unfold corrected in
-            (ap (λ (g : Field Sums). λ i j. after other m .field i j +ℤ correction (g i j)) same-sums
-            ∙ ap (λ (z : Field ℤ). λ i j. z i j +ℤ correction (sumsAt q m (after q m) i j)) (h .field))
+            (ap (λ (g : Field Sums). λ i j. after other m .field i j +ℤ correction (q .plan .rule) (g i j)) same-sums
+            ∙ ap (λ (z : Field ℤ). λ i j. z i j +ℤ correction (q .plan .rule) (sumsAt q m (after q m) i j)) (h .field))
 
   module _ (alike : All Alike (q .stations)) where
     same : (m : ℕ) → Same m
