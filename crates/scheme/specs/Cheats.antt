@@ -188,8 +188,8 @@ record Says (digits : ℕ) (sup left : List ℕ) : Type 0 where
 abbrev SaysFirst : (digits : ℕ) (sup answer : List ℕ) → Type 0
 SaysFirst digits sup answer = (after : List ℕ) → Says digits sup (answer ++ after)
 
-said : {digits : ℕ} {sup left after : List ℕ} (answer : List ℕ) → left ≡ answer ++ after → SaysFirst digits sup answer → Says digits sup left
-said {digits = digits} {sup = sup} {after = after} answer e h = subst (Says digits sup) (sym e) (h after)
+said : {digits : ℕ} {sup left : List ℕ} (answer after : List ℕ) → left ≡ answer ++ after → SaysFirst digits sup answer → Says digits sup left
+said {digits = digits} {sup = sup} answer after e h = subst (Says digits sup) (sym e) (h after)
 
 module _ (rule : ℕ) (ruled : Ruled rule) (found left left' left'' : List ℕ) (bytes bytes' bytes'' : ℕ) (asked-once : Replies (onceText rule) found bytes left)
     (asked-twice : Replies (twiceText rule) found bytes' left') (asked-smooth : Replies (smoothText rule) found bytes'' left'') where
@@ -203,13 +203,13 @@ module _ (rule : ℕ) (ruled : Ruled rule) (found left left' left'' : List ℕ) 
   text-smooth = text-ended (smoothText rule) found (example-text rule ruled .2) asked-smooth
 
   abbrev says-once : Says 87 (ascii "sup=1,1,1\nsup=1,1,1\nsup=1,1,1\n") left
-  says-once = said (onceAnswer rule) (text-once .1) (under-both (λ r. SaysFirst 87 (ascii "sup=1,1,1\nsup=1,1,1\nsup=1,1,1\n") (onceAnswer r)) (λ t. record { opening = refl; values = refl; supports = refl; verdicts = refl }) (λ t. record { opening = refl; values = refl; supports = refl; verdicts = refl }) rule ruled)
+  says-once = said (onceAnswer rule) (drop (length (onceAnswer rule)) found) (text-once .1) (under-both (λ r. SaysFirst 87 (ascii "sup=1,1,1\nsup=1,1,1\nsup=1,1,1\n") (onceAnswer r)) (λ t. record { opening = refl; values = refl; supports = refl; verdicts = refl }) (λ t. record { opening = refl; values = refl; supports = refl; verdicts = refl }) rule ruled)
 
   abbrev says-twice : Says 77 (ascii "sup=3,3,3\nsup=3,3,3\nsup=3,3,3\n") left'
-  says-twice = said (twiceAnswer rule) (text-twice .1) (under-both (λ r. SaysFirst 77 (ascii "sup=3,3,3\nsup=3,3,3\nsup=3,3,3\n") (twiceAnswer r)) (λ t. record { opening = refl; values = refl; supports = refl; verdicts = refl }) (λ t. record { opening = refl; values = refl; supports = refl; verdicts = refl }) rule ruled)
+  says-twice = said (twiceAnswer rule) (drop (length (twiceAnswer rule)) found) (text-twice .1) (under-both (λ r. SaysFirst 77 (ascii "sup=3,3,3\nsup=3,3,3\nsup=3,3,3\n") (twiceAnswer r)) (λ t. record { opening = refl; values = refl; supports = refl; verdicts = refl }) (λ t. record { opening = refl; values = refl; supports = refl; verdicts = refl }) rule ruled)
 
   abbrev says-smooth : Says (byRule rule 79 81) (ascii "sup=3,3,3\nsup=3,3,3\nsup=3,3,3\n") left''
-  says-smooth = said (smoothAnswer rule) (text-smooth .1) (under-both (λ r. SaysFirst (byRule r 79 81) (ascii "sup=3,3,3\nsup=3,3,3\nsup=3,3,3\n") (smoothAnswer r)) (λ t. record { opening = refl; values = refl; supports = refl; verdicts = refl }) (λ t. record { opening = refl; values = refl; supports = refl; verdicts = refl }) rule ruled)
+  says-smooth = said (smoothAnswer rule) (drop (length (smoothAnswer rule)) found) (text-smooth .1) (under-both (λ r. SaysFirst (byRule r 79 81) (ascii "sup=3,3,3\nsup=3,3,3\nsup=3,3,3\n") (smoothAnswer r)) (λ t. record { opening = refl; values = refl; supports = refl; verdicts = refl }) (λ t. record { opening = refl; values = refl; supports = refl; verdicts = refl }) rule ruled)
 
   pub text-no-refusal : (firstTwoLines left ≡ ascii "refusal=0\nplace=0\n") × (firstTwoLines left' ≡ ascii "refusal=0\nplace=0\n") × (firstTwoLines left'' ≡ ascii "refusal=0\nplace=0\n")
   text-no-refusal = (says-once .opening, says-twice .opening, says-smooth .opening)

@@ -7,7 +7,7 @@ use mathlib.Core.Path.{_≡_, refl, sym, ap, _∙_, fun-ext}
 use mathlib.Core.Logic.{_⊎_, inl, inr}
 use mathlib.Core.Bool.{Bool, true, false, cond, _&&_}
 use mathlib.Core.List.{List, [], _∷_, map}
-use borrow.Author.Tests.{le-leb, leb-true, eq-eqb, eqb-true}
+use borrow.Author.Tests.{le-leb, leb-true, ne-eqb, eqb-true}
 use lib.Dec.{leb, eqb}
 use lib.ListN.{length}
 use lib.IntN.{ℤ, pos, negsuc, negℤ, _+ℤ_, _-ℤ_, _*ℤ_, zero-*ℤ}
@@ -26,7 +26,7 @@ use Rattle.scheme.specs.Correction.{Sums, nothing, plus, share, isLone, 
 use Rattle.scheme.specs.Smoothing.{smoothed}
 use Rattle.scheme.specs.Scan.{State, start, differences, rowsJudged, sumsAt, corrected, scan, afterWithin, after, analysis}
 use Rattle.scheme.specs.Adding.{nothing-plus, plus-nothing}
-use Rattle.scheme.specs.Nearest.{half-size}
+use Rattle.scheme.specs.Nearest.{rounded-turned, half-size}
 use Rattle.scheme.specs.Streaks.{weight-lies-in-the-scale}
 use Rattle.scheme.specs.Gifts.{weighed, sums, insideThere, weightThere, accepted-gives, rejected-gives-nothing, outside-gives-nothing}
 use Rattle.scheme.specs.Stored.{Same, stored-same, sum-same, smoothed-same}
@@ -68,13 +68,13 @@ Toward D c = (leZ (pos 0) D ≡ true → amongℤ (pos 0) D c ≡ true) × (leZ 
 pub lone-moves-by-its-weight : (w : ℕ) (D : ℤ) → correction listingRule (weighed true w D) ≡ rounded (pos w *ℤ D) scale
 unfolding correction divisor rounded
 lone-moves-by-its-weight zero D = sym (ap (λ (z : ℤ). rounded z scale) (zero-*ℤ D))
-lone-moves-by-its-weight (suc w) D = refl
+lone-moves-by-its-weight (suc w) D = rw (ne-eqb (suc w) 0 (λ e. omega arith))
 
 -- under rule 1 by all of D, if it has any
 pub lone-moves-by-all-of-D : (w : ℕ) (D : ℤ) → 0 < w → correction equationRule (weighed true w D) ≡ D
 unfolding correction divisor
 lone-moves-by-all-of-D zero D h = absurd (omega arith)
-lone-moves-by-all-of-D (suc w) D h = go D
+lone-moves-by-all-of-D (suc w) D h = rw (ne-eqb (suc w) 0 (λ e. omega arith)) (go D)
   where
     whole : (n : ℕ) → halfUp (suc w * n) (suc w) ≡ n
     whole n =
@@ -84,27 +84,22 @@ lone-moves-by-all-of-D (suc w) D h = go D
 
     go : (D : ℤ) → rounded (pos (suc w) *ℤ D) (suc w) ≡ D
     go (pos n) = unfold rounded in ap pos (whole n)
-    go (negsuc n) = unfold rounded in ap (λ (t : ℕ). negℤ (pos t)) (whole (suc n))
+    go (negsuc n) = rounded-turned (suc w * suc n) (suc w) (omega arith) ∙ ap (λ (t : ℕ). negℤ (pos t)) (whole (suc n))
 
 module _ (w : ℕ) (within : w ≤ scale) where
   size : (n : ℕ) → halfUp (w * n) scale ≤ n
   size n = half-size (w * n) scale n (omega (arith, mul-le-mul-right n within))
 
   up-to : (n h : ℕ) → h ≤ n → Toward (pos n) (pos h)
-  up-to n h l = (λ e. le-leb h n l, λ e. (let none : n ≤ 0 = leb-true n 0 e in rw (le-leb n h (omega arith), le-leb h 0 (omega arith))))
+  up-to n h l = (λ e. rw (le-leb 0 h (omega arith), le-leb h n l), λ e. (let none : n ≤ 0 = leb-true n 0 e in rw (le-leb n h (omega arith), le-leb h 0 (omega arith))))
 
   down-to : (n h : ℕ) → h ≤ suc n → Toward (negsuc n) (negℤ (pos h))
   down-to n zero l = (λ e. absurd (not-both (sym e)), λ e. refl)
   down-to n (suc h) l = (λ e. absurd (not-both (sym e)), λ e. rw (le-leb h n (omega arith)))
 
-  turned : (n : ℕ) → rounded (negℤ (pos n)) scale ≡ negℤ (pos (halfUp n scale))
-  unfolding rounded
-  turned zero = refl
-  turned (suc n) = refl
-
   toward : (D : ℤ) → Toward D (rounded (pos w *ℤ D) scale)
   toward (pos n) = unfold rounded in up-to n (halfUp (w * n) scale) (size n)
-  toward (negsuc n) = rw (turned (w * suc n)) (down-to n (halfUp (w * suc n) scale) (size (suc n)))
+  toward (negsuc n) = rw (rounded-turned (w * suc n) scale (omega arith)) (down-to n (halfUp (w * suc n) scale) (size (suc n)))
 
   -- so that under rule 2 a lone station never moves a point away from its reading, nor past it
   pub lone-moves-toward-D : (D : ℤ) → Toward D (correction listingRule (weighed true w D))
@@ -150,31 +145,33 @@ module _ (mode radius : ℕ) (D : Station → ℤ) (i j : ℕ) where
   none-inside : (rows : List Row) → sums mode radius D rows i j .inside ≡ 0 → sums mode radius D rows i j ≡ nothing
   unfolding total
   none-inside [] e = refl
-  none-inside (r ∷ rows) e = go (share-is r)
+  none-inside (r ∷ rows) e = go (share-is r) (none-inside rows)
     where
       go : ((heard r ≡ true) × (share mode radius D i j r ≡ gives r)) ⊎ ((heard r ≡ false) × (share mode radius D i j r ≡ nothing))
+          → (sums mode radius D rows i j .inside ≡ 0 → sums mode radius D rows i j ≡ nothing)
           → plus (share mode radius D i j r) (sums mode radius D rows i j) ≡ nothing
-      go (inl (h, s)) = absurd (let n = ap (λ (t : Sums). t .inside) s in omega arith)
-      go (inr (h, s)) =
+      go (inl (h, s)) rest = absurd (let n = ap (λ (t : Sums). t .inside) s in omega arith)
+      go (inr (h, s)) rest =
           let n = ap (λ (t : Sums). t .inside) s in
-          rw (s, none-inside rows (omega arith)) (nothing-plus nothing)
+          rw (s, rest (omega arith)) (nothing-plus nothing)
 
   -- exactly one is inside: it alone is what the point hears
   pub lone-is-heard-alone : (rows : List Row) → sums mode radius D rows i j .inside ≡ 1
       → Some (λ r. (isHeard radius i j r ≡ true) × (sums mode radius D rows i j ≡ weighed true (weightThere mode radius i j r) (D (r .station)))) rows
   unfolding total
   lone-is-heard-alone [] e = absurd (omega arith)
-  lone-is-heard-alone (r ∷ rows) e = go (share-is r)
+  lone-is-heard-alone (r ∷ rows) e = go (share-is r) (lone-is-heard-alone rows)
     where
       go : ((heard r ≡ true) × (share mode radius D i j r ≡ gives r)) ⊎ ((heard r ≡ false) × (share mode radius D i j r ≡ nothing))
+          → (sums mode radius D rows i j .inside ≡ 1 → Some (λ o. (heard o ≡ true) × (sums mode radius D rows i j ≡ gives o)) rows)
           → Some (λ o. (heard o ≡ true) × (plus (share mode radius D i j r) (sums mode radius D rows i j) ≡ gives o)) (r ∷ rows)
-      go (inl (h, s)) =
+      go (inl (h, s)) rest =
           let n = ap (λ (t : Sums). t .inside) s in
-          here (h, rw (s, none-inside rows (omega arith)) (plus-nothing (gives r)))
-      go (inr (h, s)) =
+          here {a = r} (h, rw (s, none-inside rows (omega arith)) (plus-nothing (gives r)))
+      go (inr (h, s)) rest =
           let n = ap (λ (t : Sums). t .inside) s in
           later (some-also _ (λ o. (heard o ≡ true) × (plus (share mode radius D i j r) (sums mode radius D rows i j) ≡ gives o))
-          (λ o k. (k .0, rw s (nothing-plus (sums mode radius D rows i j) ∙ k .1))) (lone-is-heard-alone rows (omega arith)))
+          (λ o k. (k .0, rw s (nothing-plus (sums mode radius D rows i j) ∙ k .1))) (rest (omega arith)))
 
 -- ---- a scan, from the same state
 
@@ -235,14 +232,19 @@ pub of-one-scan-the-rules-support-and-judge-alike : (q : Request) (rule : ℕ) �
     → (analysis (withRule rule q) .support ≡ analysis q .support) × (analysis (withRule rule q) .verdict ≡ analysis q .verdict)
 unfolding analysis
 of-one-scan-the-rules-support-and-judge-alike q rule one =
-    rw one
-    (ap (stored (q .nx) (q .ny)) (first-support ∙ rules-support-alike q rule 0 (after q 0)), ap (map (λ (r : Row). r .verdict)) (first-rows ∙ rules-judge-alike q rule 0 (after q 0)))
+    (ap (λ (n : ℕ). stored (q .nx) (q .ny) (after (withRule rule q) n .support)) one
+    ∙ ap (stored (q .nx) (q .ny)) first-support
+    ∙ ap (λ (n : ℕ). stored (q .nx) (q .ny) (after q n .support)) (sym one),
+    ap (λ (n : ℕ). verdicts (after (withRule rule q) n .rows)) one ∙ ap verdicts first-rows ∙ ap (λ (n : ℕ). verdicts (after q n .rows)) (sym one))
   where
-    first-support : after (withRule rule q) 1 .support ≡ scan (withRule rule q) 0 (after q 0) .support
-    first-support = unfold afterWithin start guess in refl
+    verdicts : List Row → List ℕ
+    verdicts = map (λ (r : Row). r .verdict)
 
-    first-rows : after (withRule rule q) 1 .rows ≡ rowsJudged (withRule rule q) 0 (after q 0)
-    first-rows = unfold afterWithin scan start guess in refl
+    first-support : after (withRule rule q) 1 .support ≡ after q 1 .support
+    first-support = unfold afterWithin start guess in rules-support-alike q rule 0 (after q 0)
+
+    first-rows : after (withRule rule q) 1 .rows ≡ after q 1 .rows
+    first-rows = unfold afterWithin scan start guess in rules-judge-alike q rule 0 (after q 0)
 
 -- where no scan finds exactly one station inside at any point of the grid, the rules have one answer
 module _ (q : Request) (rule : ℕ) (wide : 2 ≤ q .nx) (high : 2 ≤ q .ny)

@@ -1,8 +1,8 @@
 -- The rounded quotient is the nearest whole number, halves away from zero: that is its property, and it has no other answer.
-use Prim.Native.Nat.{ℕ, zero, suc, _+_, _-_, _*_, _≤_, _<_}
+use Prim.Native.Nat.{ℕ, zero, suc, _+_, _-_, _*_, _/_, _≤_, _<_}
 use native.Mathlib.Omega.{arith}
-use native.Mathlib.Nat.{div-mul-le-self, lt-div-mul-add, mul-le-mul-right, div-zero, div-lt-iff-lt-mul}
-use mathlib.Core.Path.{_≡_, sym, ap, _∙_}
+use native.Mathlib.Nat.{div-eq-of-lt, div-mul-le-self, lt-div-mul-add, mul-le-mul-right, div-zero, div-lt-iff-lt-mul}
+use mathlib.Core.Path.{_≡_, refl, sym, ap, _∙_}
 use mathlib.Core.Logic.{_⊎_, inl, inr}
 use lib.IntN.{ℤ, pos, negsuc, negℤ, natAbs, _-ℤ_, _*ℤ_, negℤ-negℤ}
 use Rattle.integers.specs.Parts.{up, dn, eq-parts, minus-parts, mul-parts, neg-up, neg-dn}
@@ -143,6 +143,12 @@ nearest-is-one (negsuc n) d r s some p q =
     sym (negℤ-negℤ r)
     ∙ ap negℤ (one-pos (suc n) d (negℤ r) (negℤ s) some (turned (negsuc n) d r p) (turned (negsuc n) d s q))
     ∙ negℤ-negℤ s
+
+-- a quotient turned about zero
+pub rounded-turned : (n d : ℕ) → 0 < d → rounded (negℤ (pos n)) d ≡ negℤ (pos (halfUp n d))
+unfolding rounded
+rounded-turned zero d some = let e : (2 * 0 + d) / (2 * d) ≡ 0 = div-eq-of-lt (omega arith) in rw e
+rounded-turned (suc n) d some = refl
 
 -- what is at most `most` times d is, over d and rounded, at most `most`
 pub half-size : (n d most : ℕ) → n ≤ most * d → halfUp n d ≤ most

@@ -504,7 +504,10 @@ module _ (q : Request) (r : InRange q) where
 
   pub rule-1-may-be-left-out : q .plan .rule ≡ equationRule
       → requestLines (1, shorterText q) ≡ reads q (suc (6 + q .plan .scans + q .ny) + length (q .stations), [])
-  rule-1-may-be-left-out e = head-read [] ∙ rw (rule-absent, line, _or_, sym e) (rest-reads-back 5)
+  rule-1-may-be-left-out e =
+      head-read []
+      ∙ rw (rule-absent, line, _or_)
+      (ap (λ (rule : ℕ). fromScans (record { nx = q .nx; ny = q .ny }) (q .T) (q .A) (cond (q .plan .smooth) 1 0) rule (5, afterRule)) (sym e) ∙ rest-reads-back 5)
 
 -- no two requests print alike
 same-read : {L F A : Type 0} {a b : A} {l n : L} → _≡_ {A = Result L F A} (reads a l) (reads b n) → a ≡ b

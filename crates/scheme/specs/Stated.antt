@@ -406,11 +406,10 @@ module _ (q : Request) (rule m : ℕ) (found : State) where
   -- there under rule 2 the point moves by that station's weight·D over the scale, which has the sign of D and at most its size, and under rule 1 by all
   -- of D, if it has weight
   pub lone-station-moves-alone : (i j : ℕ) → eqb (sumsAt q m found i j .inside) 1 ≡ true
-      → Some (λ r. (insideAt i j r ≡ true) × (sumsAt q m found i j .weights ≡ weighs i j r)
-      × (let D = differences q found (r .station) in let c = correction 2 (sumsAt q m found i j) in
-      (c ≡ rounded (pos (weighs i j r) *ℤ D) 10000)
+      → Some (λ r. let D = differences q found (r .station) in let c = correction 2 (sumsAt q m found i j) in
+      (insideAt i j r ≡ true) × (sumsAt q m found i j .weights ≡ weighs i j r) × (c ≡ rounded (pos (weighs i j r) *ℤ D) 10000)
       × ((leZ (pos 0) D ≡ true → (leZ (pos 0) c && leZ c D) ≡ true) × (leZ D (pos 0) ≡ true → (leZ D c && leZ c (pos 0)) ≡ true))
-      × (0 < weighs i j r → correction 1 (sumsAt q m found i j) ≡ D))) (rowsJudged q m found)
+      × (0 < weighs i j r → correction 1 (sumsAt q m found i j) ≡ D)) (rowsJudged q m found)
   lone-station-moves-alone i j e =
       some-also (lones.MovesAlone q rule m found i j) _ (λ r a. (a .accepted-inside, a .weight, a .by-its-weight, a .toward-D, a .by-all-of-D))
       (lones.lone-station-moves-alone q rule m found i j e)

@@ -1,5 +1,6 @@
 -- "Numbers to hold on to": the cases (a) to (i), as a single table of the definitions, and its proof.
 use Prim.Native.Nat.{ℕ, _*_}
+use native.Mathlib.Omega.{arith}
 use mathlib.Core.Path.{_≡_, refl}
 use mathlib.Core.Bool.{true, false, cond, _&&_}
 use mathlib.Core.List.{List, [], _∷_}
@@ -53,7 +54,7 @@ pub record Table : Type 0 where
   pub g : (q : Request) → q .stations ≡ [] → q .plan .smooth ≡ false → (m i j : ℕ)
       → (after q m .field i j ≡ guess q i j) × (after q m .support i j ≡ 0)
   pub h : reach twoScans ≡ 5
-  pub i : answerText onceText ≡ onceAnswer
+  pub i : answerText (onceText equationRule) ≡ onceAnswer equationRule
 
 -- ---- its proof, by computation but for (g), which holds of every request
 
@@ -113,5 +114,5 @@ table =
       f = case-f;
       g = case-g;
       h = case-h;
-      i = example-text .0;
+      i = example-text equationRule (omega arith, omega arith) .0;
     }
