@@ -28,7 +28,7 @@ module _ (c : Call) (t : Terms) (numbers : List (List ℤ)) (minutes : List (Lis
   loaded = held t c numbers minutes says rows
 
   past-five : Handed c → Formed q
-  past-five h = formed t c numbers minutes says rows (h .shape) (h .equal) (h .scans-some) (h .scans-few) (h .known)
+  past-five h = formed t c numbers minutes says rows (h .shape) (h .equal) (h .scans-some) (h .scans-few) (h .known) (h .ruled)
 
   -- ---- the whole analysis
 

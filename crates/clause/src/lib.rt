@@ -24,13 +24,14 @@ pub extern "C" fn sosnyavik_analyse(
     limit: &[i32],
     smooth: bool,
     mode: u32,
+    rule: u32,
     time: u32,
     age: u32,
     grid: &mut [i32],
     support: &mut [u8],
     verdict: &mut [u8],
 ) -> u32
-    ensures { λ r. ⌜ Analyses (asking nx ny (now (guess .entry)) (eightColumns (now (x .entry)) (now (y .entry)) (now (value .entry)) (now (observed .entry)) (now (from .entry)) (now (until .entry)) (now («wind_u» .entry)) (now («wind_v» .entry))) count (now (radius .entry)) (now (limit .entry)) smooth mode time age) (slices (now (grid .entry)) (now (support .entry)) (now (verdict .entry))) r (slices (now (grid .exit)) (now (support .exit)) (now (verdict .exit))) ⌝ }
+    ensures { λ r. ⌜ Analyses (asking nx ny (now (guess .entry)) (eightColumns (now (x .entry)) (now (y .entry)) (now (value .entry)) (now (observed .entry)) (now (from .entry)) (now (until .entry)) (now («wind_u» .entry)) (now («wind_v» .entry))) count (now (radius .entry)) (now (limit .entry)) smooth mode rule time age) (slices (now (grid .entry)) (now (support .entry)) (now (verdict .entry))) r (slices (now (grid .exit)) (now (support .exit)) (now (verdict .exit))) ⌝ }
 {
     let l = refusal_shapes::lengths_of(
         nx,
@@ -48,6 +49,7 @@ pub extern "C" fn sosnyavik_analyse(
         radius,
         limit,
         mode,
+        rule,
     );
     let refused = refusal::of_lengths(l, grid.len(), support.len(), verdict.len());
     if refused != 0 {
@@ -76,6 +78,7 @@ pub extern "C" fn sosnyavik_analyse(
         limit,
         smooth,
         mode,
+        rule,
         time,
         age,
     );
@@ -104,12 +107,13 @@ pub extern "C" fn sosnyavik_window(
     limit: &[i32],
     smooth: bool,
     mode: u32,
+    rule: u32,
     time: u32,
     age: u32,
     grid: &mut [i32],
     support: &mut [u8],
 ) -> u32
-    ensures { λ r. ⌜ Queries (asking nx ny (now (guess .entry)) (eightColumns (now (x .entry)) (now (y .entry)) (now (value .entry)) (now (observed .entry)) (now (from .entry)) (now (until .entry)) (now («wind_u» .entry)) (now («wind_v» .entry))) count (now (radius .entry)) (now (limit .entry)) smooth mode time age) (windowAt left right top bottom) (tile (now (grid .entry)) (now (support .entry))) r (tile (now (grid .exit)) (now (support .exit))) ⌝ }
+    ensures { λ r. ⌜ Queries (asking nx ny (now (guess .entry)) (eightColumns (now (x .entry)) (now (y .entry)) (now (value .entry)) (now (observed .entry)) (now (from .entry)) (now (until .entry)) (now («wind_u» .entry)) (now («wind_v» .entry))) count (now (radius .entry)) (now (limit .entry)) smooth mode rule time age) (windowAt left right top bottom) (tile (now (grid .entry)) (now (support .entry))) r (tile (now (grid .exit)) (now (support .exit))) ⌝ }
 {
     let l = refusal_shapes::lengths_of(
         nx,
@@ -127,6 +131,7 @@ pub extern "C" fn sosnyavik_window(
         radius,
         limit,
         mode,
+        rule,
     );
     let w = Window {
         left: left as usize,
@@ -161,6 +166,7 @@ pub extern "C" fn sosnyavik_window(
         limit,
         smooth,
         mode,
+        rule,
         time,
         age,
     );
@@ -189,12 +195,13 @@ pub extern "C" fn sosnyavik_windows(
     limit: &[i32],
     smooth: bool,
     mode: u32,
+    rule: u32,
     time: u32,
     age: u32,
     grid: &mut [i32],
     support: &mut [u8],
 ) -> u32
-    ensures { λ r. ⌜ QueriesEach (asking nx ny (now (guess .entry)) (eightColumns (now (x .entry)) (now (y .entry)) (now (value .entry)) (now (observed .entry)) (now (from .entry)) (now (until .entry)) (now («wind_u» .entry)) (now («wind_v» .entry))) count (now (radius .entry)) (now (limit .entry)) smooth mode time age) (fourColumns (now (left .entry)) (now (right .entry)) (now (top .entry)) (now (bottom .entry))) (tile (now (grid .entry)) (now (support .entry))) r (tile (now (grid .exit)) (now (support .exit))) ⌝ }
+    ensures { λ r. ⌜ QueriesEach (asking nx ny (now (guess .entry)) (eightColumns (now (x .entry)) (now (y .entry)) (now (value .entry)) (now (observed .entry)) (now (from .entry)) (now (until .entry)) (now («wind_u» .entry)) (now («wind_v» .entry))) count (now (radius .entry)) (now (limit .entry)) smooth mode rule time age) (fourColumns (now (left .entry)) (now (right .entry)) (now (top .entry)) (now (bottom .entry))) (tile (now (grid .entry)) (now (support .entry))) r (tile (now (grid .exit)) (now (support .exit))) ⌝ }
 {
     let l = refusal_shapes::lengths_of(
         nx,
@@ -212,6 +219,7 @@ pub extern "C" fn sosnyavik_windows(
         radius,
         limit,
         mode,
+        rule,
     );
     let unequal = refusal::of_screen_columns(l, left.len(), right.len(), top.len(), bottom.len());
     if unequal != 0 {
@@ -245,6 +253,7 @@ pub extern "C" fn sosnyavik_windows(
         limit,
         smooth,
         mode,
+        rule,
         time,
         age,
     );

@@ -12,7 +12,7 @@ use Rattle.lists.specs.First.{firstIn, ended, Good, first-good, in-table}
 use Rattle.lists.specs.Members.{All, none, more}
 use Rattle.scheme.specs.Units.{mostSide, mostScans, windMode, Call, asked}
 use Rattle.scheme.specs.Refusals.{Refusal, accepted, inOrder, refusedIf, refusedWith, refusedAt, badShape, Window, badWindow, mostWindows, Screen, windowOn, windowsOf, badScreen, pointsOf, pointsOfAll, badLengths, badColumns, badScans, fromFive, analysisRefusal, windowRefusal, screenRefusal}
-use Rattle.scheme.specs.Accepted.{all-accepted, not-refused, nowhere-refused, Shaped, shaped, Equal, equal, scans-fit, fromSix, FitsWindow, FitsScreen, long, OnGrid, on-grid, wider, EqualScreen, equal-screen}
+use Rattle.scheme.specs.Accepted.{all-accepted, not-refused, nowhere-refused, Shaped, shaped, Equal, equal, Ruled, scans-fit, fromSix, FitsWindow, FitsScreen, long, OnGrid, on-grid, wider, EqualScreen, equal-screen}
 use Rattle.request.specs.declared.Screen.{Screen as Windows}
 use Rattle.request.specs.Tables.{windowNo, windowsIn, OnScreen}
 use Rattle.refusal_shapes.specs.declared.Lengths.{Lengths}
@@ -59,13 +59,14 @@ pub record Handed (c : Call) : Type 0 where
   pub radii : c .plan .scans ≤ length (c .plan .radius)
   pub limits : c .plan .scans ≤ length (c .plan .limit)
   pub known : c .plan .mode ≤ windMode
+  pub ruled : Ruled (c .plan .rule)
 
 handed : (c : Call) → Shaped (c .nx) (c .ny) (length (c .firstGuess)) → unequalColumns (lengthsOf c) ≡ false → badScanCount (lengthsOf c) ≡ false
     → Handed c
 unfolding badColumns
 handed c shape four five =
-    let (some, few, radii, limits, known) = scans-fit _ _ _ _ five in
-    record { shape = shape; equal = equal (c .stations) four; scans-some = some; scans-few = few; radii = radii; limits = limits; known = known }
+    let (some, few, radii, limits, known, ruled) = scans-fit _ _ _ _ _ five in
+    record { shape = shape; equal = equal (c .stations) four; scans-some = some; scans-few = few; radii = radii; limits = limits; known = known; ruled = ruled }
 
 -- ---- the whole analysis
 

@@ -4,7 +4,7 @@ use Prim.Native.Nat.{ℕ}
 use mathlib.Core.Bool.{Bool, not, _||_}
 use lib.Dec.{ltb, eqb}
 use lib.ListN.{length}
-use Rattle.scheme.specs.Units.{among, mostStations, mostScans, windMode, Call}
+use Rattle.scheme.specs.Units.{among, mostStations, mostScans, windMode, equationRule, listingRule, Call}
 use Rattle.scheme.specs.Refusals.{mostWindows}
 use Rattle.refusal_shapes.specs.declared.Lengths.{Lengths}
 
@@ -27,6 +27,7 @@ lengthsOf c =
       radius = length (c .plan .radius);
       limit = length (c .plan .limit);
       mode = c .plan .mode;
+      rule = c .plan .rule;
     }
 
 abbrev pub unequalScreen : (left right top bottom : ℕ) → Bool
@@ -41,3 +42,4 @@ unequalColumns l =
 abbrev pub badScanCount : Lengths → Bool
 badScanCount l =
     not (among 1 mostScans (l .scans)) || ltb (l .radius) (l .scans) || ltb (l .limit) (l .scans) || ltb windMode (l .mode)
+    || not (among equationRule listingRule (l .rule))

@@ -28,9 +28,10 @@ pub struct Lengths {
     pub radius: usize,
     pub limit: usize,
     pub mode: u32,
+    pub rule: u32,
 }
 
-// The lengths of a call, by the slices that it is lent, and its counts and mode; what else it asks is not measured.
+// The lengths of a call, by the slices that it is lent, its counts, mode and rule; what else it asks is not measured.
 pub fn lengths_of(
     nx: u32,
     ny: u32,
@@ -47,8 +48,9 @@ pub fn lengths_of(
     radius: &[i32],
     limit: &[i32],
     mode: u32,
+    rule: u32,
 ) -> Lengths
-    ensures { λ r. ⌜ r ≡ lengthsOf (asking nx ny (now (guess .entry)) (eightColumns (now (x .entry)) (now (y .entry)) (now (value .entry)) (now (observed .entry)) (now (from .entry)) (now (until .entry)) (now («wind_u» .entry)) (now («wind_v» .entry))) scans (now (radius .entry)) (now (limit .entry)) false mode 0 0) ⌝ }
+    ensures { λ r. ⌜ r ≡ lengthsOf (asking nx ny (now (guess .entry)) (eightColumns (now (x .entry)) (now (y .entry)) (now (value .entry)) (now (observed .entry)) (now (from .entry)) (now (until .entry)) (now («wind_u» .entry)) (now («wind_v» .entry))) scans (now (radius .entry)) (now (limit .entry)) false mode rule 0 0) ⌝ }
 {
     Lengths {
         nx: nx as usize,
@@ -66,6 +68,7 @@ pub fn lengths_of(
         radius: radius.len(),
         limit: limit.len(),
         mode,
+        rule,
     }
 }
 
@@ -152,7 +155,7 @@ pub fn columns_bad(l: Lengths) -> bool
         | (512 < l.x)
 }
 
-// 5: scan count out of 1..6, or a plan column shorter than it, or another mode
+// 5: scan count out of 1..6, or a plan column shorter than it, or another mode or rule
 pub fn scans_bad(l: Lengths) -> bool
     ensures { λ r. ⌜ r ≡ badScanCount l ⌝ }
 {
@@ -160,4 +163,5 @@ pub fn scans_bad(l: Lengths) -> bool
         | (l.radius < l.scans)
         | (l.limit < l.scans)
         | (request::ALONG_WIND < l.mode)
+        | !((request::EQUATIONS <= l.rule) & (l.rule <= request::LISTINGS))
 }

@@ -12,7 +12,7 @@ use Rattle.scheme.specs.Refusals.{Window, windowsOf}
 use Rattle.scheme.specs.Scan.{analysis}
 use Rattle.scheme.specs.Reach.{wholeAt, wholeAtEach}
 use Rattle.scheme.specs.Promises.{eightColumns, fourColumns}
-use Rattle.scheme.specs.Accepted.{Shaped, Equal, fromSix, Formed}
+use Rattle.scheme.specs.Accepted.{Shaped, Equal, Ruled, fromSix, Formed}
 use Rattle.scheme.specs.Entries.{withPlan, UpToCount, entries-past-the-count-change-no-analysis, entries-past-the-count-change-no-window, same-from-six}
 use Rattle.request.specs.declared.Terms.{Terms}
 use Rattle.request.specs.declared.Window.{Window as Ends}
@@ -106,8 +106,8 @@ module _ (t : Terms) (c : Call) (numbers : List (List ℤ)) (minutes : List (Lis
 
   -- it passes the rows before 6 as the call does
   pub formed : Shaped (c .nx) (c .ny) (length (c .firstGuess)) → Equal (c .stations) → 1 ≤ c .plan .scans → c .plan .scans ≤ mostScans → c .plan .mode ≤ windMode
-      → Formed (requestIn t (c .firstGuess) numbers minutes)
-  formed shape equal some few known =
+      → Ruled (c .plan .rule) → Formed (requestIn t (c .firstGuess) numbers minutes)
+  formed shape equal some few known ruled =
       let s = says .plan .scans in
       record {
         shape = rw (says .nx-is, says .ny-is) shape;
@@ -117,4 +117,5 @@ module _ (t : Terms) (c : Call) (numbers : List (List ℤ)) (minutes : List (Lis
         radii = omega (arith, s, says .radii);
         limits = omega (arith, s, says .limits);
         known = rw (says .plan .mode) known;
+        ruled = rw (says .plan .rule) ruled;
       }

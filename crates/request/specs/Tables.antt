@@ -33,7 +33,7 @@ abbrev pub stationIn : List (List ℤ) → List (List ℕ) → ℕ → Station
 stationIn numbers minutes k = stationOf (getD numbers k []) (getD minutes k [])
 
 abbrev pub planIn : Terms → Plan
-planIn t = record { scans = t .scans; radius = t .radius; limit = t .limit; smooth = t .smooth; mode = t .mode }
+planIn t = record { scans = t .scans; radius = t .radius; limit = t .limit; smooth = t .smooth; mode = t .mode; rule = t .rule }
 
 -- the request
 abbrev pub requestIn : Terms → List ℤ → List (List ℤ) → List (List ℕ) → Request

@@ -41,6 +41,11 @@ pub const ROUND: u32 = 0;
 
 pub const ALONG_WIND: u32 = 1;
 
+// The rules for a lone station: that of the equations, and that of the listings.
+pub const EQUATIONS: u32 = 1;
+
+pub const LISTINGS: u32 = 2;
+
 // The most windows of a screen, and the place of a refusal for its columns.
 pub const MOST_WINDOWS: usize = 16;
 
@@ -54,6 +59,7 @@ pub struct Terms {
     pub limit: [i32; 6],
     pub smooth: bool,
     pub mode: u32,
+    pub rule: u32,
     pub time: u32,
     pub age: u32,
 }
@@ -98,11 +104,12 @@ pub fn terms_of(
     limit: &[i32],
     smooth: bool,
     mode: u32,
+    rule: u32,
     time: u32,
     age: u32,
 ) -> Terms
     requires { ⌜ (scans ≤ mostScans) × (scans ≤ length (now radius)) × (scans ≤ length (now limit)) ⌝ }
-    ensures { λ t. ⌜ Termed t nx ny stations (record { scans = scans; radius = now (radius .entry); limit = now (limit .entry); smooth = smooth; mode = mode }) time age ⌝ }
+    ensures { λ t. ⌜ Termed t nx ny stations (record { scans = scans; radius = now (radius .entry); limit = now (limit .entry); smooth = smooth; mode = mode; rule = rule }) time age ⌝ }
 {
     let radii = first_entries(radius, scans as usize);
     let limits = first_entries(limit, scans as usize);
@@ -115,6 +122,7 @@ pub fn terms_of(
         limit: limits,
         smooth,
         mode,
+        rule,
         time,
         age,
     }

@@ -18,7 +18,7 @@ use Rattle.scheme.specs.Streaks.{Fair}
 use Rattle.scheme.specs.Gifts.{weighed, gift-weighed}
 use Rattle.scan_weight.specs.Along.{calmed, calmed-fair, weightBy, beyond, weightBy-most, by-wind, mostStrength, strength-small, mostPart, part-small}
 use Rattle.scan_point.specs.Near.{Stations, windIn, xAt, yAt, windAt, verdictAt, dAt, shareAt, Slight, weighed-slight, rowGap, Inside, Ready, Near, near-is-accepted, near-step, accepted-shares}
-use Rattle.scan_point.specs.Round.{Sized, Roomy, roomy-set, sized-set, new-x, new-y, new-d, next-sized}
+use Rattle.scan_point.specs.Round.{insideIn, Sized, Roomy, roomy-set, sized-set, new-x, new-y, new-d, next-sized}
 
 -- of a wind, for the points of a row that the station is dy off
 abbrev pub streakOf : Wind → ℤ → List ℤ
@@ -72,6 +72,10 @@ along-slight lx ly ld lw r2 i t s =
     weighed-slight (ltb d2 r2) w (getD ld t (pos 0))
     (inside-alone w r2 d2 (weightBy-most r2 d2 (strengthAt (getD lw t [])) (qAt (getD lw t []) dx)) (beyond r2 d2 (strengthAt (getD lw t [])) (qAt (getD lw t []) dx)))
     (s .sized .d-small)
+
+pub along-inside : (lx : List ℤ) (ly : List ℕ) (ld : List ℤ) (lw : List (List ℤ)) (r2 i t : ℕ) → alongShare lx ly ld lw r2 i t .inside ≡ insideIn lx ly r2 i t
+unfolding alongShare insideIn
+along-inside lx ly ld lw r2 i t = refl
 
 -- ---- gathering
 

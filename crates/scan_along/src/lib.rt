@@ -165,16 +165,18 @@ fn correct_row(
     lw: &[[i32; 3]; 512],
     n: usize,
     r2: u32,
+    rule: u32,
     bit: u8,
 )
     requires { ⌜ RowReady (now z) (now support) base nx (alongShare (now lx) (now ly) (now ld) (now lw) r2) n bit × (r2 ≤ mostSquare) × ((t : ℕ) → t < n → SizedAlong (now lx) (now ly) (now ld) (now lw) t) ⌝ }
-    ensures { λ u. ⌜ Filled (pos 0) (rowZ (now (z .entry)) (alongShare (now (lx .entry)) (now (ly .entry)) (now (ld .entry)) (now (lw .entry)) r2) n base) base (base + nx) (now (z .entry)) (now (z .exit))
+    ensures { λ u. ⌜ Filled (pos 0) (rowZ rule (now (z .entry)) (alongShare (now (lx .entry)) (now (ly .entry)) (now (ld .entry)) (now (lw .entry)) r2) n base) base (base + nx) (now (z .entry)) (now (z .exit))
         × Filled 0 (rowS (now (support .entry)) (alongShare (now (lx .entry)) (now (ly .entry)) (now (ld .entry)) (now (lw .entry)) r2) n bit base) base (base + nx) (now (support .entry)) (now (support .exit)) ⌝ }
 {
     let mut i: usize = 0;
     while i < nx {
         let s = point_sums(lx, ly, ld, lw, n, i, r2);
-        scan_point::set_point(z, support, base + i, s.w, s.wd, bit);
+        let over = scan_point::divisor(rule, s.w, lx, ly, n, i, r2);
+        scan_point::set_point(z, support, base + i, s.w, s.wd, over, bit);
         i += 1;
     }
 }
@@ -194,7 +196,7 @@ pub fn correct(
     bit: u8,
 )
     requires { ⌜ PassReady (now z) (now support) (t .nx) (t .ny) (stationsWith windMode (t .stations) (now numbers) (now verdict) (now d)) radius bit × Roomy (now lx) (now ly) (now ld) ⌝ }
-    ensures { λ u. ⌜ Roomy (now (lx .exit)) (now (ly .exit)) (now (ld .exit)) × (now (z .exit) ≡ stored (t .nx) (t .ny) (corrected (now (z .entry)) (t .nx) (stationsWith windMode (t .stations) (now (numbers .entry)) (now (verdict .entry)) (now (d .entry))) (radius * radius)))
+    ensures { λ u. ⌜ Roomy (now (lx .exit)) (now (ly .exit)) (now (ld .exit)) × (now (z .exit) ≡ stored (t .nx) (t .ny) (corrected (t .rule) (now (z .entry)) (t .nx) (stationsWith windMode (t .stations) (now (numbers .entry)) (now (verdict .entry)) (now (d .entry))) (radius * radius)))
         × (now (support .exit) ≡ stored (t .nx) (t .ny) (backed (now (support .entry)) (t .nx) (stationsWith windMode (t .stations) (now (numbers .entry)) (now (verdict .entry)) (now (d .entry))) (radius * radius) bit)) ⌝ }
 {
     let r2 = radius * radius;
@@ -202,7 +204,20 @@ pub fn correct(
     let mut j: usize = 0;
     while j < t.ny {
         let n = near_row(lx, ly, ld, &mut lw, t.stations, numbers, verdict, d, r2, j);
-        correct_row(z, support, j * t.nx, t.nx, lx, ly, ld, &lw, n, r2, bit);
+        correct_row(
+            z,
+            support,
+            j * t.nx,
+            t.nx,
+            lx,
+            ly,
+            ld,
+            &lw,
+            n,
+            r2,
+            t.rule,
+            bit,
+        );
         j += 1;
     }
 }

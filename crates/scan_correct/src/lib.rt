@@ -1,4 +1,4 @@
-// One correction of a whole grid (document 01, "One scan", Correction), in the plan's mode (document 02, 5).
+// One correction of a whole grid (document 01, "One scan", Correction), in the plan's mode (document 02, 5) and under its rule (document 02, 6).
 ghost use mathlib.Core.Path.{_≡_};
 ghost use Prim.Native.Nat.{_*_};
 ghost use Rattle.scheme.specs.Units.{stored};
@@ -21,7 +21,7 @@ pub fn correct(
     bit: u8,
 )
     requires { ⌜ PassReady (now z) (now support) (t .nx) (t .ny) (stationsWith (t .mode) (t .stations) (now numbers) (now verdict) (now d)) radius bit × Roomy (now lx) (now ly) (now ld) ⌝ }
-    ensures { λ u. ⌜ Roomy (now (lx .exit)) (now (ly .exit)) (now (ld .exit)) × (now (z .exit) ≡ stored (t .nx) (t .ny) (corrected (now (z .entry)) (t .nx) (stationsWith (t .mode) (t .stations) (now (numbers .entry)) (now (verdict .entry)) (now (d .entry))) (radius * radius)))
+    ensures { λ u. ⌜ Roomy (now (lx .exit)) (now (ly .exit)) (now (ld .exit)) × (now (z .exit) ≡ stored (t .nx) (t .ny) (corrected (t .rule) (now (z .entry)) (t .nx) (stationsWith (t .mode) (t .stations) (now (numbers .entry)) (now (verdict .entry)) (now (d .entry))) (radius * radius)))
         × (now (support .exit) ≡ stored (t .nx) (t .ny) (backed (now (support .entry)) (t .nx) (stationsWith (t .mode) (t .stations) (now (numbers .entry)) (now (verdict .entry)) (now (d .entry))) (radius * radius) bit)) ⌝ }
 {
     if t.mode == request::ROUND {

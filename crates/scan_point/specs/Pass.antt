@@ -44,12 +44,12 @@ pub record Divides (rule w inside over : ℕ) : Type 0 where
   pub most : over ≤ mostWeights
   pub is : 0 < w → over ≡ cond (eqb rule listingRule && eqb inside 1) scale w
 
-divides-so : {rule w inside over : ℕ} {wd : ℤ} (s : Sums) → w ≡ s .weights → wd ≡ s .pulls → s .inside ≡ inside → Divides rule w inside over
+divides-so : (rule w inside over : ℕ) (wd : ℤ) (s : Sums) → w ≡ s .weights → wd ≡ s .pulls → s .inside ≡ inside → Divides rule w inside over
     → movedBy w wd over ≡ correction rule s
 unfolding correction divisor
-divides-so {w = w} s ew ed ei by = rw (← ew, ← ed, ei) (go (lt-or-le 0 w))
+divides-so rule w inside over wd s ew ed ei by = rw (← ew, ← ed, ei) (go (lt-or-le 0 w))
   where
-    go : (0 < w) ⊎ (w ≤ 0) → movedBy w _ _ ≡ _
+    go : (0 < w) ⊎ (w ≤ 0) → movedBy w wd over ≡ movedBy w wd (cond (eqb rule listingRule && eqb inside 1) scale w)
     go (inl h) = rw (by .is h)
     go (inr h) = let e : w ≡ 0 = omega arith in rw e
 
@@ -72,8 +72,8 @@ pub record RowReady (z : List ℤ) (sup : List ℕ) (base nx : ℕ) (give : ℕ 
   pub free : (k : ℕ) → base ≤ k → getD sup k 0 + bit < 256
 
 -- a turn along the row: w and wd are the sums at column i
-module _ {rule : ℕ} {z₀ : List ℤ} {sup₀ : List ℕ} {base nx : ℕ} {give : ℕ → ℕ → Sums} {n bit : ℕ}
-    (ok : RowReady z₀ sup₀ base nx give n bit) {z : List ℤ} {sup : List ℕ} {i : ℕ} (turn : i < nx)
+module _ {z₀ : List ℤ} {sup₀ : List ℕ} {base nx : ℕ} {give : ℕ → ℕ → Sums} {n bit : ℕ}
+    (ok : RowReady z₀ sup₀ base nx give n bit) (rule : ℕ) {z : List ℤ} {sup : List ℕ} {i : ℕ} (turn : i < nx)
     (pz : Filled (pos 0) (rowZ rule z₀ give n base) base (base + i) z₀ z) (ps : Filled 0 (rowS sup₀ give n bit base) base (base + i) sup₀ sup) where
   pub point-ready : PointReady z sup (base + i) bit
   point-ready =
@@ -107,7 +107,7 @@ module _ {rule : ℕ} {z₀ : List ℤ} {sup₀ : List ℕ} {base nx : ℕ} {giv
           filled-set (pos 0) (rowZ rule z₀ give n base) base (base + i) (base + (i + 1)) z₀ z v next-place (omega arith) (point-ready .inside) (e ∙ same) pz
         where
           same : getD z (base + i) (pos 0) +ℤ movedBy w wd over ≡ rowZ rule z₀ give n base (base + i)
-          same = unfold rowZ in (rw (column, pz .rest (base + i) (omega arith), divides-so (rowSums give n i) w-is wd-is inside-is by))
+          same = unfold rowZ in (rw (column, pz .rest (base + i) (omega arith), divides-so rule w inside over wd (rowSums give n i) w-is wd-is inside-is by))
 
     pub next-support : (b : ℕ) → b ≡ getD sup (base + i) 0 + cond (ltb 0 w) bit 0
         → Filled 0 (rowS sup₀ give n bit base) base (base + (i + 1)) sup₀ (set sup (base + i) b)
@@ -170,9 +170,9 @@ module _ {z : List ℤ} {sup : List ℕ} {nx ny : ℕ} {all : Stations} {r2 bit 
     unfolding rowS rowSupport sumsOver
     same-supports = fun-ext (λ k. rw (near .same (k - j * nx)))
 
-    pub row-values : {rule : ℕ} {z' : List ℤ} → Filled (pos 0) (rowZ rule z give n (j * nx)) (j * nx) (j * nx + nx) z z'
+    pub row-values : (rule : ℕ) {z' : List ℤ} → Filled (pos 0) (rowZ rule z give n (j * nx)) (j * nx) (j * nx + nx) z z'
         → Filled (pos 0) (rowValue rule z all r2 j (j * nx)) (j * nx) (j * nx + nx) z z'
-    row-values {rule = rule} p = rw (same-values rule) at p
+    row-values rule p = rw (same-values rule) at p
 
     pub row-supports : {sup' : List ℕ} → Filled 0 (rowS sup give n bit (j * nx)) (j * nx) (j * nx + nx) sup sup'
         → Filled 0 (rowSupport sup all r2 bit j (j * nx)) (j * nx) (j * nx + nx) sup sup'
@@ -204,7 +204,7 @@ pub record PassReady (z : List ℤ) (sup : List ℕ) (nx ny : ℕ) (all : Statio
 
 -- ---- a row of the pass
 
-module _ {rule : ℕ} {z₀ : List ℤ} {sup₀ : List ℕ} {nx ny : ℕ} {all : Stations} {radius bit : ℕ}
+module _ {z₀ : List ℤ} {sup₀ : List ℕ} {nx ny : ℕ} {all : Stations} {radius bit : ℕ}
     (ok : PassReady z₀ sup₀ nx ny all radius bit) where
   abbrev r2 : ℕ
   r2 = radius * radius
@@ -212,7 +212,7 @@ module _ {rule : ℕ} {z₀ : List ℤ} {sup₀ : List ℕ} {nx ny : ℕ} {all :
   pub r2-close : r2 ≤ mostSquare
   r2-close = mul-le-mul (ok .close) (ok .close)
 
-  module _ {j : ℕ} (hj : j < ny) {z : List ℤ} {sup : List ℕ}
+  module _ (rule : ℕ) {j : ℕ} (hj : j < ny) {z : List ℤ} {sup : List ℕ}
       (pz : Filled (pos 0) (passZ rule z₀ nx all r2) 0 (j * nx) z₀ z) (ps : Filled 0 (passS sup₀ nx all r2 bit) 0 (j * nx) sup₀ sup) where
     pub row-pass : RowPass z sup nx ny all (radius * radius) bit j
     row-pass =
@@ -262,9 +262,9 @@ module _ {rule : ℕ} {z₀ : List ℤ} {sup₀ : List ℕ} {nx ny : ℕ} {all :
         (filled-join 0 (passS sup₀ nx all r2 bit) (rowSupport sup all r2 bit j (j * nx)) 0 (j * nx) (j * nx + nx) sup₀ sup sup' (omega arith) (omega arith) same-s ps p)
 
   -- all rows
-  pub all-z : (z : List ℤ) → Filled (pos 0) (passZ rule z₀ nx all r2) 0 (ny * nx) z₀ z → z ≡ stored nx ny (corrected rule z₀ nx all r2)
+  pub all-z : (rule : ℕ) (z : List ℤ) → Filled (pos 0) (passZ rule z₀ nx all r2) 0 (ny * nx) z₀ z → z ≡ stored nx ny (corrected rule z₀ nx all r2)
   unfolding stored
-  all-z z p = filled-all (pos 0) (passZ rule z₀ nx all r2) (nx * ny) z₀ z (ok .shape .whole) (rw (mul-comm ny nx) at p)
+  all-z rule z p = filled-all (pos 0) (passZ rule z₀ nx all r2) (nx * ny) z₀ z (ok .shape .whole) (rw (mul-comm ny nx) at p)
 
   pub all-s : (sup : List ℕ) → Filled 0 (passS sup₀ nx all r2 bit) 0 (ny * nx) sup₀ sup → sup ≡ stored nx ny (backed sup₀ nx all r2 bit)
   unfolding stored

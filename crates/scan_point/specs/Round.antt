@@ -9,6 +9,7 @@ use lib.Dec.{ltb}
 use lib.ListN.{length, getD, set, length-set, replicate, length-replicate}
 use lib.Seq.{getD-set-same, getD-set-other}
 use lib.IntN.{ℤ, pos, natAbs, _-ℤ_}
+use Rattle.lists.specs.Tests.{cond-both}
 use Rattle.scheme.specs.Units.{step, mostStations, mostLimit, roundMode}
 use Rattle.scheme.specs.Weight.{weight, square, inside, weightAt}
 use Rattle.scheme.specs.Correction.{Sums}
@@ -32,6 +33,10 @@ pub record Sized (lx : List ℤ) (ly : List ℕ) (ld : List ℤ) (t : ℕ) : Typ
 
 unfoldable pub insideIn : (lx : List ℤ) (ly : List ℕ) (r2 i t : ℕ) → ℕ
 insideIn lx ly r2 i t = cond (ltb (square (getD lx t (pos 0) -ℤ pos (step * i)) + getD ly t 0) r2) 1 0
+
+pub inside-once : (lx : List ℤ) (ly : List ℕ) (r2 i t : ℕ) → insideIn lx ly r2 i t ≤ 1
+unfolding insideIn
+inside-once lx ly r2 i t = cond-both (λ (n : ℕ). n ≤ 1) (ltb (square (getD lx t (pos 0) -ℤ pos (step * i)) + getD ly t 0) r2) 1 0 (λ e. omega arith) (λ e. omega arith)
 
 pub record Placed (lx : List ℤ) (ly : List ℕ) (t : ℕ) : Type 0 where
   pub x-small : natAbs (getD lx t (pos 0)) ≤ mostAlong

@@ -1,19 +1,20 @@
-// Sums and corrections at the points of a grid (document 01, "One scan", Correction): what both modes share, and those by the round weight.
+// Sums and corrections at the points of a grid (document 01, "One scan", Correction; document 02, 6): what both modes share, and those by the round
+// weight.
 ghost use mathlib.Core.Path.{_≡_};
 ghost use Prim.Native.Nat.{ℕ, _+_, _*_, _≤_, _<_};
 ghost use mathlib.Core.Bool.{cond};
-ghost use lib.Dec.{ltb};
+ghost use lib.Dec.{ltb, eqb};
 ghost use lib.ListN.{getD, set};
 ghost use lib.IntN.{pos, natAbs, _+ℤ_, _*ℤ_};
 ghost use Rattle.lists.specs.Sums.{upTo};
 ghost use Rattle.lists.specs.Filled.{Filled};
 ghost use Rattle.scheme.specs.Units.{mostSide, stored, mostStations, mostLimit, roundMode};
 ghost use Rattle.scheme.specs.Weight.{scale, weight};
-ghost use Rattle.scheme.specs.Correction.{nothing, plus, correction};
+ghost use Rattle.scheme.specs.Correction.{nothing, plus};
 ghost use Rattle.scheme.specs.Most.{mostAlong, mostSquare, mostWeights, mostPulls, mostField};
 ghost use Rattle.scan_point.specs.Near.{Down, Added, rowGap, stationsWith, Ready, Near};
-ghost use Rattle.scan_point.specs.Round.{nearShare, Sized, Roomy};
-ghost use Rattle.scan_point.specs.Pass.{rowZ, rowS, PointReady, RowReady, corrected, backed, PassReady};
+ghost use Rattle.scan_point.specs.Round.{nearShare, insideIn, Placed, Sized, Roomy};
+ghost use Rattle.scan_point.specs.Pass.{rowZ, rowS, movedBy, Divides, PointReady, RowReady, corrected, backed, PassReady};
 use request::Terms;
 
 // The sum of weights, and the sum of weight·D.
@@ -120,15 +121,63 @@ fn point_sums(
     rest_sums(s.w, s.wd, lx, ly, ld, n, t, i, r2)
 }
 
-// A point's value after its correction.
-fn moved(z: i32, w: u64, wd: i64) -> i32
-    requires { ⌜ (natAbs z ≤ mostField) × (w ≤ mostWeights) × (natAbs wd ≤ mostLimit * w) ⌝ }
-    ensures { λ r. ⌜ r ≡ z +ℤ correction (record { weights = w; pulls = wd }) ⌝ }
+// 1 for a station that is inside the radius at column i of a grid row, the one at t of those near that row, and else 0.
+fn one_if_inside(lx: &[i32; 512], ly: &[u32; 512], t: usize, i: usize, r2: u32) -> usize
+    requires { ⌜ (t < mostStations) × (i < mostSide) × Placed (now lx) (now ly) t ⌝ }
+    ensures { λ r. ⌜ r ≡ insideIn (now (lx .entry)) (now (ly .entry)) r2 i t ⌝ }
+{
+    let px = (64 * i) as i32;
+    one_if_below(scan_weight::squared_distance(lx[t], px, ly[t]), r2)
+}
+
+// Whether exactly one of the n stations near a grid row is inside the radius at its column i, whatever its weight. The count ends at the second.
+fn is_lone(lx: &[i32; 512], ly: &[u32; 512], n: usize, i: usize, r2: u32) -> bool
+    requires { ⌜ (n ≤ mostStations) × (i < mostSide) × ((t : ℕ) → t < n → Placed (now lx) (now ly) t) ⌝ }
+    ensures { λ b. ⌜ b ≡ eqb (upTo 0 _+_ n (insideIn (now (lx .entry)) (now (ly .entry)) r2 i)) 1 ⌝ }
+{
+    let mut inside: usize = 0;
+    let mut t = n;
+    while (0 < t) & (inside < 2) {
+        inside += one_if_inside(lx, ly, t - 1, i, r2);
+        t -= 1;
+    }
+    inside == 1
+}
+
+// What the sum of weight·D is divided by at column i of a grid row, w the sum of weights there. Only under rule 2 can it be the scale, and only where w
+// is no more than one station's weight: elsewhere nothing is counted.
+pub fn divisor(
+    rule: u32,
+    w: u64,
+    lx: &[i32; 512],
+    ly: &[u32; 512],
+    n: usize,
+    i: usize,
+    r2: u32,
+) -> u64
+    requires { ⌜ (w ≤ mostWeights) × (n ≤ mostStations) × (i < mostSide) × ((t : ℕ) → t < n → Placed (now lx) (now ly) t)
+        × (w ≤ scale * upTo 0 _+_ n (insideIn (now lx) (now ly) r2 i)) ⌝ }
+    ensures { λ over. ⌜ Divides rule w (upTo 0 _+_ n (insideIn (now (lx .entry)) (now (ly .entry)) r2 i)) over ⌝ }
+{
+    if (rule != request::LISTINGS) | (w == 0) | (scan_weight::SCALE < w) {
+        return w;
+    }
+    if is_lone(lx, ly, n, i, r2) {
+        scan_weight::SCALE
+    } else {
+        w
+    }
+}
+
+// A point's value after its correction, by the sum of weight·D divided by `over`.
+fn moved(z: i32, w: u64, wd: i64, over: u64) -> i32
+    requires { ⌜ (natAbs z ≤ mostField) × (w ≤ over) × (over ≤ mostWeights) × (natAbs wd ≤ mostLimit * over) ⌝ }
+    ensures { λ r. ⌜ r ≡ z +ℤ movedBy w wd over ⌝ }
 {
     if w == 0 {
         return z;
     }
-    ((z as i64) + rounding::rounded(wd, w as u32)) as i32
+    ((z as i64) + rounding::rounded(wd, over as u32)) as i32
 }
 
 // A point's support byte after its correction.
@@ -189,12 +238,12 @@ fn near_row(
 }
 
 // A point's new value and support, at its place in the grid.
-pub fn set_point(z: &mut [i32], support: &mut [u8], p: usize, w: u64, wd: i64, bit: u8)
-    requires { ⌜ PointReady (now z) (now support) p bit × (w ≤ mostWeights) × (natAbs wd ≤ mostLimit * w) ⌝ }
-    ensures { λ u. ⌜ (now (z .exit) ≡ set (now (z .entry)) p (getD (now (z .entry)) p (pos 0) +ℤ correction (record { weights = w; pulls = wd })))
+pub fn set_point(z: &mut [i32], support: &mut [u8], p: usize, w: u64, wd: i64, over: u64, bit: u8)
+    requires { ⌜ PointReady (now z) (now support) p bit × (w ≤ over) × (over ≤ mostWeights) × (natAbs wd ≤ mostLimit * over) ⌝ }
+    ensures { λ u. ⌜ (now (z .exit) ≡ set (now (z .entry)) p (getD (now (z .entry)) p (pos 0) +ℤ movedBy w wd over))
         × (now (support .exit) ≡ set (now (support .entry)) p (getD (now (support .entry)) p 0 + cond (ltb 0 w) bit 0)) ⌝ }
 {
-    z[p] = moved(z[p], w, wd);
+    z[p] = moved(z[p], w, wd, over);
     support[p] = with_bit(support[p], w, bit);
 }
 
@@ -209,16 +258,18 @@ fn correct_row(
     ld: &[i64; 512],
     n: usize,
     r2: u32,
+    rule: u32,
     bit: u8,
 )
     requires { ⌜ RowReady (now z) (now support) base nx (nearShare (now lx) (now ly) (now ld) r2) n bit × (r2 ≤ mostSquare) × ((t : ℕ) → t < n → Sized (now lx) (now ly) (now ld) t) ⌝ }
-    ensures { λ u. ⌜ Filled (pos 0) (rowZ (now (z .entry)) (nearShare (now (lx .entry)) (now (ly .entry)) (now (ld .entry)) r2) n base) base (base + nx) (now (z .entry)) (now (z .exit))
+    ensures { λ u. ⌜ Filled (pos 0) (rowZ rule (now (z .entry)) (nearShare (now (lx .entry)) (now (ly .entry)) (now (ld .entry)) r2) n base) base (base + nx) (now (z .entry)) (now (z .exit))
         × Filled 0 (rowS (now (support .entry)) (nearShare (now (lx .entry)) (now (ly .entry)) (now (ld .entry)) r2) n bit base) base (base + nx) (now (support .entry)) (now (support .exit)) ⌝ }
 {
     let mut i: usize = 0;
     while i < nx {
         let s = point_sums(lx, ly, ld, n, i, r2);
-        set_point(z, support, base + i, s.w, s.wd, bit);
+        let over = divisor(rule, s.w, lx, ly, n, i, r2);
+        set_point(z, support, base + i, s.w, s.wd, over, bit);
         i += 1;
     }
 }
@@ -239,14 +290,14 @@ pub fn correct(
     bit: u8,
 )
     requires { ⌜ PassReady (now z) (now support) (t .nx) (t .ny) (stationsWith roundMode (t .stations) (now numbers) (now verdict) (now d)) radius bit × Roomy (now lx) (now ly) (now ld) ⌝ }
-    ensures { λ u. ⌜ Roomy (now (lx .exit)) (now (ly .exit)) (now (ld .exit)) × (now (z .exit) ≡ stored (t .nx) (t .ny) (corrected (now (z .entry)) (t .nx) (stationsWith roundMode (t .stations) (now (numbers .entry)) (now (verdict .entry)) (now (d .entry))) (radius * radius)))
+    ensures { λ u. ⌜ Roomy (now (lx .exit)) (now (ly .exit)) (now (ld .exit)) × (now (z .exit) ≡ stored (t .nx) (t .ny) (corrected (t .rule) (now (z .entry)) (t .nx) (stationsWith roundMode (t .stations) (now (numbers .entry)) (now (verdict .entry)) (now (d .entry))) (radius * radius)))
         × (now (support .exit) ≡ stored (t .nx) (t .ny) (backed (now (support .entry)) (t .nx) (stationsWith roundMode (t .stations) (now (numbers .entry)) (now (verdict .entry)) (now (d .entry))) (radius * radius) bit)) ⌝ }
 {
     let r2 = radius * radius;
     let mut j: usize = 0;
     while j < t.ny {
         let n = near_row(lx, ly, ld, t.stations, numbers, verdict, d, r2, j);
-        correct_row(z, support, j * t.nx, t.nx, lx, ly, ld, n, r2, bit);
+        correct_row(z, support, j * t.nx, t.nx, lx, ly, ld, n, r2, t.rule, bit);
         j += 1;
     }
 }

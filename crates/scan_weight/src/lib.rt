@@ -8,7 +8,7 @@ ghost use Rattle.scheme.specs.Most.{mostSquare};
 ghost use Rattle.scan_weight.specs.Along.{weightBy, mostStrength, mostQ};
 
 // A weight is in parts of this.
-const SCALE: u64 = 10000;
+pub const SCALE: u64 = 10000;
 
 // The square of how far positions a and b lie apart along one axis.
 pub fn square_apart(a: i32, b: i32) -> u32

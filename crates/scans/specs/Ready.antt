@@ -24,7 +24,7 @@ use Rattle.scheme.specs.Stored.{Same, length-stored, field-stored, stored-same,
 use Rattle.request.specs.declared.Terms.{Terms}
 use Rattle.request.specs.Tables.{planIn}
 use Rattle.scan_station.specs.Judge.{AcceptedHeard, JudgeReady, diffOf, diffAt, verdictAt}
-use Rattle.scan_point.specs.Near.{Stations, stationsWith, windIn, xAt, yAt, windAt, dAt, Inside, Ready, sumsOver, over-small}
+use Rattle.scan_point.specs.Near.{Stations, stationsWith, windIn, xAt, yAt, windAt, dAt, Inside, Ready, sumsOver, over-modest}
 use Rattle.scan_point.specs.Pass.{corrected, backed, PassReady}
 use Rattle.scans.specs.Scanned.{r2In, Scanned}
 
@@ -112,16 +112,16 @@ module _ {t : Terms} {guess : List ℤ} {numbers : List (List ℤ)} {m bit : ℕ
 
     -- after the correction
     abbrev moved : Field ℤ
-    moved = corrected z (t .nx) all (r2In t m)
+    moved = corrected (t .rule) z (t .nx) all (r2In t m)
 
     moved-size : (i j : ℕ) → natAbs (moved i j) ≤ mostField
     unfolding corrected fieldOf
     moved-size i j =
         omega (
           arith,
-          size-add (getD z (j * t .nx + i) (pos 0)) (correction (sumsOver all (r2In t m) i j)),
+          size-add (getD z (j * t .nx + i) (pos 0)) (correction (t .rule) (sumsOver all (r2In t m) i j)),
           ok .low (j * t .nx + i),
-          correction-size mostLimit (sumsOver all (r2In t m) i j) (over-small all (r2In t m) i j stations),
+          correction-size (t .rule) mostLimit (sumsOver all (r2In t m) i j) (over-modest all (r2In t m) i j stations),
         )
 
     module _ {z1 : List ℤ} (z1-is : z1 ≡ stored (t .nx) (t .ny) moved) where

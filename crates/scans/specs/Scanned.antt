@@ -40,7 +40,7 @@ pub record Scanned (t : Terms) (guess : List ℤ) (numbers : List (List ℤ)) (m
   pub verdicts : st' ≡ tab (t .stations) (verdictAt guess z t numbers st (m + 1) (E (planIn t) m))
   pub differences : (k : ℕ) → k < t .stations → getD ds k (pos 0) ≡ diffAt guess z t numbers st k
   pub supports : sup' ≡ stored (t .nx) (t .ny) (backed sup (t .nx) (stationsWith (t .mode) (t .stations) numbers st' ds) (r2In t m) (2 ^ m))
-  pub values : (f : Field ℤ) → Same (t .nx) (t .ny) (corrected z (t .nx) (stationsWith (t .mode) (t .stations) numbers st' ds) (r2In t m)) f
+  pub values : (f : Field ℤ) → Same (t .nx) (t .ny) (corrected (t .rule) z (t .nx) (stationsWith (t .mode) (t .stations) numbers st' ds) (r2In t m)) f
       → z' ≡ stored (t .nx) (t .ny) (cond (t .smooth) (smoothed (t .nx) (t .ny) f) f)
 
 -- ---- the tie
@@ -113,7 +113,7 @@ module _ (t : Terms) (guess : List ℤ) (numbers : List (List ℤ)) (minutes : L
       ∙ sym (ap (total nothing plus (share (t .mode) (R (planIn t) m) (differences q s) i j)) same-rows
       ∙ total-tab nothing plus nothing-plus plus-nothing plus-assoc (share (t .mode) (R (planIn t) m) (differences q s) i j) (t .stations) (rowIn numbers minutes st'))
 
-  same-corrected : Same (t .nx) (t .ny) (corrected z (t .nx) all (r2In t m)) (paper.corrected q m s)
+  same-corrected : Same (t .nx) (t .ny) (corrected (t .rule) z (t .nx) all (r2In t m)) (paper.corrected q m s)
   unfolding corrected paper.corrected
   same-corrected i j hi hj = cc (same-field i j hi hj, same-sums i j)
 

@@ -466,7 +466,6 @@ pub record Texts : Type 0 where
   -- left out, the greatest age is 120; `M` and `open`, and the marks as digits
   pub age-left-out : answerText (opening ++ ascii "smooth=0\nscans=1\nscan=1,0\n" ++ guessed ++ ascii "stations=4\nst=0,0,0,880,0,open\nst=0,0,0,879,0,open\nst=0,0,M,1000,0,4294967295\nst=0,0,-2147483648,1000,0,open\n")
       ≡ ascii "refusal=0\nplace=0\nrow=0,0\nrow=0,0\nsup=1,0\nsup=0,0\nver=0,4,1,1\n"
-
   -- a mast 20 off the first point, by rule 1, by rule 2, and with the line left out
   pub rule-1 : answerText (loneText (ascii "rule=1\n")) ≡ ascii "refusal=0\nplace=0\nrow=704,704\nrow=704,640\nsup=1,1\nsup=1,0\nver=0\n"
   pub rule-2 : answerText (loneText (ascii "rule=2\n")) ≡ ascii "refusal=0\nplace=0\nrow=695,670\nrow=645,640\nsup=1,1\nsup=1,0\nver=0\n"

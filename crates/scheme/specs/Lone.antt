@@ -231,11 +231,12 @@ module _ (q : Request) (rule m : ℕ) (found : State) where
 pub of-one-scan-the-rules-support-and-judge-alike : (q : Request) (rule : ℕ) → q .plan .scans ≡ 1
     → (analysis (withRule rule q) .support ≡ analysis q .support) × (analysis (withRule rule q) .verdict ≡ analysis q .verdict)
 unfolding analysis
-of-one-scan-the-rules-support-and-judge-alike q rule one =
-    (ap (λ (n : ℕ). stored (q .nx) (q .ny) (after (withRule rule q) n .support)) one
-    ∙ ap (stored (q .nx) (q .ny)) first-support
-    ∙ ap (λ (n : ℕ). stored (q .nx) (q .ny) (after q n .support)) (sym one),
-    ap (λ (n : ℕ). verdicts (after (withRule rule q) n .rows)) one ∙ ap verdicts first-rows ∙ ap (λ (n : ℕ). verdicts (after q n .rows)) (sym one))
+of-one-scan-the-rules-support-and-judge-alike q rule one = (
+  ap (λ (n : ℕ). stored (q .nx) (q .ny) (after (withRule rule q) n .support)) one
+      ∙ ap (stored (q .nx) (q .ny)) first-support
+      ∙ ap (λ (n : ℕ). stored (q .nx) (q .ny) (after q n .support)) (sym one),
+  ap (λ (n : ℕ). verdicts (after (withRule rule q) n .rows)) one ∙ ap verdicts first-rows ∙ ap (λ (n : ℕ). verdicts (after q n .rows)) (sym one),
+)
   where
     verdicts : List Row → List ℕ
     verdicts = map (λ (r : Row). r .verdict)
@@ -317,5 +318,8 @@ module _ (q : Request) (rule : ℕ) (wide : 2 ≤ q .nx) (high : 2 ≤ q .ny)
   unfolding analysis
   where-no-station-is-lone-the-rules-answer-alike =
       let a = alike (q .plan .scans) (omega arith) in
-      rw (stored-same (q .nx) (q .ny) (after other (q .plan .scans) .field) (after q (q .plan .scans) .field) (a .field),
-      stored-same (q .nx) (q .ny) (after other (q .plan .scans) .support) (after q (q .plan .scans) .support) (a .support), a .rows)
+      rw (
+        stored-same (q .nx) (q .ny) (after other (q .plan .scans) .field) (after q (q .plan .scans) .field) (a .field),
+        stored-same (q .nx) (q .ny) (after other (q .plan .scans) .support) (after q (q .plan .scans) .support) (a .support),
+        a .rows,
+      )

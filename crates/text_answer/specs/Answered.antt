@@ -4,12 +4,12 @@ use native.Mathlib.Omega.{arith}
 use native.Mathlib.Nat.{mul-comm}
 use mathlib.Core.Path.{_≡_, refl, sym, ap, subst, _∙_}
 use mathlib.Core.List.{List, [], _∷_, _++_}
-use borrow.Author.Tests.{le-leb, le-ltb}
+use borrow.Author.Tests.{le-ltb}
 use lib.ListN.{length, take, drop, length-append, length-map}
 use lib.Seq.{sets-eq, length-take-le}
 use Rattle.lists.specs.First.{Found, nowhere, at}
 use Rattle.lists.specs.Members.{All, none, more}
-use Rattle.scheme.specs.Units.{Station, mostScans, windMode, Request}
+use Rattle.scheme.specs.Units.{Station, mostScans, windMode, equationRule, listingRule, Request}
 use Rattle.scheme.specs.Refusals.{Refusal, accepted, refused, numberOf, placeOf, asOne, unlessRefused, inOrder, refusedWith, refusedAt, badScans, fromFive}
 use Rattle.scheme.specs.Scan.{Analysis, analysis}
 use Rattle.scheme.specs.Text.{mostBytes, firstTwo, analysisText, replyText}
@@ -17,7 +17,7 @@ use Rattle.scheme.specs.Text.Pieces.{ascii}
 use Rattle.scheme.specs.Text.Printed.{decimal, keyed}
 use Rattle.scheme.specs.Promises.{Settles, putFirst, Stands}
 use Rattle.scheme.specs.OneOutcome.{both}
-use Rattle.scheme.specs.Accepted.{fromSix, Formed, formed-sound, Fits}
+use Rattle.scheme.specs.Accepted.{in-count, fromSix, Formed, formed-sound, Fits}
 use Rattle.scheme.specs.Calls.{callFor, asks, refused-as-asked, equal-columns}
 use Rattle.scheme.specs.Places.{Tells, analysis-tells-refusal-and-place}
 use Rattle.scheme.specs.Decimals.{decimal-length}
@@ -107,11 +107,11 @@ module _ (q : Request) (formed : Formed q) where
   unfolding fromFive inOrder refusedWith badScans
   five-accepts =
       rw (
-        le-leb 1 (q .plan .scans) (formed .scans-some),
-        le-leb (q .plan .scans) mostScans (formed .scans-few),
+        in-count 1 mostScans (q .plan .scans) (formed .scans-some) (formed .scans-few),
         le-ltb (length (q .plan .radius)) (q .plan .scans) (formed .radii),
         le-ltb (length (q .plan .limit)) (q .plan .scans) (formed .limits),
         le-ltb windMode (q .plan .mode) (formed .known),
+        in-count equationRule listingRule (q .plan .rule) (formed .ruled .0) (formed .ruled .1),
       )
 
   abbrev f : Refusal

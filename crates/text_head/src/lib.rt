@@ -1,19 +1,23 @@
 // The head of the request text (document 01): the lines before the scans.
 ghost use mathlib.Core.Path.{_≡_};
-ghost use Prim.Native.Nat.{_≤_};
+ghost use Prim.Native.Nat.{_+_, _≤_};
 ghost use lib.ListN.{drop};
 ghost use Rattle.scheme.specs.Text.Reader.{reads};
-ghost use Rattle.text_head.specs.Head.{ageOr, Heads, termsRead};
+ghost use Rattle.scheme.specs.Text.Pieces.{count};
+ghost use Rattle.scheme.specs.Text.Lines.{number};
+ghost use Rattle.text_head.specs.Head.{lineOr, Heads, termsRead};
 use request::Terms;
 use text_lines::SizeRead;
 use text_pieces::UnsignedRead;
 
-// `age` may be left out, which means 120.
+// `age` may be left out, which means 120, and `rule`, which means that of the equations.
 const DEFAULT_AGE: u32 = 120;
 
-// What the age line says, or 120; the number of the line after it, and its place.
-struct Age {
-    age: u32,
+const DEFAULT_RULE: u32 = request::EQUATIONS;
+
+// What a line that may be left out says, or what that means; the number of the line after it, and its place.
+struct Optional {
+    value: u32,
     line: u32,
     next: usize,
 }
@@ -25,6 +29,7 @@ pub struct Head {
     pub time: u32,
     pub age: u32,
     pub smooth: bool,
+    pub rule: u32,
     pub scans: u32,
     pub line: u32,
     pub next: usize,
@@ -35,21 +40,29 @@ pub enum HeadRead {
     NotInForm(u32),
 }
 
-// A line that may be left out.
-fn age_line(s: &[u8], at: usize, line: u32) -> Age
-    requires { ⌜ line ≤ 3 ⌝ }
-    ensures { λ r. ⌜ (ageOr (line, drop at (now (s .entry))) ≡ reads (r .age) (r .line, drop (r .next) (now (s .entry)))) × (r .line ≤ 4) ⌝ }
+// A line that says one number, in low..high, and may be left out: then it says `other`.
+fn optional_line(
+    s: &[u8],
+    at: usize,
+    line: u32,
+    key: &[u8],
+    low: u32,
+    high: u32,
+    other: u32,
+) -> Optional
+    requires { ⌜ (line ≤ 5) × (low ≤ other) × (other ≤ high) ⌝ }
+    ensures { λ r. ⌜ (lineOr (number (now (key .entry)) (count low high)) other (line, drop at (now (s .entry))) ≡ reads (r .value) (r .line, drop (r .next) (now (s .entry))))
+        × (r .line ≤ line + 1) × (low ≤ r .value) × (r .value ≤ high) ⌝ }
 {
-    let UnsignedRead::Value(age, next) = text_lines::number_line(s, at, b"age=", 0, 4294967295)
-    else {
-        return Age {
-            age: DEFAULT_AGE,
+    let UnsignedRead::Value(value, next) = text_lines::number_line(s, at, key, low, high) else {
+        return Optional {
+            value: other,
             line,
             next: at,
         };
     };
-    Age {
-        age,
+    Optional {
+        value,
         line: line + 1,
         next,
     }
@@ -65,22 +78,33 @@ pub fn head_lines(s: &[u8]) -> HeadRead
     let UnsignedRead::Value(time, q) = text_lines::number_line(s, p, b"time=", 0, 4294967295) else {
         return HeadRead::NotInForm(2);
     };
-    let aged = age_line(s, q, 3);
+    let aged = optional_line(s, q, 3, b"age=", 0, 4294967295, DEFAULT_AGE);
     let at = aged.next;
     let UnsignedRead::Value(smooth, u) = text_lines::number_line(s, at, b"smooth=", 0, 1) else {
         return HeadRead::NotInForm(aged.line);
     };
-    let UnsignedRead::Value(scans, next) = text_lines::number_line(s, u, b"scans=", 1, 6) else {
-        return HeadRead::NotInForm(aged.line + 1);
+    let ruled = optional_line(
+        s,
+        u,
+        aged.line + 1,
+        b"rule=",
+        request::EQUATIONS,
+        request::LISTINGS,
+        DEFAULT_RULE,
+    );
+    let to = ruled.next;
+    let UnsignedRead::Value(scans, next) = text_lines::number_line(s, to, b"scans=", 1, 6) else {
+        return HeadRead::NotInForm(ruled.line);
     };
     let h = Head {
         nx,
         ny,
         time,
-        age: aged.age,
+        age: aged.value,
         smooth: smooth == 1,
+        rule: ruled.value,
         scans,
-        line: aged.line + 2,
+        line: ruled.line + 1,
         next,
     };
     HeadRead::Value(h)
@@ -99,6 +123,7 @@ pub fn terms_read(h: Head, stations: u32, radius: [i32; 6], limit: [i32; 6]) -> 
         limit,
         smooth: h.smooth,
         mode: request::ROUND,
+        rule: h.rule,
         time: h.time,
         age: h.age,
     }

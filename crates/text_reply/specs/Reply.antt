@@ -56,6 +56,7 @@ module _ (guess radius limit : List ℤ) (numbers : List (List ℤ)) (minutes : 
                 scans = refl;
                 smooth = refl;
                 mode = refl;
+                rule = refl;
                 radii = λ m l. sym (getD-take (h .scans) radius m (pos 0) l);
                 limits = λ m l. sym (getD-take (h .scans) limit m (pos 0) l);
               };
@@ -80,6 +81,7 @@ module _ (guess radius limit : List ℤ) (numbers : List (List ℤ)) (minutes : 
           radii = omega (arith, limits .scans-few);
           limits = omega (arith, limits .scans-few);
           known = omega arith;
+          ruled = limits .ruled;
         }
 
     -- and so does the request itself
@@ -93,6 +95,7 @@ module _ (guess radius limit : List ℤ) (numbers : List (List ℤ)) (minutes : 
           radii = omega (arith, length-take-le (h .scans) radius (formed .radii));
           limits = omega (arith, length-take-le (h .scans) limit (formed .limits));
           known = omega arith;
+          ruled = limits .ruled;
         }
 
     same-reply : replyText (requestRead guess radius limit numbers minutes h n) ≡ replyText (requestIn (termsRead h n radius limit) front numbers minutes)

@@ -27,9 +27,9 @@ use Rattle.text_request.specs.Told.{Read, linesTold, entryAt, ScansAre, 
 -- ---- the definition, cut after the head and before the stations
 
 -- what all lines say
-abbrev gathered : (nx ny time age : ℕ) → Bool → (scans : ℕ) → List Entry → List ℤ → List Station → Request
-gathered nx ny time age smooth scans plan guess stations =
-    asking nx ny guess stations scans (map (λ t. t .radius) plan) (map (λ t. t .limit) plan) smooth roundMode time age
+abbrev gathered : (nx ny time age : ℕ) → Bool → (rule scans : ℕ) → List Entry → List ℤ → List Station → Request
+gathered nx ny time age smooth rule scans plan guess stations =
+    asking nx ny guess stations scans (map (λ t. t .radius) plan) (map (λ t. t .limit) plan) smooth roundMode rule time age
 
 -- the scans and the first guess, and then what they call for
 abbrev gridThen : (nx ny scans : ℕ) → (List Entry → List ℤ → Text Request) → Text Request
@@ -46,11 +46,11 @@ stationsThen held = do
   nothingAfter
   gives (held stations)
 
-abbrev middle : (nx ny time age : ℕ) → Bool → (scans : ℕ) → Text Request
-middle nx ny time age smooth scans = gridThen nx ny scans (λ plan guess. stationsThen (gathered nx ny time age smooth scans plan guess))
+abbrev middle : (nx ny time age : ℕ) → Bool → (rule scans : ℕ) → Text Request
+middle nx ny time age smooth rule scans = gridThen nx ny scans (λ plan guess. stationsThen (gathered nx ny time age smooth rule scans plan guess))
 
 abbrev middleOf : Head → Text Request
-middleOf h = middle (h .nx) (h .ny) (h .time) (h .age) (h .smooth) (h .scans)
+middleOf h = middle (h .nx) (h .ny) (h .time) (h .age) (h .smooth) (h .rule) (h .scans)
 
 cut : (k : ℕ) (bs : List ℕ) → requestLines (k, bs) ≡ headThen middle (k, bs)
 unfolding requestLines
@@ -93,7 +93,7 @@ pub record StationsAre (s : List ℕ) (at : ℕ) (h : Head) (numbers : List (Lis
 -- the request, its lists the fronts of what was lent
 abbrev pub requestRead : List ℤ → List ℤ → List ℤ → List (List ℤ) → List (List ℕ) → Head → ℕ → Request
 requestRead guess radius limit numbers minutes h n =
-    asking (h .nx) (h .ny) (take (h .ny * h .nx) guess) (tab n (stationIn numbers minutes)) (h .scans) (take (h .scans) radius) (take (h .scans) limit) (h .smooth) roundMode (h .time) (h .age)
+    asking (h .nx) (h .ny) (take (h .ny * h .nx) guess) (tab n (stationIn numbers minutes)) (h .scans) (take (h .scans) radius) (take (h .scans) limit) (h .smooth) roundMode (h .rule) (h .time) (h .age)
 
 abbrev pub requestTold : List ℤ → List ℤ → List ℤ → List (List ℤ) → List (List ℕ) → RequestRead → Read Request
 requestTold guess radius limit numbers minutes (RequestValue h n) = reads (requestRead guess radius limit numbers minutes h n) (afterAll h n, [])
@@ -186,10 +186,10 @@ front n o l h = sym (is-tab o n (λ k. getD l k o) (take n l) (length-take-le n 
 module _ (s : List ℕ) (h : Head) (guess radius limit : List ℤ) (numbers : List (List ℤ)) (minutes : List (List ℕ)) (limits : Limits h)
     (r : LinesRead) (grid : GridIs s h guess radius limit r) where
   abbrev held : List Station → Request
-  held = gathered (h .nx) (h .ny) (h .time) (h .age) (h .smooth) (h .scans) (tab (h .scans) (entryAt radius limit)) (take (h .ny * h .nx) guess)
+  held = gathered (h .nx) (h .ny) (h .time) (h .age) (h .smooth) (h .rule) (h .scans) (tab (h .scans) (entryAt radius limit)) (take (h .ny * h .nx) guess)
 
   begun : middleOf h (h .line, drop (h .next) s) ≡ linesAfter s r (afterGrid h) (stationsThen held)
-  begun = grid .said (λ plan guess. stationsThen (gathered (h .nx) (h .ny) (h .time) (h .age) (h .smooth) (h .scans) plan guess))
+  begun = grid .said (λ plan guess. stationsThen (gathered (h .nx) (h .ny) (h .time) (h .age) (h .smooth) (h .rule) (h .scans) plan guess))
 
   held-is : (n : ℕ) → held (tab n (stationIn numbers minutes)) ≡ requestRead guess radius limit numbers minutes h n
   held-is n =
@@ -216,7 +216,7 @@ module _ (s : List ℕ) (h : Head) (guess radius limit : List ℤ) (numbers : Li
   body-is p e end stations = ended end ((rw e at begun) ∙ stations .said held) (stations .few)
 
 module _ (s : List ℕ) (guess radius limit : List ℤ) (numbers : List (List ℤ)) (minutes : List (List ℕ)) where
-  pub no-head : (k : ℕ) → ((next : (nx ny time age : ℕ) → Bool → (scans : ℕ) → Text Request) → headThen next (1, s) ≡ fails k)
+  pub no-head : (k : ℕ) → ((next : (nx ny time age : ℕ) → Bool → (rule scans : ℕ) → Text Request) → headThen next (1, s) ≡ fails k)
       → length radius ≡ mostScans → length limit ≡ mostScans → RequestIs s guess radius limit numbers minutes (NotRequest k)
   no-head k e radii limits = record { said = cut 1 s ∙ e middle; fits = tt; radii = radii; limits = limits }
 

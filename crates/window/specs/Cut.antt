@@ -111,6 +111,7 @@ cutTerms t wide high stations =
       limit = t .limit;
       smooth = t .smooth;
       mode = t .mode;
+      rule = t .rule;
       time = t .time;
       age = t .age;
     }

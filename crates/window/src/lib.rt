@@ -25,6 +25,7 @@ fn cut_terms(t: request::Terms, wide: usize, high: usize, stations: usize) -> re
         limit,
         smooth: t.smooth,
         mode: t.mode,
+        rule: t.rule,
         time: t.time,
         age: t.age,
     }

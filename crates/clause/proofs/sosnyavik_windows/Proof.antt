@@ -22,7 +22,7 @@ use Rattle.clause.proofs.sosnyavik_windows.Tie as tie
 abbrev call : tie.Start → Call
 call s =
     let a = s .args in
-    asking (a .nx) (a .ny) (a .guess .now) (eightColumns (a .x .now) (a .y .now) (a .value .now) (a .observed .now) (a .from .now) (a .until .now) (a .wind-u .now) (a .wind-v .now)) (a .count) (a .radius .now) (a .limit .now) (a .smooth) (a .mode) (a .time) (a .age)
+    asking (a .nx) (a .ny) (a .guess .now) (eightColumns (a .x .now) (a .y .now) (a .value .now) (a .observed .now) (a .from .now) (a .until .now) (a .wind-u .now) (a .wind-v .now)) (a .count) (a .radius .now) (a .limit .now) (a .smooth) (a .mode) (a .rule) (a .time) (a .age)
 
 abbrev screen : tie.Start → Screen
 screen s = let a = s .args in fourColumns (a .left .now) (a .right .now) (a .top .now) (a .bottom .now)

@@ -2,8 +2,9 @@
 use native.Mathlib.Omega.{arith}
 use native.Mathlib.Nat.{mul-le-mul}
 use Rattle.lists.specs.Tests.{or-false}
+use Rattle.scheme.specs.Units.{leastSide, mostSide}
 use Rattle.scheme.specs.Refusals.{badShape}
-use Rattle.scheme.specs.Accepted.{side}
+use Rattle.scheme.specs.Accepted.{counted-in}
 use Rattle.refusal_shapes.proofs.shape_bad.Statement.{statement}
 use Rattle.refusal_shapes.proofs.shape_bad.Tie as tie
 
@@ -15,7 +16,7 @@ mul-result : tie.Need-mul-result
 mul-result c =
     let a = c .before .args in
     let (across, down) = or-false _ _ (c .if1 .left) in
-    record { fits = omega (arith, mul-le-mul (side (a .nx) across .1) (side (a .ny) down .1)) }
+    record { fits = omega (arith, mul-le-mul (counted-in leastSide mostSide (a .nx) across .1) (counted-in leastSide mostSide (a .ny) down .1)) }
 
 returns-2 : tie.Need-returns-2
 unfolding badShape

@@ -21,7 +21,7 @@ module _ (s : tie.Start) where
 
   abbrev DoneIn : List ℤ → List ℕ → ℕ → Type 0
   DoneIn z support mode =
-      (z ≡ stored (s .args .t .nx) (s .args .t .ny) (corrected (s .args .z .now) (s .args .t .nx) (allIn mode) (s .args .radius * s .args .radius)))
+      (z ≡ stored (s .args .t .nx) (s .args .t .ny) (corrected (s .args .t .rule) (s .args .z .now) (s .args .t .nx) (allIn mode) (s .args .radius * s .args .radius)))
       × (support ≡ stored (s .args .t .nx) (s .args .t .ny) (backed (s .args .support .now) (s .args .t .nx) (allIn mode) (s .args .radius * s .args .radius) (s .args .bit)))
 
 -- the other mode

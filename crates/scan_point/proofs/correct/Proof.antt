@@ -13,7 +13,7 @@ use Rattle.scan_point.proofs.correct.Tie as tie
 
 abbrev Inv-loop : tie.InvT-loop
 Inv-loop z₀ support₀ verdict d t numbers lx₀ ly₀ ld₀ radius bit r2 j₀ z support lx ly ld j =
-    (j ≤ t .ny) × Roomy lx ly ld × Filled (pos 0) (passZ z₀ (t .nx) (stationsWith roundMode (t .stations) numbers verdict d) (radius * radius)) 0 (j * t .nx) z₀ z
+    (j ≤ t .ny) × Roomy lx ly ld × Filled (pos 0) (passZ (t .rule) z₀ (t .nx) (stationsWith roundMode (t .stations) numbers verdict d) (radius * radius)) 0 (j * t .nx) z₀ z
     × Filled 0 (passS support₀ (t .nx) (stationsWith roundMode (t .stations) numbers verdict d) (radius * radius) bit) 0 (j * t .nx) support₀ support
 
 abbrev μ-loop : tie.MeasureT-loop
@@ -31,7 +31,7 @@ module _ (c : tie.Then1 Inv-loop μ-loop) where
   j = at .loop .j
 
   ready : RowPass (at .loop .z) (at .loop .support) (start .args .t .nx) (start .args .t .ny) (stationsWith roundMode (start .args .t .stations) (start .args .numbers .now) (start .args .verdict .now) (start .args .d .now)) (start .args .radius * start .args .radius) (start .args .bit) j
-  ready = row-pass (start .pre .0) (c .if1 .taken) (at .loop .inv .2) (at .loop .inv .3)
+  ready = row-pass (start .pre .0) (start .args .t .rule) (c .if1 .taken) (at .loop .inv .2) (at .loop .inv .3)
 
 -- the turn of the stations near its row
 abbrev turn : tie.After-near-row Inv-loop μ-loop → tie.Then1 Inv-loop μ-loop
@@ -88,8 +88,8 @@ loop-again c =
     let r = c .before .before .before .correct-row in (
       omega (arith, h),
       n .near-row .ensures .0,
-      next-z p h (i .2) (i .3) _ (row-values (ready t) (λ i t. round-slight _ _ _ _ i t) near (r .ensures .0)),
-      next-s p h (i .2) (i .3) _ (row-supports (ready t) (λ i t. round-slight _ _ _ _ i t) near (r .ensures .1)),
+      next-z p (start t .args .t .rule) h (i .2) (i .3) _ (row-values (ready t) (λ i t. round-slight _ _ _ _ i t) near (start t .args .t .rule) (r .ensures .0)),
+      next-s p (start t .args .t .rule) h (i .2) (i .3) _ (row-supports (ready t) (λ i t. round-slight _ _ _ _ i t) near (r .ensures .1)),
     )
 
 same-length : tie.Need-same-length Inv-loop μ-loop
@@ -103,7 +103,7 @@ returns c =
     let o = c .before .before in
     let s = o .before .before .before in
     let e : o .loop .j ≡ s .args .t .ny = omega arith in
-    (o .loop .inv .1, all-z (s .pre .0) (o .loop .z) (rw e at (o .loop .inv .2)), all-s (s .pre .0) (o .loop .support) (rw e at (o .loop .inv .3)))
+    (o .loop .inv .1, all-z (s .pre .0) (s .args .t .rule) (o .loop .z) (rw e at (o .loop .inv .2)), all-s (s .pre .0) (o .loop .support) (rw e at (o .loop .inv .3)))
 
 pub correct-spec : {M : Type 1} → statement M
 correct-spec =

@@ -2,6 +2,7 @@
 use Prim.Native.Nat.{ℕ, _≤_}
 use native.Mathlib.Omega.{arith}
 use mathlib.Core.Path.{_≡_, ap, _∙_}
+use lib.Dec.{eqb}
 use lib.ListN.{getD, set, length-set}
 use lib.IntN.{ℤ, pos, natAbs, _+ℤ_}
 use mir.Syntax.{w32, w64}
@@ -9,9 +10,11 @@ use mir.Val.{toZ, ofZ}
 use mir.Facts.{toZ-ofZ}
 use Rattle.integers.specs.Sizes.{size-add}
 use Rattle.integers.specs.Words.{bits-back}
+use Rattle.lists.specs.Tests.{cond-both}
 use Rattle.scheme.specs.Units.{mostLimit}
-use Rattle.scheme.specs.Correction.{correction}
-use Rattle.scheme.specs.Bounds.{correction-size}
+use Rattle.scheme.specs.Rounding.{rounded}
+use Rattle.scheme.specs.Nearest.{rounded-size}
+use Rattle.scan_point.specs.Pass.{movedBy}
 use Rattle.scan_point.proofs.set_point.Statement.{statement}
 use Rattle.scan_point.proofs.set_point.Tie as tie
 use Rattle.scan_point.proofs.set_point.Reads as reads
@@ -24,7 +27,12 @@ module _ (s : lts.Start (moved-reads.Asked, moved-reads.Learnt, with-bit-reads.A
   z = getD (s .args .z .now) (s .args .p) (pos 0)
 
   abbrev new : ℤ
-  new = z +ℤ correction (record { weights = s .args .w; pulls = s .args .wd })
+  new = z +ℤ movedBy (s .args .w) (s .args .wd) (s .args .over)
+
+  moved-small : natAbs (movedBy (s .args .w) (s .args .wd) (s .args .over)) ≤ mostLimit
+  moved-small =
+      cond-both (λ (v : ℤ). natAbs v ≤ mostLimit) (eqb (s .args .w) 0) (pos 0) (rounded (s .args .wd) (s .args .over)) (λ e. omega arith)
+      (λ e. rounded-size (s .args .wd) (s .args .over) mostLimit (s .pre .3))
 
   z-back : toZ w32 (ofZ w32 z) ≡ z
   z-back = bits-back w32 z (omega (arith, s .pre .0 .low))
@@ -35,7 +43,7 @@ module _ (s : lts.Start (moved-reads.Asked, moved-reads.Learnt, with-bit-reads.A
   new-back : toZ w32 (ofZ w32 new) ≡ new
   new-back =
       bits-back w32 new
-      (omega (arith, s .pre .0 .low, size-add z (correction (record { weights = s .args .w; pulls = s .args .wd })), correction-size mostLimit (record { weights = s .args .w; pulls = s .args .wd }) (s .pre .2)))
+      (omega (arith, s .pre .0 .low, size-add z (movedBy (s .args .w) (s .args .wd) (s .args .over)), moved-small))
 
 -- the last call's start
 abbrev at : tie.After-with-bit → tie.Start
@@ -50,10 +58,10 @@ slice-copy-out-moved c = c .before .pre .0 .inside
 moved-requires : tie.Need-moved-requires
 moved-requires c κs =
     let s = c .before .before in
-    (rw (z-back s) (s .pre .0 .low), s .pre .1, rw (wd-back s) (s .pre .2))
+    (rw (z-back s) (s .pre .0 .low), s .pre .1, s .pre .2, rw (wd-back s) (s .pre .3))
 
-mul-t11 : tie.Need-mul-t11
-mul-t11 c = omega (arith, c .before .before .before .pre .0 .short)
+mul-t12 : tie.Need-mul-t12
+mul-t12 c = omega (arith, c .before .before .before .pre .0 .short)
 
 slice-set-from-z : tie.Need-slice-set-from-z
 slice-set-from-z c = c .before .before .before .pre .0 .inside
@@ -88,7 +96,7 @@ set-point-spec =
     mul-moved
     slice-copy-out-moved
     moved-requires
-    mul-t11
+    mul-t12
     slice-set-from-z
     slice-read-with-bit
     with-bit-requires
