@@ -29,7 +29,7 @@ module _ (c : tie.After-correct) where
   abbrev all : Stations
   all = stationsWith (s j .args .t .mode) (s j .args .t .stations) (s j .args .numbers .now) (j .judge .last .1 .1 .0) (j .judge .last .1 .1 .1 .0)
 
-  values : c .correct .last .0 ≡ stored (s j .args .t .nx) (s j .args .t .ny) (corrected (s j .args .z .now) (s j .args .t .nx) all (r2In (s j .args .t) (s j .args .m)))
+  values : c .correct .last .0 ≡ stored (s j .args .t .nx) (s j .args .t .ny) (corrected (s j .args .t .rule) (s j .args .z .now) (s j .args .t .nx) all (r2In (s j .args .t) (s j .args .m)))
   values = rw (c .before .radius-of .ensures) at (c .correct .ensures .1)
 
   supports : c .correct .last .1 .0 ≡ stored (s j .args .t .nx) (s j .args .t .ny) (backed (s j .args .support .now) (s j .args .t .nx) all (r2In (s j .args .t) (s j .args .m)) (s j .args .bit))
