@@ -1,7 +1,7 @@
 /*
  * bench.c: the proved analysis beside the plain one, its window query beside itself, and a screen of windows beside
- * both, on made-up evenings that are the same in every run. A CASE is an evening by its letter, or with a w after that:
- * then every station has a wind, and the weights go along it.
+ * both, on made-up evenings that are the same in every run. A CASE is an evening by its letter; with a w after that
+ * every station has a wind, and the weights go along it; with a 2 at the end lone stations go by the listings' rule.
  *
  *   bench CASE ours|plain REPEAT   call one of them, for a counter of instructions
  *   bench CASE both REPEAT         compare the answers, then print the least wall time of each
@@ -59,6 +59,8 @@ static const struct evening EVENINGS[] = {
     {"c", 16, 16, 12, 2, {320, 192}, {640, 384}, false, ON_GRID},
     {"p", 64, 64, 64, 4, {512, 320, 192, 128}, {640, 512, 384, 320}, true, POSTS},
     {"w", 64, 64, 512, 2, {128, 64}, {640, 512}, true, ON_GRID},
+    /* A sparse night: most points that hear a station hear one. */
+    {"l", 64, 64, 48, 2, {256, 192}, {ANY, ANY}, true, ON_GRID},
     /* With no stations nothing is corrected. These two are unlike in smoothing alone. */
     {"s", 64, 64, 0, 6, {64, 64, 64, 64, 64, 64}, {ANY, ANY, ANY, ANY, ANY, ANY}, true, ON_GRID},
     {"u", 64, 64, 0, 6, {64, 64, 64, 64, 64, 64}, {ANY, ANY, ANY, ANY, ANY, ANY}, false, ON_GRID},
@@ -66,7 +68,7 @@ static const struct evening EVENINGS[] = {
 
 struct input {
     const struct evening *evening;
-    uint32_t mode;
+    uint32_t mode, rule;
     int32_t first_guess[MOST_POINTS];
     int32_t x[MOST_STATIONS], y[MOST_STATIONS], value[MOST_STATIONS];
     uint32_t observed[MOST_STATIONS], from[MOST_STATIONS], until[MOST_STATIONS];
@@ -115,8 +117,8 @@ static void complain(const char *what, const char *word) {
         stderr,
         "bench: %s '%s': use bench CASE ours|plain|both REPEAT, window SIDE, "
         "screen|windows|singles|tests|cuts SCREEN, one reading|summary, text, or stack [SIDE|SCREEN|reading|summary], "
-        "where a CASE is a, b, c, p, w, s or u, with a w after it along the wind, and a SCREEN is spread, corners, "
-        "middle or none\n",
+        "where a CASE is a, b, c, p, w, l, s or u, with a w after it along the wind, with a 2 at its end by the listings' "
+        "rule, and a SCREEN is spread, corners, middle or none\n",
         what, word);
     exit(2);
 }
@@ -207,18 +209,23 @@ static void make_request(void) {
             .from = {input.from, stations}, .until = {input.until, stations}, .wind_u = {input.wind_u, stations},
             .wind_v = {input.wind_v, stations}, .scans = evening->scans, .radius = {evening->radius, evening->scans},
             .limit = {evening->limit, evening->scans}, .smooth = evening->smooth, .mode = input.mode, .time = MINUTE);
-    request.age = AGE;
+    request.rule = input.rule, request.age = AGE;
 }
 
 static void choose_evening(const char *name) {
-    bool along_wind = *name != '\0' && strcmp(name + 1, "w") == 0;
-    for (size_t i = 0; i < sizeof EVENINGS / sizeof *EVENINGS; i++) {
-        if (strcmp(EVENINGS[i].name, name) == 0 || (along_wind && *EVENINGS[i].name == *name))
+    static const char *const endings[] = {"", "w", "2", "w2"};
+    const char *ending = *name == '\0' ? name : name + 1;
+    bool known = false;
+    for (size_t i = 0; i < sizeof endings / sizeof *endings; i++)
+        known = known || strcmp(endings[i], ending) == 0;
+    for (size_t i = 0; known && i < sizeof EVENINGS / sizeof *EVENINGS; i++) {
+        if (*EVENINGS[i].name == *name)
             input.evening = &EVENINGS[i];
     }
     if (input.evening == NULL)
         complain("unknown case", name);
-    input.mode = along_wind ? SOSNYAVIK_ALONG_WIND : SOSNYAVIK_ROUND;
+    input.mode = strchr(ending, 'w') != NULL ? SOSNYAVIK_ALONG_WIND : SOSNYAVIK_ROUND;
+    input.rule = strchr(ending, '2') != NULL ? SOSNYAVIK_LISTINGS : SOSNYAVIK_EQUATIONS;
 }
 
 static void make_input(const char *name) {

@@ -1,5 +1,5 @@
 /*
- * plain.c: document 01's analysis, as requests 1, 3 and 5 of document 02 changed it, and request 2's screen of windows,
+ * plain.c: document 01's analysis, as requests 1, 3, 5 and 6 of document 02 changed it, and request 2's screen of windows,
  * the way a C programmer would write them first: their loops, their numbers, no tricks. It assumes what
  * include/sosnyavik.h says that the caller owes.
  */
@@ -40,7 +40,7 @@ struct request {
     uint32_t scans;
     const int32_t *radius, *limit;
     bool smooth;
-    uint32_t mode;
+    uint32_t mode, rule;
     uint32_t time, age;
 };
 
@@ -178,6 +178,11 @@ static size_t judge(const struct request *request, uint32_t scan, const int32_t 
     return count;
 }
 
+/* Under the listings' rule a lone station's pull is divided by the whole scale, and not by its own weight. */
+static int32_t divisor(const struct request *request, int32_t weights, size_t inside) {
+    return request->rule == SOSNYAVIK_LISTINGS && inside == 1 ? SCALE : weights;
+}
+
 /* In place, since the differences were all taken from the field before. */
 static void correct(const struct request *request, uint32_t scan, const struct accepted *accepted, size_t count,
                     int32_t *grid, uint8_t *support) {
@@ -187,17 +192,19 @@ static void correct(const struct request *request, uint32_t scan, const struct a
         for (int32_t i = 0; i < nx; i++) {
             int64_t sum = 0;
             int32_t weights = 0;
+            size_t inside = 0;
             for (size_t k = 0; k < count; k++) {
                 int32_t dx = accepted[k].x - STEP * i, dy = accepted[k].y - STEP * j;
                 int32_t d2 = dx * dx + dy * dy;
                 if (d2 < r2) {
                     int32_t weight = (int32_t)((int64_t)SCALE * (r2 - d2) / (r2 + d2));
+                    inside++;
                     weights += weight;
                     sum += (int64_t)weight * accepted[k].difference;
                 }
             }
             if (weights > 0) {
-                grid[j * nx + i] += (int32_t)rounded(sum, weights);
+                grid[j * nx + i] += (int32_t)rounded(sum, divisor(request, weights, inside));
                 support[j * nx + i] |= (uint8_t)(1u << scan);
             }
         }
@@ -223,16 +230,18 @@ static void correct_along_wind(const struct request *request, uint32_t scan, con
         for (int32_t i = 0; i < nx; i++) {
             int64_t sum = 0;
             int32_t weights = 0;
+            size_t inside = 0;
             for (size_t k = 0; k < count; k++) {
                 int32_t dx = accepted[k].x - STEP * i, dy = accepted[k].y - STEP * j;
                 if (dx * dx + dy * dy < r2) {
                     int32_t weight = weight_along_wind(&accepted[k], r2, dx, dy);
+                    inside++;
                     weights += weight;
                     sum += (int64_t)weight * accepted[k].difference;
                 }
             }
             if (weights > 0) {
-                grid[j * nx + i] += (int32_t)rounded(sum, weights);
+                grid[j * nx + i] += (int32_t)rounded(sum, divisor(request, weights, inside));
                 support[j * nx + i] |= (uint8_t)(1u << scan);
             }
         }
@@ -288,7 +297,8 @@ static bool is_table(const struct sosnyavik_request *asked) {
 static bool is_plan(const struct sosnyavik_request *asked) {
     size_t scans = asked->scans;
     return 1 <= scans && scans <= MOST_SCANS && asked->radius.count >= scans && asked->limit.count >= scans &&
-           (asked->mode == SOSNYAVIK_ROUND || asked->mode == SOSNYAVIK_ALONG_WIND);
+           (asked->mode == SOSNYAVIK_ROUND || asked->mode == SOSNYAVIK_ALONG_WIND) &&
+           (asked->rule == SOSNYAVIK_EQUATIONS || asked->rule == SOSNYAVIK_LISTINGS);
 }
 
 /* Refusals 1 to 5, which measure; 0 if there is none. */
@@ -325,6 +335,7 @@ uint32_t plain_analyse(const struct sosnyavik_request *asked, struct sosnyavik_r
         .limit = asked->limit.at,
         .smooth = asked->smooth,
         .mode = asked->mode,
+        .rule = asked->rule,
         .time = asked->time,
         .age = asked->age,
     };

@@ -7,7 +7,7 @@ ghost use lib.ListN.{getD};
 ghost use lib.IntN.{pos, natAbs};
 ghost use Rattle.lists.specs.Sums.{upTo};
 ghost use Rattle.lists.specs.Filled.{Filled};
-ghost use Rattle.scheme.specs.Units.{mostSide, stored, isNoWind, mostStations, windMode};
+ghost use Rattle.scheme.specs.Units.{mostSide, stored, isNoWind, mostStations, windMode, equationRule, listingRule};
 ghost use Rattle.scheme.specs.Correction.{nothing, plus};
 ghost use Rattle.scheme.specs.Most.{mostAlong, mostSquare, mostWeights, mostPulls};
 ghost use Rattle.scheme.specs.Streaks.{Fair};
@@ -153,8 +153,61 @@ fn point_sums(
     s
 }
 
-// One grid row, whose points stand at base, base + 1, ..: each is corrected by the stations near the row.
+// One grid row, whose points stand at base, base + 1, ..: each is corrected by the stations near the row, by rule 1, which counts nothing.
 fn correct_row(
+    z: &mut [i32],
+    support: &mut [u8],
+    base: usize,
+    nx: usize,
+    lx: &[i32; 512],
+    ly: &[u32; 512],
+    ld: &[i64; 512],
+    lw: &[[i32; 3]; 512],
+    n: usize,
+    r2: u32,
+    bit: u8,
+)
+    requires { ⌜ RowReady (now z) (now support) base nx (alongShare (now lx) (now ly) (now ld) (now lw) r2) n bit × (r2 ≤ mostSquare) × ((t : ℕ) → t < n → SizedAlong (now lx) (now ly) (now ld) (now lw) t) ⌝ }
+    ensures { λ u. ⌜ Filled (pos 0) (rowZ equationRule (now (z .entry)) (alongShare (now (lx .entry)) (now (ly .entry)) (now (ld .entry)) (now (lw .entry)) r2) n base) base (base + nx) (now (z .entry)) (now (z .exit))
+        × Filled 0 (rowS (now (support .entry)) (alongShare (now (lx .entry)) (now (ly .entry)) (now (ld .entry)) (now (lw .entry)) r2) n bit base) base (base + nx) (now (support .entry)) (now (support .exit)) ⌝ }
+{
+    let mut i: usize = 0;
+    while i < nx {
+        let s = point_sums(lx, ly, ld, lw, n, i, r2);
+        scan_point::set_point(z, support, base + i, s.w, s.wd, bit);
+        i += 1;
+    }
+}
+
+// The same by rule 2.
+fn correct_row_by_listings(
+    z: &mut [i32],
+    support: &mut [u8],
+    base: usize,
+    nx: usize,
+    lx: &[i32; 512],
+    ly: &[u32; 512],
+    ld: &[i64; 512],
+    lw: &[[i32; 3]; 512],
+    n: usize,
+    r2: u32,
+    bit: u8,
+)
+    requires { ⌜ RowReady (now z) (now support) base nx (alongShare (now lx) (now ly) (now ld) (now lw) r2) n bit × (r2 ≤ mostSquare) × ((t : ℕ) → t < n → SizedAlong (now lx) (now ly) (now ld) (now lw) t) ⌝ }
+    ensures { λ u. ⌜ Filled (pos 0) (rowZ listingRule (now (z .entry)) (alongShare (now (lx .entry)) (now (ly .entry)) (now (ld .entry)) (now (lw .entry)) r2) n base) base (base + nx) (now (z .entry)) (now (z .exit))
+        × Filled 0 (rowS (now (support .entry)) (alongShare (now (lx .entry)) (now (ly .entry)) (now (ld .entry)) (now (lw .entry)) r2) n bit base) base (base + nx) (now (support .entry)) (now (support .exit)) ⌝ }
+{
+    let mut i: usize = 0;
+    while i < nx {
+        let s = point_sums(lx, ly, ld, lw, n, i, r2);
+        let w = scan_point::divisor(s.w, lx, ly, n, i, r2);
+        scan_point::set_point(z, support, base + i, w, s.wd, bit);
+        i += 1;
+    }
+}
+
+// The same by a rule: one that is not 2 is 1.
+fn correct_row_by(
     z: &mut [i32],
     support: &mut [u8],
     base: usize,
@@ -172,13 +225,11 @@ fn correct_row(
     ensures { λ u. ⌜ Filled (pos 0) (rowZ rule (now (z .entry)) (alongShare (now (lx .entry)) (now (ly .entry)) (now (ld .entry)) (now (lw .entry)) r2) n base) base (base + nx) (now (z .entry)) (now (z .exit))
         × Filled 0 (rowS (now (support .entry)) (alongShare (now (lx .entry)) (now (ly .entry)) (now (ld .entry)) (now (lw .entry)) r2) n bit base) base (base + nx) (now (support .entry)) (now (support .exit)) ⌝ }
 {
-    let mut i: usize = 0;
-    while i < nx {
-        let s = point_sums(lx, ly, ld, lw, n, i, r2);
-        let over = scan_point::divisor(rule, s.w, lx, ly, n, i, r2);
-        scan_point::set_point(z, support, base + i, s.w, s.wd, over, bit);
-        i += 1;
+    if rule == request::LISTINGS {
+        correct_row_by_listings(z, support, base, nx, lx, ly, ld, lw, n, r2, bit);
+        return;
     }
+    correct_row(z, support, base, nx, lx, ly, ld, lw, n, r2, bit);
 }
 
 // One correction of the whole grid, in place, as scan_point's. What is gathered of the winds has its room here, for mode 1 alone.
@@ -204,7 +255,7 @@ pub fn correct(
     let mut j: usize = 0;
     while j < t.ny {
         let n = near_row(lx, ly, ld, &mut lw, t.stations, numbers, verdict, d, r2, j);
-        correct_row(
+        correct_row_by(
             z,
             support,
             j * t.nx,

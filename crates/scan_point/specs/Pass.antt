@@ -2,7 +2,7 @@
 use Prim.Native.Nat.{ℕ, _+_, _-_, _*_, _/_, _%_, _≤_, _<_}
 use native.Mathlib.Omega.{arith}
 use native.Mathlib.Nat.{mul-le-mul, mul-le-mul-left, mul-le-mul-right, suc-mul, mul-comm}
-use mathlib.Core.Path.{_≡_, sym, ap, _∙_, fun-ext}
+use mathlib.Core.Path.{_≡_, refl, sym, ap, _∙_, fun-ext}
 use mathlib.Core.Logic.{_⊎_, inl, inr}
 use mathlib.Core.Bool.{cond, _&&_}
 use mathlib.Core.List.{List}
@@ -10,10 +10,11 @@ use lib.Arith.{digits-div, digits-mod}
 use lib.Dec.{ltb, eqb}
 use lib.ListN.{length, getD, set}
 use lib.IntN.{ℤ, pos, natAbs, _+ℤ_}
-use Rattle.lists.specs.Tests.{lt-or-le}
+use borrow.Author.Tests.{ne-eqb}
+use Rattle.lists.specs.Tests.{lt-or-le, ltb-same}
 use Rattle.lists.specs.Sums.{upTo}
 use Rattle.lists.specs.Filled.{Filled, filled-set, filled-join, filled-all}
-use Rattle.scheme.specs.Units.{mostSide, Field, stored, fieldOf, mostStations, mostRadius, mostLimit, windMode, listingRule}
+use Rattle.scheme.specs.Units.{mostSide, Field, stored, fieldOf, mostStations, mostRadius, mostLimit, windMode, equationRule, listingRule}
 use Rattle.scheme.specs.Rounding.{rounded}
 use Rattle.scheme.specs.Weight.{scale}
 use Rattle.scheme.specs.Correction.{Sums, nothing, plus, divisor, correction}
@@ -34,24 +35,41 @@ rowZ rule z give n base k = getD z k (pos 0) +ℤ correction rule (rowSums give 
 unfoldable pub rowS : (sup : List ℕ) (give : ℕ → ℕ → Sums) (n bit base k : ℕ) → ℕ
 rowS sup give n bit base k = getD sup k 0 + cond (ltb 0 (rowSums give n (k - base) .weights)) bit 0
 
--- what a point is moved by, w the sum of weights there and wd that of weight·D, divided by `over`
-abbrev pub movedBy : (w : ℕ) (wd : ℤ) (over : ℕ) → ℤ
-movedBy w wd over = cond (eqb w 0) (pos 0) (rounded wd over)
+-- what a point is moved by, wd the sum of weight·D there, divided by w
+abbrev pub movedBy : (w : ℕ) (wd : ℤ) → ℤ
+movedBy w wd = cond (eqb w 0) (pos 0) (rounded wd w)
 
--- by what it is to be divided, with so many stations inside: it matters only with some weight
+-- by what it is to be divided, w the sum of weights and so many stations inside; nothing, without any weight
 pub record Divides (rule w inside over : ℕ) : Type 0 where
   pub least : w ≤ over
   pub most : over ≤ mostWeights
+  pub none : w ≡ 0 → over ≡ 0
   pub is : 0 < w → over ≡ cond (eqb rule listingRule && eqb inside 1) scale w
 
-divides-so : (rule w inside over : ℕ) (wd : ℤ) (s : Sums) → w ≡ s .weights → wd ≡ s .pulls → s .inside ≡ inside → Divides rule w inside over
-    → movedBy w wd over ≡ correction rule s
-unfolding correction divisor
-divides-so rule w inside over wd s ew ed ei by = rw (← ew, ← ed, ei) (go (lt-or-le 0 w))
-  where
-    go : (0 < w) ⊎ (w ≤ 0) → movedBy w wd over ≡ movedBy w wd (cond (eqb rule listingRule && eqb inside 1) scale w)
-    go (inl h) = rw (by .is h)
-    go (inr h) = let e : w ≡ 0 = omega arith in rw e
+module _ (rule w inside over : ℕ) (by : Divides rule w inside over) where
+  divides-so : (wd : ℤ) (s : Sums) → w ≡ s .weights → wd ≡ s .pulls → s .inside ≡ inside → movedBy over wd ≡ correction rule s
+  unfolding correction divisor
+  divides-so wd s ew ed ei = rw (← ew, ← ed, ei) (go (lt-or-le 0 w))
+    where
+      go : (0 < w) ⊎ (w ≤ 0) → movedBy over wd ≡ cond (eqb w 0) (pos 0) (rounded wd (cond (eqb rule listingRule && eqb inside 1) scale w))
+      go (inl h) = rw (ne-eqb over 0 (λ e. omega (arith, by .least)), ne-eqb w 0 (λ e. omega arith)) (ap (rounded wd) (by .is h))
+      go (inr h) = let e : w ≡ 0 = omega arith in rw (by .none e, e)
+
+  supports-so : ltb 0 over ≡ ltb 0 w
+  supports-so = ltb-same 0 over 0 w (λ h. some (lt-or-le 0 w) h) (λ h. omega (arith, by .least))
+    where
+      some : (0 < w) ⊎ (w ≤ 0) → 0 < over → 0 < w
+      some (inl h) l = h
+      some (inr h) l = absurd (let e : w ≡ 0 = omega arith in omega (arith, by .none e))
+
+-- under rule 1 that is the sum of weights
+pub by-weights : {w : ℕ} (inside : ℕ) → w ≤ mostWeights → Divides equationRule w inside w
+by-weights inside few = record { least = omega arith; most = few; none = λ e. e; is = λ some. refl }
+
+-- and a row by a rule that is not 2 is one by rule 1
+pub other-rule : (rule : ℕ) → (rule ≡ listingRule → ⊥) → (z : List ℤ) (give : ℕ → ℕ → Sums) (n base : ℕ) → rowZ rule z give n base ≡ rowZ equationRule z give n base
+unfolding rowZ correction divisor
+other-rule rule other z give n base = fun-ext (λ k. rw (ne-eqb rule listingRule other))
 
 -- a point whose value and support can be set
 pub record PointReady (z : List ℤ) (sup : List ℕ) (p bit : ℕ) : Type 0 where
@@ -101,21 +119,21 @@ module _ {z₀ : List ℤ} {sup₀ : List ℕ} {base nx : ℕ} {give : ℕ → �
       pub pulls-small : natAbs wd ≤ mostLimit * over
       pulls-small = omega (arith, sums-small .1, mul-le-mul-left mostLimit (by .least))
 
-      pub next-value : (v : ℤ) → v ≡ getD z (base + i) (pos 0) +ℤ movedBy w wd over
+      pub next-value : (v : ℤ) → v ≡ getD z (base + i) (pos 0) +ℤ movedBy over wd
           → Filled (pos 0) (rowZ rule z₀ give n base) base (base + (i + 1)) z₀ (set z (base + i) v)
       next-value v e =
           filled-set (pos 0) (rowZ rule z₀ give n base) base (base + i) (base + (i + 1)) z₀ z v next-place (omega arith) (point-ready .inside) (e ∙ same) pz
         where
-          same : getD z (base + i) (pos 0) +ℤ movedBy w wd over ≡ rowZ rule z₀ give n base (base + i)
-          same = unfold rowZ in (rw (column, pz .rest (base + i) (omega arith), divides-so rule w inside over wd (rowSums give n i) w-is wd-is inside-is by))
+          same : getD z (base + i) (pos 0) +ℤ movedBy over wd ≡ rowZ rule z₀ give n base (base + i)
+          same = unfold rowZ in (rw (column, pz .rest (base + i) (omega arith), divides-so rule w inside over by wd (rowSums give n i) w-is wd-is inside-is))
 
-    pub next-support : (b : ℕ) → b ≡ getD sup (base + i) 0 + cond (ltb 0 w) bit 0
-        → Filled 0 (rowS sup₀ give n bit base) base (base + (i + 1)) sup₀ (set sup (base + i) b)
-    next-support b e =
-        filled-set 0 (rowS sup₀ give n bit base) base (base + i) (base + (i + 1)) sup₀ sup b next-place (omega arith) (point-ready .both) (e ∙ same) ps
-      where
-        same : getD sup (base + i) 0 + cond (ltb 0 w) bit 0 ≡ rowS sup₀ give n bit base (base + i)
-        same = unfold rowS in (rw (column, w-is, ps .rest (base + i) (omega arith)))
+      pub next-support : (b : ℕ) → b ≡ getD sup (base + i) 0 + cond (ltb 0 over) bit 0
+          → Filled 0 (rowS sup₀ give n bit base) base (base + (i + 1)) sup₀ (set sup (base + i) b)
+      next-support b e =
+          filled-set 0 (rowS sup₀ give n bit base) base (base + i) (base + (i + 1)) sup₀ sup b next-place (omega arith) (point-ready .both) (e ∙ same) ps
+        where
+          same : getD sup (base + i) 0 + cond (ltb 0 over) bit 0 ≡ rowS sup₀ give n bit base (base + i)
+          same = unfold rowS in (rw (column, supports-so rule w inside over by, w-is, ps .rest (base + i) (omega arith)))
 
 -- ---- a grid row, from all the stations
 

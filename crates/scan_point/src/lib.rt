@@ -3,12 +3,12 @@
 ghost use mathlib.Core.Path.{_≡_};
 ghost use Prim.Native.Nat.{ℕ, _+_, _*_, _≤_, _<_};
 ghost use mathlib.Core.Bool.{cond};
-ghost use lib.Dec.{ltb, eqb};
+ghost use lib.Dec.{ltb};
 ghost use lib.ListN.{getD, set};
 ghost use lib.IntN.{pos, natAbs, _+ℤ_, _*ℤ_};
 ghost use Rattle.lists.specs.Sums.{upTo};
 ghost use Rattle.lists.specs.Filled.{Filled};
-ghost use Rattle.scheme.specs.Units.{mostSide, stored, mostStations, mostLimit, roundMode};
+ghost use Rattle.scheme.specs.Units.{mostSide, stored, mostStations, mostLimit, roundMode, equationRule, listingRule};
 ghost use Rattle.scheme.specs.Weight.{scale, weight};
 ghost use Rattle.scheme.specs.Correction.{nothing, plus};
 ghost use Rattle.scheme.specs.Most.{mostAlong, mostSquare, mostWeights, mostPulls, mostField};
@@ -130,54 +130,46 @@ fn one_if_inside(lx: &[i32; 512], ly: &[u32; 512], t: usize, i: usize, r2: u32) 
     one_if_below(scan_weight::squared_distance(lx[t], px, ly[t]), r2)
 }
 
-// Whether exactly one of the n stations near a grid row is inside the radius at its column i, whatever its weight. The count ends at the second.
-fn is_lone(lx: &[i32; 512], ly: &[u32; 512], n: usize, i: usize, r2: u32) -> bool
+// How many of the n stations near a grid row are inside the radius at its column i, whatever their weight.
+fn how_many(lx: &[i32; 512], ly: &[u32; 512], n: usize, i: usize, r2: u32) -> usize
     requires { ⌜ (n ≤ mostStations) × (i < mostSide) × ((t : ℕ) → t < n → Placed (now lx) (now ly) t) ⌝ }
-    ensures { λ b. ⌜ b ≡ eqb (upTo 0 _+_ n (insideIn (now (lx .entry)) (now (ly .entry)) r2 i)) 1 ⌝ }
+    ensures { λ r. ⌜ r ≡ upTo 0 _+_ n (insideIn (now (lx .entry)) (now (ly .entry)) r2 i) ⌝ }
 {
     let mut inside: usize = 0;
-    let mut t = n;
-    while (0 < t) & (inside < 2) {
-        inside += one_if_inside(lx, ly, t - 1, i, r2);
-        t -= 1;
+    let mut t: usize = 0;
+    while t < n {
+        inside += one_if_inside(lx, ly, t, i, r2);
+        t += 1;
     }
-    inside == 1
+    inside
 }
 
-// What the sum of weight·D is divided by at column i of a grid row, w the sum of weights there. Only under rule 2 can it be the scale, and only where w
-// is no more than one station's weight: elsewhere nothing is counted.
-pub fn divisor(
-    rule: u32,
-    w: u64,
-    lx: &[i32; 512],
-    ly: &[u32; 512],
-    n: usize,
-    i: usize,
-    r2: u32,
-) -> u64
+// What the sum of weight·D is divided by under rule 2 at column i of a grid row, w the sum of weights there; 0 where that is 0. It can be the scale only
+// where w is no more than one station's weight: elsewhere none are counted.
+pub fn divisor(w: u64, lx: &[i32; 512], ly: &[u32; 512], n: usize, i: usize, r2: u32) -> u64
     requires { ⌜ (w ≤ mostWeights) × (n ≤ mostStations) × (i < mostSide) × ((t : ℕ) → t < n → Placed (now lx) (now ly) t)
         × (w ≤ scale * upTo 0 _+_ n (insideIn (now lx) (now ly) r2 i)) ⌝ }
-    ensures { λ over. ⌜ Divides rule w (upTo 0 _+_ n (insideIn (now (lx .entry)) (now (ly .entry)) r2 i)) over ⌝ }
+    ensures { λ over. ⌜ Divides listingRule w (upTo 0 _+_ n (insideIn (now (lx .entry)) (now (ly .entry)) r2 i)) over ⌝ }
 {
-    if (rule != request::LISTINGS) | (w == 0) | (scan_weight::SCALE < w) {
+    if (w == 0) | (scan_weight::SCALE < w) {
         return w;
     }
-    if is_lone(lx, ly, n, i, r2) {
+    if how_many(lx, ly, n, i, r2) == 1 {
         scan_weight::SCALE
     } else {
         w
     }
 }
 
-// A point's value after its correction, by the sum of weight·D divided by `over`.
-fn moved(z: i32, w: u64, wd: i64, over: u64) -> i32
-    requires { ⌜ (natAbs z ≤ mostField) × (w ≤ over) × (over ≤ mostWeights) × (natAbs wd ≤ mostLimit * over) ⌝ }
-    ensures { λ r. ⌜ r ≡ z +ℤ movedBy w wd over ⌝ }
+// A point's value after its correction, the sum of weight·D divided by w; 0 if that is 0.
+fn moved(z: i32, w: u64, wd: i64) -> i32
+    requires { ⌜ (natAbs z ≤ mostField) × (w ≤ mostWeights) × (natAbs wd ≤ mostLimit * w) ⌝ }
+    ensures { λ r. ⌜ r ≡ z +ℤ movedBy w wd ⌝ }
 {
     if w == 0 {
         return z;
     }
-    ((z as i64) + rounding::rounded(wd, over as u32)) as i32
+    ((z as i64) + rounding::rounded(wd, w as u32)) as i32
 }
 
 // A point's support byte after its correction.
@@ -237,18 +229,69 @@ fn near_row(
     n
 }
 
-// A point's new value and support, at its place in the grid.
-pub fn set_point(z: &mut [i32], support: &mut [u8], p: usize, w: u64, wd: i64, over: u64, bit: u8)
-    requires { ⌜ PointReady (now z) (now support) p bit × (w ≤ over) × (over ≤ mostWeights) × (natAbs wd ≤ mostLimit * over) ⌝ }
-    ensures { λ u. ⌜ (now (z .exit) ≡ set (now (z .entry)) p (getD (now (z .entry)) p (pos 0) +ℤ movedBy w wd over))
+// A point's new value and support, at its place in the grid, the sum of weight·D divided by w.
+pub fn set_point(z: &mut [i32], support: &mut [u8], p: usize, w: u64, wd: i64, bit: u8)
+    requires { ⌜ PointReady (now z) (now support) p bit × (w ≤ mostWeights) × (natAbs wd ≤ mostLimit * w) ⌝ }
+    ensures { λ u. ⌜ (now (z .exit) ≡ set (now (z .entry)) p (getD (now (z .entry)) p (pos 0) +ℤ movedBy w wd))
         × (now (support .exit) ≡ set (now (support .entry)) p (getD (now (support .entry)) p 0 + cond (ltb 0 w) bit 0)) ⌝ }
 {
-    z[p] = moved(z[p], w, wd, over);
+    z[p] = moved(z[p], w, wd);
     support[p] = with_bit(support[p], w, bit);
 }
 
-// One grid row, whose points stand at base, base + 1, ..: each is corrected by the stations near the row.
+// One grid row, whose points stand at base, base + 1, ..: each is corrected by the stations near the row, by rule 1, which counts nothing.
 fn correct_row(
+    z: &mut [i32],
+    support: &mut [u8],
+    base: usize,
+    nx: usize,
+    lx: &[i32; 512],
+    ly: &[u32; 512],
+    ld: &[i64; 512],
+    n: usize,
+    r2: u32,
+    bit: u8,
+)
+    requires { ⌜ RowReady (now z) (now support) base nx (nearShare (now lx) (now ly) (now ld) r2) n bit × (r2 ≤ mostSquare) × ((t : ℕ) → t < n → Sized (now lx) (now ly) (now ld) t) ⌝ }
+    ensures { λ u. ⌜ Filled (pos 0) (rowZ equationRule (now (z .entry)) (nearShare (now (lx .entry)) (now (ly .entry)) (now (ld .entry)) r2) n base) base (base + nx) (now (z .entry)) (now (z .exit))
+        × Filled 0 (rowS (now (support .entry)) (nearShare (now (lx .entry)) (now (ly .entry)) (now (ld .entry)) r2) n bit base) base (base + nx) (now (support .entry)) (now (support .exit)) ⌝ }
+{
+    let mut i: usize = 0;
+    while i < nx {
+        let s = point_sums(lx, ly, ld, n, i, r2);
+        set_point(z, support, base + i, s.w, s.wd, bit);
+        i += 1;
+    }
+}
+
+// The same by rule 2.
+fn correct_row_by_listings(
+    z: &mut [i32],
+    support: &mut [u8],
+    base: usize,
+    nx: usize,
+    lx: &[i32; 512],
+    ly: &[u32; 512],
+    ld: &[i64; 512],
+    n: usize,
+    r2: u32,
+    bit: u8,
+)
+    requires { ⌜ RowReady (now z) (now support) base nx (nearShare (now lx) (now ly) (now ld) r2) n bit × (r2 ≤ mostSquare) × ((t : ℕ) → t < n → Sized (now lx) (now ly) (now ld) t) ⌝ }
+    ensures { λ u. ⌜ Filled (pos 0) (rowZ listingRule (now (z .entry)) (nearShare (now (lx .entry)) (now (ly .entry)) (now (ld .entry)) r2) n base) base (base + nx) (now (z .entry)) (now (z .exit))
+        × Filled 0 (rowS (now (support .entry)) (nearShare (now (lx .entry)) (now (ly .entry)) (now (ld .entry)) r2) n bit base) base (base + nx) (now (support .entry)) (now (support .exit)) ⌝ }
+{
+    let mut i: usize = 0;
+    while i < nx {
+        let s = point_sums(lx, ly, ld, n, i, r2);
+        let w = divisor(s.w, lx, ly, n, i, r2);
+        set_point(z, support, base + i, w, s.wd, bit);
+        i += 1;
+    }
+}
+
+// The same by a rule: one that is not 2 is 1.
+fn correct_row_by(
     z: &mut [i32],
     support: &mut [u8],
     base: usize,
@@ -265,13 +308,11 @@ fn correct_row(
     ensures { λ u. ⌜ Filled (pos 0) (rowZ rule (now (z .entry)) (nearShare (now (lx .entry)) (now (ly .entry)) (now (ld .entry)) r2) n base) base (base + nx) (now (z .entry)) (now (z .exit))
         × Filled 0 (rowS (now (support .entry)) (nearShare (now (lx .entry)) (now (ly .entry)) (now (ld .entry)) r2) n bit base) base (base + nx) (now (support .entry)) (now (support .exit)) ⌝ }
 {
-    let mut i: usize = 0;
-    while i < nx {
-        let s = point_sums(lx, ly, ld, n, i, r2);
-        let over = divisor(rule, s.w, lx, ly, n, i, r2);
-        set_point(z, support, base + i, s.w, s.wd, over, bit);
-        i += 1;
+    if rule == request::LISTINGS {
+        correct_row_by_listings(z, support, base, nx, lx, ly, ld, n, r2, bit);
+        return;
     }
+    correct_row(z, support, base, nx, lx, ly, ld, n, r2, bit);
 }
 
 // One correction of the whole grid, in place: the differences d were all taken before, so that no point sees another's correction. The lists
@@ -297,7 +338,7 @@ pub fn correct(
     let mut j: usize = 0;
     while j < t.ny {
         let n = near_row(lx, ly, ld, t.stations, numbers, verdict, d, r2, j);
-        correct_row(z, support, j * t.nx, t.nx, lx, ly, ld, n, r2, t.rule, bit);
+        correct_row_by(z, support, j * t.nx, t.nx, lx, ly, ld, n, r2, t.rule, bit);
         j += 1;
     }
 }

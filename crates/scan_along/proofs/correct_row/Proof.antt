@@ -8,23 +8,23 @@ use mir.Val.{toZ, ofZ}
 use Rattle.integers.specs.Words.{bits-back}
 use Rattle.lists.specs.Sums.{upTo}
 use Rattle.lists.specs.Filled.{Filled, filled-none}
-use Rattle.scheme.specs.Units.{mostLimit}
+use Rattle.scheme.specs.Units.{mostLimit, equationRule}
 use Rattle.scheme.specs.Weight.{scale}
 use Rattle.scheme.specs.Most.{mostWeights}
 use Rattle.scan_point.specs.Near.{inside-counted}
-use Rattle.scan_point.specs.Round.{insideIn, sized-placed}
-use Rattle.scan_point.specs.Pass.{rowSums, rowZ, rowS, PointReady, point-ready, sums-small, pulls-small, next-value, next-support}
+use Rattle.scan_point.specs.Round.{insideIn}
+use Rattle.scan_point.specs.Pass.{rowSums, rowZ, rowS, PointReady, point-ready, by-weights, sums-small, next-value, next-support}
 use Rattle.scan_along.specs.Streak.{alongShare, along-inside}
 use Rattle.scan_along.proofs.correct_row.Statement.{statement}
 use Rattle.scan_along.proofs.correct_row.Tie as tie
 
 abbrev Inv-loop : tie.InvT-loop
-Inv-loop z₀ support₀ base nx lx ly ld lw n r2 rule bit i₀ z support i =
-    (i ≤ nx) × Filled (pos 0) (rowZ rule z₀ (alongShare lx ly ld lw r2) n base) base (base + i) z₀ z
+Inv-loop z₀ support₀ base nx lx ly ld lw n r2 bit i₀ z support i =
+    (i ≤ nx) × Filled (pos 0) (rowZ equationRule z₀ (alongShare lx ly ld lw r2) n base) base (base + i) z₀ z
     × Filled 0 (rowS support₀ (alongShare lx ly ld lw r2) n bit base) base (base + i) support₀ support
 
 abbrev μ-loop : tie.MeasureT-loop
-μ-loop z₀ support₀ base nx lx ly ld lw n r2 rule bit i₀ z support i = nx - i
+μ-loop z₀ support₀ base nx lx ly ld lw n r2 bit i₀ z support i = nx - i
 
 -- a turn of the loop: Pass's laws at its values
 module _ (k : tie.In-loop Inv-loop μ-loop) where
@@ -35,7 +35,7 @@ module _ (k : tie.In-loop Inv-loop μ-loop) where
   i = k .before .loop .i
 
   ready : PointReady (k .before .loop .z) (k .before .loop .support) (s .args .base + i) (s .args .bit)
-  ready = point-ready (s .pre .0) (s .args .rule) (k .loop-test .taken) (k .before .loop .inv .1) (k .before .loop .inv .2)
+  ready = point-ready (s .pre .0) equationRule (k .loop-test .taken) (k .before .loop .inv .1) (k .before .loop .inv .2)
 
 -- and with the sums at its point
 module _ (c : tie.After-point-sums Inv-loop μ-loop) where
@@ -52,20 +52,10 @@ module _ (c : tie.After-point-sums Inv-loop μ-loop) where
 
   small : (c .point-sums .result .w ≤ mostWeights) × (natAbs (c .point-sums .result .wd) ≤ mostLimit * c .point-sums .result .w)
       × (c .point-sums .result .w ≤ scale * upTo 0 _+_ (s k .args .n) one)
-  small = sums-small (s k .pre .0) (s k .args .rule) (k .loop-test .taken) (k .before .loop .inv .1) (k .before .loop .inv .2) (c .point-sums .ensures .0) (c .point-sums .ensures .1) inside-is
+  small = sums-small (s k .pre .0) equationRule (k .loop-test .taken) (k .before .loop .inv .1) (k .before .loop .inv .2) (c .point-sums .ensures .0) (c .point-sums .ensures .1) inside-is
 
   wd-is : toZ w64 (ofZ w64 (c .point-sums .result .wd)) ≡ c .point-sums .result .wd
   wd-is = bits-back w64 (c .point-sums .result .wd) (omega (arith, small))
-
--- and with what they are divided by
-module _ (d : tie.After-divisor Inv-loop μ-loop) where
-  abbrev o : tie.After-point-sums Inv-loop μ-loop
-  o = d .before
-
-  pulls-most : natAbs (o .point-sums .result .wd) ≤ mostLimit * d .divisor .result
-  pulls-most =
-      pulls-small (s (k o) .pre .0) (s (k o) .args .rule) (k o .loop-test .taken) (k o .before .loop .inv .1) (k o .before .loop .inv .2) (o .point-sums .ensures .0) (o .point-sums .ensures .1)
-      (inside-is o) (d .divisor .ensures)
 
 loop-holds : tie.Need-loop-holds Inv-loop μ-loop
 loop-holds c =
@@ -77,42 +67,37 @@ point-sums-requires c κs =
     let p = s c .pre in
     (p .0 .few, omega (arith, c .loop-test .taken, p .0 .narrow), p .1, p .2)
 
-divisor-requires : tie.Need-divisor-requires Inv-loop μ-loop
-divisor-requires c κs =
-    let p = s (k c) .pre in
-    (small c .0, p .0 .few, omega (arith, k c .loop-test .taken, p .0 .narrow), λ t h. sized-placed (p .2 t h .sized), small c .2)
-
 add-set-point : tie.Need-add-set-point Inv-loop μ-loop
-add-set-point c = let d = c .before .before in omega (arith, ready (k (o d)) .short)
+add-set-point c = let o = c .before .before in omega (arith, ready (k o) .short)
 
 set-point-requires : tie.Need-set-point-requires Inv-loop μ-loop
 set-point-requires c κs =
-    let d = c .before .before .before in
-    (ready (k (o d)), d .divisor .ensures .least, d .divisor .ensures .most, rw (wd-is (o d)) (pulls-most d))
+    let o = c .before .before .before in
+    (ready (k o), small o .0, rw (wd-is o) (small o .1))
 
--- the quotient of the turn that ends
-abbrev divided : tie.After-slice-known2 Inv-loop μ-loop → tie.After-divisor Inv-loop μ-loop
-divided c = c .before .before .before .before .before .before .before
+-- the sums of the turn that ends
+abbrev summed : tie.After-slice-known2 Inv-loop μ-loop → tie.After-point-sums Inv-loop μ-loop
+summed c = c .before .before .before .before .before .before .before
 
 add-i : tie.Need-add-i Inv-loop μ-loop
-add-i c = omega (arith, ready (k (o (divided c))) .short)
+add-i c = omega (arith, ready (k (summed c)) .short)
 
 loop-less : tie.Need-loop-less Inv-loop μ-loop
-loop-less c = omega (arith, k (o (divided c)) .loop-test .taken)
+loop-less c = omega (arith, k (summed c) .loop-test .taken)
 
 loop-again : tie.Need-loop-again Inv-loop μ-loop
 loop-again c =
-    let d = divided c in
-    let t = k (o d) in
+    let o = summed c in
+    let t = k o in
     let l = t .before .loop in
     let p = s t .pre .0 in
-    let rule = s t .args .rule in
-    let sums = o d .point-sums .ensures in
+    let sums = o .point-sums .ensures in
+    let by = by-weights (upTo 0 _+_ (s t .args .n) (one o)) (small o .0) in
     let q = c .before .before .before .set-point in
-    let e = rw (wd-is (o d)) at (q .ensures .0) in (
+    let e = rw (wd-is o) at (q .ensures .0) in (
       omega (arith, t .loop-test .taken),
-      rw e (next-value p rule (t .loop-test .taken) (l .inv .1) (l .inv .2) (sums .0) (sums .1) (inside-is (o d)) (d .divisor .ensures) _ refl),
-      rw (q .ensures .1) (next-support p rule (t .loop-test .taken) (l .inv .1) (l .inv .2) (sums .0) (sums .1) (inside-is (o d)) _ refl),
+      rw e (next-value p equationRule (t .loop-test .taken) (l .inv .1) (l .inv .2) (sums .0) (sums .1) (inside-is o) by _ refl),
+      rw (q .ensures .1) (next-support p equationRule (t .loop-test .taken) (l .inv .1) (l .inv .2) (sums .0) (sums .1) (inside-is o) by _ refl),
     )
 
 same-length : tie.Need-same-length Inv-loop μ-loop
@@ -135,7 +120,6 @@ correct-row-spec =
     μ-loop
     loop-holds
     point-sums-requires
-    divisor-requires
     add-set-point
     set-point-requires
     add-i

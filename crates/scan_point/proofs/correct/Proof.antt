@@ -55,13 +55,13 @@ near-row-requires c κs =
     let p = start t .pre .0 in
     (r2-close p, omega (arith, t .if1 .taken, p .shape .few-rows), p .stations, at t .loop .inv .1)
 
-mul-correct-row : tie.Need-mul-correct-row Inv-loop μ-loop
-mul-correct-row c =
+mul-correct-row-by : tie.Need-mul-correct-row-by Inv-loop μ-loop
+mul-correct-row-by c =
     let t = turn (c .before .before .before) in
     omega (arith, row-place (ready t))
 
-correct-row-requires : tie.Need-correct-row-requires Inv-loop μ-loop
-correct-row-requires c κs =
+correct-row-by-requires : tie.Need-correct-row-by-requires Inv-loop μ-loop
+correct-row-by-requires c κs =
     let n = c .before .before .before .before .before .before in
     let p = ready (turn n) in
     let near = n .near-row .ensures .1 in
@@ -85,7 +85,7 @@ loop-again c =
     let p = start t .pre .0 in
     let h = t .if1 .taken in
     let near = n .near-row .ensures .1 in
-    let r = c .before .before .before .correct-row in (
+    let r = c .before .before .before .correct-row-by in (
       omega (arith, h),
       n .near-row .ensures .0,
       next-z p (start t .args .t .rule) h (i .2) (i .3) _ (row-values (ready t) (λ i t. round-slight _ _ _ _ i t) near (start t .args .t .rule) (r .ensures .0)),
@@ -114,8 +114,8 @@ correct-spec =
     mul-r2
     loop-holds
     near-row-requires
-    mul-correct-row
-    correct-row-requires
+    mul-correct-row-by
+    correct-row-by-requires
     add-j
     loop-less
     loop-again

@@ -20,12 +20,12 @@ use Rattle.scan_point.proofs.moved.Reads as reads
 use Rattle.scan_point.proofs.moved.Lts as lts
 use Rattle.rounding.proofs.rounded.Reads as rounded-reads
 
--- without any weight nothing is moved, else by the rounded quotient
-no-weights : (w : ℕ) (wd : ℤ) (over : ℕ) → w ≡ 0 → movedBy w wd over ≡ pos 0
-no-weights w wd over e = rw (eq-eqb w 0 e)
+-- zero divisor aside, the correction is the rounded quotient
+no-weights : (w : ℕ) (wd : ℤ) → w ≡ 0 → movedBy w wd ≡ pos 0
+no-weights w wd e = rw (eq-eqb w 0 e)
 
-some-weights : (w : ℕ) (wd : ℤ) (over : ℕ) → (w ≡ 0 → ⊥) → movedBy w wd over ≡ rounded wd over
-some-weights w wd over e = rw (ne-eqb w 0 e)
+some-weights : (w : ℕ) (wd : ℤ) → (w ≡ 0 → ⊥) → movedBy w wd ≡ rounded wd w
+some-weights w wd e = rw (ne-eqb w 0 e)
 
 module _ (c : lts.After-rounded (rounded-reads.Asked, rounded-reads.Learnt) reads.Pre reads.Post) where
   abbrev s : lts.Start (rounded-reads.Asked, rounded-reads.Learnt) reads.Pre reads.Post
@@ -37,11 +37,11 @@ module _ (c : lts.After-rounded (rounded-reads.Asked, rounded-reads.Learnt) read
   abbrev r : ℤ
   r = c .rounded .result
 
-  r-is : r ≡ rounded (s .args .wd) (s .args .over)
+  r-is : r ≡ rounded (s .args .wd) (s .args .w)
   r-is = rw (toZ-ofZ (s .fits .wd)) at (c .rounded .ensures)
 
   r-small : natAbs r ≤ mostLimit
-  r-small = rw r-is (rounded-size (s .args .wd) (s .args .over) mostLimit (s .pre .3))
+  r-small = rw r-is (rounded-size (s .args .wd) (s .args .w) mostLimit (s .pre .2))
 
   sum-small : natAbs (z +ℤ r) ≤ mostField + mostLimit
   sum-small = omega (arith, size-add z r, r-small, s .pre .0)
@@ -58,18 +58,18 @@ returns : tie.Need-returns
 returns c =
     let s = c .before in
     toZ-ofZ (s .fits .z)
-    ∙ sym (ap (λ (t : ℤ). s .args .z +ℤ t) (no-weights (s .args .w) (s .args .wd) (s .args .over) (c .if1 .taken)) ∙ +ℤ-idr (s .args .z))
+    ∙ sym (ap (λ (t : ℤ). s .args .z +ℤ t) (no-weights (s .args .w) (s .args .wd) (c .if1 .taken)) ∙ +ℤ-idr (s .args .z))
 
 cast-result : tie.Need-cast-result
 cast-result c = rw (toZ-ofZ (c .before .fits .z)) (sfits-widen tt (c .before .fits .z))
 
 cast-rounded : tie.Need-cast-rounded
-cast-rounded c = omega (arith, c .before .pre .2)
+cast-rounded c = omega (arith, c .before .pre .1)
 
 rounded-requires : tie.Need-rounded-requires
 rounded-requires c κs =
     let s = c .before in
-    (rw (toZ-ofZ (s .fits .wd)) (omega (arith, s .pre .3, s .pre .2)), omega (arith, c .if1 .left, s .pre .1))
+    (rw (toZ-ofZ (s .fits .wd)) (omega (arith, s .pre .2, s .pre .1)), omega (arith, c .if1 .left))
 
 add-result : tie.Need-add-result
 add-result c = rw (sum-is c) (fits-size w64 (z c +ℤ r c) (omega (arith, sum-small c)))
@@ -82,7 +82,7 @@ returns-2 c =
     let s = c .before .before in
     ap (λ (t : ℤ). toZ w32 (ofZ w32 t)) (sum-back c)
     ∙ bits-back w32 (z c +ℤ r c) (omega (arith, sum-small c))
-    ∙ ap (λ (t : ℤ). z c +ℤ t) (r-is c ∙ sym (some-weights (s .args .w) (s .args .wd) (s .args .over) (c .before .if1 .left)))
+    ∙ ap (λ (t : ℤ). z c +ℤ t) (r-is c ∙ sym (some-weights (s .args .w) (s .args .wd) (c .before .if1 .left)))
 
 pub moved-spec : {M : Type 1} → statement M
 moved-spec =

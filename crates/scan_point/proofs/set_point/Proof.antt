@@ -27,12 +27,12 @@ module _ (s : lts.Start (moved-reads.Asked, moved-reads.Learnt, with-bit-reads.A
   z = getD (s .args .z .now) (s .args .p) (pos 0)
 
   abbrev new : ℤ
-  new = z +ℤ movedBy (s .args .w) (s .args .wd) (s .args .over)
+  new = z +ℤ movedBy (s .args .w) (s .args .wd)
 
-  moved-small : natAbs (movedBy (s .args .w) (s .args .wd) (s .args .over)) ≤ mostLimit
+  moved-small : natAbs (movedBy (s .args .w) (s .args .wd)) ≤ mostLimit
   moved-small =
-      cond-both (λ (v : ℤ). natAbs v ≤ mostLimit) (eqb (s .args .w) 0) (pos 0) (rounded (s .args .wd) (s .args .over)) (λ e. omega arith)
-      (λ e. rounded-size (s .args .wd) (s .args .over) mostLimit (s .pre .3))
+      cond-both (λ (v : ℤ). natAbs v ≤ mostLimit) (eqb (s .args .w) 0) (pos 0) (rounded (s .args .wd) (s .args .w)) (λ e. omega arith)
+      (λ e. rounded-size (s .args .wd) (s .args .w) mostLimit (s .pre .2))
 
   z-back : toZ w32 (ofZ w32 z) ≡ z
   z-back = bits-back w32 z (omega (arith, s .pre .0 .low))
@@ -43,7 +43,7 @@ module _ (s : lts.Start (moved-reads.Asked, moved-reads.Learnt, with-bit-reads.A
   new-back : toZ w32 (ofZ w32 new) ≡ new
   new-back =
       bits-back w32 new
-      (omega (arith, s .pre .0 .low, size-add z (movedBy (s .args .w) (s .args .wd) (s .args .over)), moved-small))
+      (omega (arith, s .pre .0 .low, size-add z (movedBy (s .args .w) (s .args .wd)), moved-small))
 
 -- the last call's start
 abbrev at : tie.After-with-bit → tie.Start
@@ -58,10 +58,10 @@ slice-copy-out-moved c = c .before .pre .0 .inside
 moved-requires : tie.Need-moved-requires
 moved-requires c κs =
     let s = c .before .before in
-    (rw (z-back s) (s .pre .0 .low), s .pre .1, s .pre .2, rw (wd-back s) (s .pre .3))
+    (rw (z-back s) (s .pre .0 .low), s .pre .1, rw (wd-back s) (s .pre .2))
 
-mul-t12 : tie.Need-mul-t12
-mul-t12 c = omega (arith, c .before .before .before .pre .0 .short)
+mul-t11 : tie.Need-mul-t11
+mul-t11 c = omega (arith, c .before .before .before .pre .0 .short)
 
 slice-set-from-z : tie.Need-slice-set-from-z
 slice-set-from-z c = c .before .before .before .pre .0 .inside
@@ -96,7 +96,7 @@ set-point-spec =
     mul-moved
     slice-copy-out-moved
     moved-requires
-    mul-t12
+    mul-t11
     slice-set-from-z
     slice-read-with-bit
     with-bit-requires
