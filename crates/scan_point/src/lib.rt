@@ -3,7 +3,7 @@
 ghost use mathlib.Core.Path.{_≡_};
 ghost use Prim.Native.Nat.{ℕ, _+_, _*_, _≤_, _<_};
 ghost use mathlib.Core.Bool.{cond};
-ghost use lib.Dec.{ltb};
+ghost use lib.Dec.{ltb, eqb};
 ghost use lib.ListN.{getD, set};
 ghost use lib.IntN.{pos, natAbs, _+ℤ_, _*ℤ_};
 ghost use Rattle.lists.specs.Sums.{upTo};
@@ -130,18 +130,18 @@ fn one_if_inside(lx: &[i32; 512], ly: &[u32; 512], t: usize, i: usize, r2: u32) 
     one_if_below(scan_weight::squared_distance(lx[t], px, ly[t]), r2)
 }
 
-// How many of the n stations near a grid row are inside the radius at its column i, whatever their weight.
-fn how_many(lx: &[i32; 512], ly: &[u32; 512], n: usize, i: usize, r2: u32) -> usize
+// Whether exactly one of the n stations near a grid row is inside the radius at its column i, whatever its weight. The count ends at the second.
+fn is_lone(lx: &[i32; 512], ly: &[u32; 512], n: usize, i: usize, r2: u32) -> bool
     requires { ⌜ (n ≤ mostStations) × (i < mostSide) × ((t : ℕ) → t < n → Placed (now lx) (now ly) t) ⌝ }
-    ensures { λ r. ⌜ r ≡ upTo 0 _+_ n (insideIn (now (lx .entry)) (now (ly .entry)) r2 i) ⌝ }
+    ensures { λ b. ⌜ b ≡ eqb (upTo 0 _+_ n (insideIn (now (lx .entry)) (now (ly .entry)) r2 i)) 1 ⌝ }
 {
     let mut inside: usize = 0;
-    let mut t: usize = 0;
-    while t < n {
-        inside += one_if_inside(lx, ly, t, i, r2);
-        t += 1;
+    let mut t = n;
+    while (0 < t) & (inside < 2) {
+        inside += one_if_inside(lx, ly, t - 1, i, r2);
+        t -= 1;
     }
-    inside
+    inside == 1
 }
 
 // What the sum of weight·D is divided by under rule 2 at column i of a grid row, w the sum of weights there; 0 where that is 0. It can be the scale only
@@ -154,7 +154,7 @@ pub fn divisor(w: u64, lx: &[i32; 512], ly: &[u32; 512], n: usize, i: usize, r2:
     if (w == 0) | (scan_weight::SCALE < w) {
         return w;
     }
-    if how_many(lx, ly, n, i, r2) == 1 {
+    if is_lone(lx, ly, n, i, r2) {
         scan_weight::SCALE
     } else {
         w
