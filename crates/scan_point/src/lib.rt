@@ -1,9 +1,9 @@
 // Sums and corrections at the points of a grid (document 01, "One scan", Correction; document 02, 6): what both modes share, and those by the round
 // weight.
 ghost use mathlib.Core.Path.{_≡_};
-ghost use Prim.Native.Nat.{ℕ, _+_, _*_, _≤_, _<_};
+ghost use Prim.Native.Nat.{ℕ, _+_, _-_, _*_, _≤_, _<_};
 ghost use mathlib.Core.Bool.{cond};
-ghost use lib.Dec.{ltb, eqb};
+ghost use lib.Dec.{ltb};
 ghost use lib.ListN.{getD, set};
 ghost use lib.IntN.{pos, natAbs, _+ℤ_, _*ℤ_};
 ghost use Rattle.lists.specs.Sums.{upTo};
@@ -13,7 +13,7 @@ ghost use Rattle.scheme.specs.Weight.{scale, weight};
 ghost use Rattle.scheme.specs.Correction.{nothing, plus};
 ghost use Rattle.scheme.specs.Most.{mostAlong, mostSquare, mostWeights, mostPulls, mostField};
 ghost use Rattle.scan_point.specs.Near.{Down, Added, rowGap, stationsWith, Ready, Near};
-ghost use Rattle.scan_point.specs.Round.{nearShare, insideIn, Placed, Sized, Roomy};
+ghost use Rattle.scan_point.specs.Round.{nearShare, insideIn, Counted, Placed, Sized, Roomy};
 ghost use Rattle.scan_point.specs.Pass.{rowZ, rowS, movedBy, Divides, PointReady, RowReady, corrected, backed, PassReady};
 use request::Terms;
 
@@ -130,18 +130,51 @@ fn one_if_inside(lx: &[i32; 512], ly: &[u32; 512], t: usize, i: usize, r2: u32) 
     one_if_below(scan_weight::squared_distance(lx[t], px, ly[t]), r2)
 }
 
-// Whether exactly one of the n stations near a grid row is inside the radius at its column i, whatever its weight. The count ends at the second.
-fn is_lone(lx: &[i32; 512], ly: &[u32; 512], n: usize, i: usize, r2: u32) -> bool
-    requires { ⌜ (n ≤ mostStations) × (i < mostSide) × ((t : ℕ) → t < n → Placed (now lx) (now ly) t) ⌝ }
-    ensures { λ b. ⌜ b ≡ eqb (upTo 0 _+_ n (insideIn (now (lx .entry)) (now (ly .entry)) r2 i)) 1 ⌝ }
+// How many of the four stations before t are.
+fn inside_of_four(lx: &[i32; 512], ly: &[u32; 512], t: usize, i: usize, r2: u32) -> usize
+    requires { ⌜ (4 ≤ t) × (t ≤ mostStations) × (i < mostSide) × ((k : ℕ) → k < t → Placed (now lx) (now ly) k) ⌝ }
+    ensures { λ r. ⌜ Counted (insideIn (now (lx .entry)) (now (ly .entry)) r2 i) t (t - 4) r ⌝ }
+{
+    one_if_inside(lx, ly, t - 1, i, r2)
+        + one_if_inside(lx, ly, t - 2, i, r2)
+        + one_if_inside(lx, ly, t - 3, i, r2)
+        + one_if_inside(lx, ly, t - 4, i, r2)
+}
+
+// How many of n are, from how many of all but the first t.
+fn inside_of_rest(
+    inside: usize,
+    lx: &[i32; 512],
+    ly: &[u32; 512],
+    n: usize,
+    t: usize,
+    i: usize,
+    r2: u32,
+) -> usize
+    requires { ⌜ (n ≤ mostStations) × (i < mostSide) × ((k : ℕ) → k < n → Placed (now lx) (now ly) k) × Counted (insideIn (now lx) (now ly) r2 i) n t inside ⌝ }
+    ensures { λ r. ⌜ r ≡ upTo 0 _+_ n (insideIn (now (lx .entry)) (now (ly .entry)) r2 i) ⌝ }
+{
+    let mut all = inside;
+    let mut k = t;
+    while 0 < k {
+        all += one_if_inside(lx, ly, k - 1, i, r2);
+        k -= 1;
+    }
+    all
+}
+
+// How many of the n stations near a grid row are inside the radius at its column i, whatever their weight: from the last to the first, four in a turn.
+fn how_many(lx: &[i32; 512], ly: &[u32; 512], n: usize, i: usize, r2: u32) -> usize
+    requires { ⌜ (n ≤ mostStations) × (i < mostSide) × ((k : ℕ) → k < n → Placed (now lx) (now ly) k) ⌝ }
+    ensures { λ r. ⌜ r ≡ upTo 0 _+_ n (insideIn (now (lx .entry)) (now (ly .entry)) r2 i) ⌝ }
 {
     let mut inside: usize = 0;
     let mut t = n;
-    while (0 < t) & (inside < 2) {
-        inside += one_if_inside(lx, ly, t - 1, i, r2);
-        t -= 1;
+    while 3 < t {
+        inside += inside_of_four(lx, ly, t, i, r2);
+        t -= 4;
     }
-    inside == 1
+    inside_of_rest(inside, lx, ly, n, t, i, r2)
 }
 
 // What the sum of weight·D is divided by under rule 2 at column i of a grid row, w the sum of weights there; 0 where that is 0. It can be the scale only
@@ -154,7 +187,7 @@ pub fn divisor(w: u64, lx: &[i32; 512], ly: &[u32; 512], n: usize, i: usize, r2:
     if (w == 0) | (scan_weight::SCALE < w) {
         return w;
     }
-    if is_lone(lx, ly, n, i, r2) {
+    if how_many(lx, ly, n, i, r2) == 1 {
         scan_weight::SCALE
     } else {
         w

@@ -2,8 +2,8 @@
 use Prim.Native.Nat.{ℕ, _*_, _≤_, _<_}
 use native.Mathlib.Omega.{arith}
 use borrow.Author.Needs.{needs}
-use borrow.Author.Tests.{ltb-true, ltb-false, eqb-false, ne-eqb}
-use mathlib.Core.Path.{_≡_, sym}
+use borrow.Author.Tests.{ltb-true, ltb-false, eqb-false, eq-eqb, ne-eqb}
+use mathlib.Core.Path.{_≡_, sym, _∙_}
 use mathlib.Core.Bool.{true, false, cond, _||_}
 use lib.Dec.{ltb, eqb}
 use Rattle.lists.specs.Tests.{or-false}
@@ -30,30 +30,35 @@ module _ (w inside : ℕ) (few : w ≤ mostWeights) where
     none-has-none : {over : ℕ} → w ≡ 0 → over ≡ 0
     none-has-none z = absurd (eqb-false w 0 (or-false (eqb w 0) (ltb scale w) e .0) z)
 
-    lone : true ≡ eqb inside 1 → Divides listingRule w inside scale
+    lone : inside ≡ 1 → Divides listingRule w inside scale
     lone one =
-        record { least = ltb-false scale w (or-false (eqb w 0) (ltb scale w) e .1); most = omega arith; none = none-has-none; is = λ some. sym (rw (sym one)) }
+        record {
+          least = ltb-false scale w (or-false (eqb w 0) (ltb scale w) e .1);
+          most = omega arith;
+          none = none-has-none;
+          is = λ some. sym (rw (eq-eqb inside 1 one));
+        }
 
-    not-lone : false ≡ eqb inside 1 → Divides listingRule w inside w
-    not-lone other = record { least = omega arith; most = few; none = λ z. z; is = λ some. sym (rw (sym other)) }
+    not-lone : (inside ≡ 1 → ⊥) → Divides listingRule w inside w
+    not-lone other = record { least = omega arith; most = few; none = λ z. z; is = λ some. sym (rw (ne-eqb inside 1 other)) }
 
 returns : tie.Need-returns
 returns c = let s = c .before in uncounted (s .args .w) _ (s .pre .0) (s .pre .4) (c .if1 .taken)
 
-is-lone-requires : tie.Need-is-lone-requires
-is-lone-requires c κs = search needs
+how-many-requires : tie.Need-how-many-requires
+how-many-requires c κs = search needs
 
 returns-2 : tie.Need-returns-2
 returns-2 c =
     let l = c .before in
     let s = l .before .before in
-    lone (s .args .w) _ (s .pre .0) (l .before .if1 .left) (rw (c .if2 .taken) at (l .is-lone .ensures))
+    lone (s .args .w) _ (s .pre .0) (l .before .if1 .left) (rw (c .if2 .taken) at (sym (l .how-many .ensures)))
 
 returns-3 : tie.Need-returns-3
 returns-3 c =
     let l = c .before in
     let s = l .before .before in
-    not-lone (s .args .w) _ (s .pre .0) (l .before .if1 .left) (rw (c .if2 .left) at (l .is-lone .ensures))
+    not-lone (s .args .w) _ (s .pre .0) (l .before .if1 .left) (λ e. c .if2 .left (l .how-many .ensures ∙ e))
 
 pub divisor-spec : {M : Type 1} → statement M
-divisor-spec = tie.close (tie.spec returns is-lone-requires returns-2 returns-3)
+divisor-spec = tie.close (tie.spec returns how-many-requires returns-2 returns-3)
