@@ -160,10 +160,9 @@ void try_threads(void) {
     for (size_t i = 0; i < THREADS; i++)
         pthread_join(threads[i], NULL);
     pthread_barrier_destroy(&at_once);
-    printf(
-        "host: %d threads at once on %d evenings, round and along the wind, by both rules, %d rounds each, on stacks "
-        "of %zu bytes, the same answers bit for bit\n",
-        THREADS, EVENINGS, ROUNDS, size);
+    printf("host: %d threads at once on %d evenings, in both modes and by both rules, %d rounds each, on stacks of %zu "
+           "bytes, the same answers bit for bit\n",
+           THREADS, EVENINGS, ROUNDS, size);
     for (size_t e = 0; e < EVENINGS; e++)
         free_known(&known[e]);
 }
