@@ -69,7 +69,10 @@ static void a_radius_short(struct attempt *a) { set_length(&a->evening, RADIUS, 
 static void another_mode(struct attempt *a) { a->evening.mode = SOSNYAVIK_ALONG_WIND + 1; }
 static void no_rule(struct attempt *a) { a->evening.rule = 0; }
 static void another_rule(struct attempt *a) { a->evening.rule = SOSNYAVIK_LISTINGS + 1; }
+static void rule_at_the_most(struct attempt *a) { a->evening.rule = UINT32_MAX; }
+static void no_rule_and_a_minute_short(struct attempt *a) { no_rule(a), a_minute_short(a); }
 static void rising_radius(struct attempt *a) { numbers_of(&a->evening, RADIUS)[2] = 97; }
+static void no_rule_and_rising_radius(struct attempt *a) { no_rule(a), rising_radius(a); }
 static void limit_out_of_range(struct attempt *a) { numbers_of(&a->evening, LIMIT)[1] = 2000001; }
 static void missing_guess(struct attempt *a) { numbers_of(&a->evening, FIRST_GUESS)[NX * NY - 1] = SOSNYAVIK_MISSING; }
 static void value_out_of_range(struct attempt *a) { numbers_of(&a->evening, VALUE)[MASTS - 1] = 1000001; }
@@ -91,6 +94,9 @@ static const struct mistake OF_ALL[] = {
     {another_mode, 5, 0, "refusal 5, mode"},
     {no_rule, 5, 0, "refusal 5, rule 0"},
     {another_rule, 5, 0, "refusal 5, rule 3"},
+    {rule_at_the_most, 5, 0, "refusal 5, rule at the most"},
+    {no_rule_and_a_minute_short, 4, 0, "refusal 4 before rule"},
+    {no_rule_and_rising_radius, 5, 0, "refusal 5, rule, before 6"},
     {rising_radius, 6, 2, "refusal 6, radius"},
     {limit_out_of_range, 6, 1, "refusal 6, limit"},
     {missing_guess, 7, NX *NY - 1, "refusal 7"},

@@ -33,27 +33,35 @@ static void try_no_masts(const struct manner *manner) {
 /* Given before the first scan or in it. */
 static bool is_early(uint8_t verdict) { return 1 <= verdict && verdict <= 11; }
 
-/* The first scan finds the same field by either rule: it judges and supports alike. It answers how many points read
- * otherwise in the end. */
-static size_t try_listings(const struct evening *evening, const struct answer *equations) {
-    struct evening other = copy_evening(evening);
-    struct answer listings = whole_answer(evening, UNTOUCHED);
-    other.rule = SOSNYAVIK_LISTINGS;
-    must(analyse(&other, &listings) == 0, "an evening by the listings");
-    const int32_t *grids[] = {equations->results[GRID].at, listings.results[GRID].at};
-    const uint8_t *support[] = {equations->results[SUPPORT].at, listings.results[SUPPORT].at};
-    const uint8_t *verdict[] = {equations->results[VERDICT].at, listings.results[VERDICT].at};
-    size_t otherwise = 0;
-    for (size_t point = 0; point < NX * NY; point++) {
+/* The first scan finds the same field by either rule: it judges and supports alike. */
+static void must_begin_alike(const struct answer *equations, const struct answer *listings) {
+    const uint8_t *support[] = {equations->results[SUPPORT].at, listings->results[SUPPORT].at};
+    const uint8_t *verdict[] = {equations->results[VERDICT].at, listings->results[VERDICT].at};
+    for (size_t point = 0; point < NX * NY; point++)
         must((support[0][point] & 1) == (support[1][point] & 1), "the first scan's support by either rule");
-        otherwise += grids[0][point] != grids[1][point];
-    }
     for (size_t row = 0; row < MASTS; row++)
         must(verdict[0][row] == verdict[1][row] || (!is_early(verdict[0][row]) && !is_early(verdict[1][row])),
              "the first scan's verdict by either rule");
+}
+
+/* How many points read otherwise by the listings: some do, since many hear one mast alone in the later scans. */
+static size_t try_rules(uint32_t mode) {
+    struct answer answers[2];
+    size_t otherwise = 0;
+    for (uint32_t i = 0; i < 2; i++) {
+        const struct manner manner = {.mode = mode, .rule = SOSNYAVIK_EQUATIONS + i};
+        struct evening evening = make_evening(NX, NY, MASTS, &manner);
+        answers[i] = whole_answer(&evening, UNTOUCHED);
+        must(analyse(&evening, &answers[i]) == 0, "an evening by either rule");
+        free_evening(&evening);
+    }
+    must_begin_alike(&answers[0], &answers[1]);
+    const int32_t *grids[] = {answers[0].results[GRID].at, answers[1].results[GRID].at};
+    for (size_t point = 0; point < NX * NY; point++)
+        otherwise += grids[0][point] != grids[1][point];
     must(otherwise > 0, "an evening by the other rule");
-    free_answer(&listings);
-    free_evening(&other);
+    free_answer(&answers[0]);
+    free_answer(&answers[1]);
     return otherwise;
 }
 
@@ -76,10 +84,10 @@ void try_evening(void) {
     try_dead_mast(&evening, &answer);
     for (size_t m = 0; m < MANNERS; m++)
         try_no_masts(&MANNER[m]);
-    size_t otherwise = try_listings(&evening, &answer);
+    size_t otherwise = try_rules(SOSNYAVIK_ROUND), windy = try_rules(SOSNYAVIK_ALONG_WIND);
     printf("host: an evening of %d by %d points, %zu of them reached by %zu of %d masts; by the listings %zu points "
-           "read otherwise\n",
-           NX, NY, reached, accepted, MASTS, otherwise);
+           "read otherwise, and along the wind %zu\n",
+           NX, NY, reached, accepted, MASTS, otherwise, windy);
     free_answer(&answer);
     free_evening(&evening);
 }
