@@ -75,7 +75,8 @@ static const uint8_t JUDGED[] = {0, 0, 0, 0, 0, 0, 2, 1, 4, 3, 13, 11};
 static struct evening make_orchard(uint32_t mode) {
     const size_t masts = sizeof MASTS / sizeof *MASTS;
     struct evening orchard = bare_evening(NX, NY, masts, SCANS);
-    orchard.time = 1260, orchard.age = 60, orchard.smooth = true, orchard.mode = mode;
+    orchard.time = 1260, orchard.age = 60, orchard.smooth = true;
+    orchard.mode = mode, orchard.rule = SOSNYAVIK_EQUATIONS;
     for (int32_t point = 0; point < POINTS; point++)
         numbers_of(&orchard, FIRST_GUESS)[point] = 96 - 8 * (point / NX);
     for (size_t row = 0; row < masts; row++) {

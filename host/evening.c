@@ -5,6 +5,13 @@
 
 enum { MINUTE = 1200, AGE = 120, PLAN = 3 };
 
+const struct manner MANNER[MANNERS] = {
+    {SOSNYAVIK_ROUND, SOSNYAVIK_EQUATIONS, "by round weights and the equations"},
+    {SOSNYAVIK_ALONG_WIND, SOSNYAVIK_EQUATIONS, "along the wind and by the equations"},
+    {SOSNYAVIK_ROUND, SOSNYAVIK_LISTINGS, "by round weights and the listings"},
+    {SOSNYAVIK_ALONG_WIND, SOSNYAVIK_LISTINGS, "along the wind and by the listings"},
+};
+
 static const size_t ENTRY[COLUMNS] = {
     [FIRST_GUESS] = sizeof(int32_t), [X] = sizeof(int32_t),      [Y] = sizeof(int32_t),      [VALUE] = sizeof(int32_t),
     [OBSERVED] = sizeof(uint32_t),   [FROM] = sizeof(uint32_t),  [UNTIL] = sizeof(uint32_t), [WIND_U] = sizeof(int32_t),
@@ -72,11 +79,12 @@ static void set_faults(struct evening *evening) {
     }
 }
 
-struct evening make_evening(uint32_t nx, uint32_t ny, size_t masts, uint32_t mode) {
+struct evening make_evening(uint32_t nx, uint32_t ny, size_t masts, const struct manner *manner) {
     static const int32_t radius[PLAN] = {192, 96, 64}, limit[PLAN] = {640, 320, 256};
     struct evening evening = bare_evening(nx, ny, masts, PLAN);
     uint32_t state = 1955;
-    evening.time = MINUTE, evening.age = AGE, evening.smooth = true, evening.mode = mode;
+    evening.time = MINUTE, evening.age = AGE, evening.smooth = true;
+    evening.mode = manner->mode, evening.rule = manner->rule;
     for (uint32_t point = 0; point < nx * ny; point++)
         numbers_of(&evening, FIRST_GUESS)[point] = 320 + 3 * (int32_t)(point % nx) - 16 + draw(&state, 32);
     set_masts(&evening, &state);
@@ -193,7 +201,7 @@ struct sosnyavik_request request_of(const struct evening *evening) {
                           .wind_v = i32_column(&in[WIND_V]), .scans = evening->scans, .radius = i32_column(&in[RADIUS]),
                           .limit = i32_column(&in[LIMIT]), .smooth = evening->smooth, .mode = evening->mode,
                           .time = evening->time);
-    request.age = evening->age;
+    request.rule = evening->rule, request.age = evening->age;
     return request;
 }
 

@@ -10,8 +10,17 @@ enum column { FIRST_GUESS, X, Y, VALUE, OBSERVED, FROM, UNTIL, WIND_U, WIND_V, R
 enum end { LEFT, RIGHT, TOP, BOTTOM, ENDS };
 enum result { GRID, SUPPORT, VERDICT, RESULTS };
 
+/* What weights go by and what a lone mast does, each with each, and how to say so. The first is what a request has that
+ * asks for neither. */
+struct manner {
+    uint32_t mode, rule;
+    const char *said;
+};
+enum { MANNERS = 4 };
+extern const struct manner MANNER[MANNERS];
+
 struct evening {
-    uint32_t nx, ny, scans, mode, time, age;
+    uint32_t nx, ny, scans, mode, rule, time, age;
     bool smooth;
     struct slice columns[COLUMNS];
 };
@@ -26,9 +35,9 @@ struct answer {
 
 /* A spring evening on a grid of so many points, the same in every run. Of the masts one was taken down, one says
  * nothing, one is too old and one reports a gross error; then come posts beyond the border, and one too far out. Some
- * have no wind, some a calm one. In the mode that is asked for, on which nothing else depends. */
+ * have no wind, some a calm one. In the mode and by the rule that are asked for, on which nothing else depends. */
 enum { FIRST_POST = 4, POSTS = 4, TOO_FAR = FIRST_POST + POSTS };
-struct evening make_evening(uint32_t nx, uint32_t ny, size_t masts, uint32_t mode);
+struct evening make_evening(uint32_t nx, uint32_t ny, size_t masts, const struct manner *manner);
 
 /* An evening of which the columns have their lengths, and nothing else is told. */
 struct evening bare_evening(uint32_t nx, uint32_t ny, size_t masts, uint32_t scans);

@@ -37,6 +37,7 @@ int main(int argc, char **argv) {
         choose(argv[1]);
     try_evening();
     try_breeze();
+    try_lone_masts();
     try_windows();
     try_screens();
     try_refusals();

@@ -98,7 +98,7 @@ static void try_summary(const struct field *f) {
 }
 
 void try_readings(void) {
-    struct evening evening = make_evening(NX, NY, MASTS, SOSNYAVIK_ROUND);
+    struct evening evening = make_evening(NX, NY, MASTS, &MANNER[0]);
     struct answer answer = whole_answer(&evening, UNTOUCHED);
     must(analyse(&evening, &answer) == 0, "an evening's answer");
     struct field field = {request_of(&evening), results_of(&answer)};

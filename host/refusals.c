@@ -67,7 +67,12 @@ static void a_wind_long(struct attempt *a) { set_length(&a->evening, WIND_V, MAS
 static void no_scan(struct attempt *a) { a->evening.scans = 0; }
 static void a_radius_short(struct attempt *a) { set_length(&a->evening, RADIUS, 2); }
 static void another_mode(struct attempt *a) { a->evening.mode = SOSNYAVIK_ALONG_WIND + 1; }
+static void no_rule(struct attempt *a) { a->evening.rule = 0; }
+static void another_rule(struct attempt *a) { a->evening.rule = SOSNYAVIK_LISTINGS + 1; }
+static void rule_at_the_most(struct attempt *a) { a->evening.rule = UINT32_MAX; }
+static void no_rule_and_a_minute_short(struct attempt *a) { no_rule(a), a_minute_short(a); }
 static void rising_radius(struct attempt *a) { numbers_of(&a->evening, RADIUS)[2] = 97; }
+static void no_rule_and_rising_radius(struct attempt *a) { no_rule(a), rising_radius(a); }
 static void limit_out_of_range(struct attempt *a) { numbers_of(&a->evening, LIMIT)[1] = 2000001; }
 static void missing_guess(struct attempt *a) { numbers_of(&a->evening, FIRST_GUESS)[NX * NY - 1] = SOSNYAVIK_MISSING; }
 static void value_out_of_range(struct attempt *a) { numbers_of(&a->evening, VALUE)[MASTS - 1] = 1000001; }
@@ -87,6 +92,11 @@ static const struct mistake OF_ALL[] = {
     {no_scan, 5, 0, "refusal 5, scans"},
     {a_radius_short, 5, 0, "refusal 5, radius"},
     {another_mode, 5, 0, "refusal 5, mode"},
+    {no_rule, 5, 0, "refusal 5, rule 0"},
+    {another_rule, 5, 0, "refusal 5, rule 3"},
+    {rule_at_the_most, 5, 0, "refusal 5, rule at the most"},
+    {no_rule_and_a_minute_short, 4, 0, "refusal 4 before rule"},
+    {no_rule_and_rising_radius, 5, 0, "refusal 5, rule, before 6"},
     {rising_radius, 6, 2, "refusal 6, radius"},
     {limit_out_of_range, 6, 1, "refusal 6, limit"},
     {missing_guess, 7, NX *NY - 1, "refusal 7"},
@@ -138,8 +148,8 @@ static uint32_t ask(enum call call, const struct attempt *a, struct answer *answ
 }
 
 /* A refused call gives its number and place, and leaves every byte of the results as it was. */
-static void try_mistake(const struct mistake *mistake, enum call call, uint32_t mode) {
-    struct attempt a = {.evening = make_evening(NX, NY, MASTS, mode),
+static void try_mistake(const struct mistake *mistake, enum call call, const struct manner *manner) {
+    struct attempt a = {.evening = make_evening(NX, NY, MASTS, manner),
                         .window = WINDOWS[0],
                         .screen = make_screen(WINDOWS, call == SCREEN ? BLOCKS : 0),
                         .lengths = {POINTS[call], POINTS[call], call == ANALYSIS ? MASTS : 0}};
@@ -158,8 +168,8 @@ static void try_mistake(const struct mistake *mistake, enum call call, uint32_t 
 
 static size_t try_mistakes(const struct mistake *mistakes, size_t count, enum call call) {
     for (size_t i = 0; i < count; i++)
-        for (uint32_t mode = SOSNYAVIK_ROUND; mode <= SOSNYAVIK_ALONG_WIND; mode++)
-            try_mistake(&mistakes[i], call, mode);
+        for (size_t m = 0; m < MANNERS; m++)
+            try_mistake(&mistakes[i], call, &MANNER[m]);
     return count;
 }
 
@@ -173,5 +183,5 @@ void try_refusals(void) {
     tried += try_mistakes(OF_A_WINDOW, sizeof OF_A_WINDOW / sizeof *OF_A_WINDOW, WINDOW);
     tried += try_mistakes(OF_A_SCREEN, sizeof OF_A_SCREEN / sizeof *OF_A_SCREEN, SCREEN);
     tried += try_mistakes(OF_AN_EMPTY_SCREEN, sizeof OF_AN_EMPTY_SCREEN / sizeof *OF_AN_EMPTY_SCREEN, EMPTY_SCREEN);
-    printf("host: %zu mistakes, each in both modes, refusals 1 to 8, nothing written\n", tried);
+    printf("host: %zu mistakes, each in both modes and by both rules, refusals 1 to 8, nothing written\n", tried);
 }

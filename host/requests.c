@@ -19,8 +19,8 @@ static void try_dead_mast(const struct evening *evening, const struct answer *be
 }
 
 /* A server may have no mast to ask. */
-static void try_no_masts(void) {
-    struct evening evening = make_evening(2, 2, 0, SOSNYAVIK_ALONG_WIND);
+static void try_no_masts(const struct manner *manner) {
+    struct evening evening = make_evening(2, 2, 0, manner);
     struct answer answer = whole_answer(&evening, UNTOUCHED);
     evening.smooth = false;
     must(analyse(&evening, &answer) == 0, "an evening without masts");
@@ -30,8 +30,43 @@ static void try_no_masts(void) {
     free_evening(&evening);
 }
 
+/* Given before the first scan or in it. */
+static bool is_early(uint8_t verdict) { return 1 <= verdict && verdict <= 11; }
+
+/* The first scan finds the same field by either rule: it judges and supports alike. */
+static void must_begin_alike(const struct answer *equations, const struct answer *listings) {
+    const uint8_t *support[] = {equations->results[SUPPORT].at, listings->results[SUPPORT].at};
+    const uint8_t *verdict[] = {equations->results[VERDICT].at, listings->results[VERDICT].at};
+    for (size_t point = 0; point < NX * NY; point++)
+        must((support[0][point] & 1) == (support[1][point] & 1), "the first scan's support by either rule");
+    for (size_t row = 0; row < MASTS; row++)
+        must(verdict[0][row] == verdict[1][row] || (!is_early(verdict[0][row]) && !is_early(verdict[1][row])),
+             "the first scan's verdict by either rule");
+}
+
+/* How many points read otherwise by the listings: some do, since many hear one mast alone in the later scans. */
+static size_t try_rules(uint32_t mode) {
+    struct answer answers[2];
+    size_t otherwise = 0;
+    for (uint32_t i = 0; i < 2; i++) {
+        const struct manner manner = {.mode = mode, .rule = SOSNYAVIK_EQUATIONS + i};
+        struct evening evening = make_evening(NX, NY, MASTS, &manner);
+        answers[i] = whole_answer(&evening, UNTOUCHED);
+        must(analyse(&evening, &answers[i]) == 0, "an evening by either rule");
+        free_evening(&evening);
+    }
+    must_begin_alike(&answers[0], &answers[1]);
+    const int32_t *grids[] = {answers[0].results[GRID].at, answers[1].results[GRID].at};
+    for (size_t point = 0; point < NX * NY; point++)
+        otherwise += grids[0][point] != grids[1][point];
+    must(otherwise > 0, "an evening by the other rule");
+    free_answer(&answers[0]);
+    free_answer(&answers[1]);
+    return otherwise;
+}
+
 void try_evening(void) {
-    struct evening evening = make_evening(NX, NY, MASTS, SOSNYAVIK_ROUND);
+    struct evening evening = make_evening(NX, NY, MASTS, &MANNER[0]);
     struct answer answer = whole_answer(&evening, UNTOUCHED);
     must(analyse(&evening, &answer) == 0, "an evening's answer");
     const uint8_t *verdict = answer.results[VERDICT].at, *support = answer.results[SUPPORT].at;
@@ -47,9 +82,12 @@ void try_evening(void) {
         reached += support[point] != 0;
     }
     try_dead_mast(&evening, &answer);
-    try_no_masts();
-    printf("host: an evening of %d by %d points, %zu of them reached by %zu of %d masts\n", NX, NY, reached, accepted,
-           MASTS);
+    for (size_t m = 0; m < MANNERS; m++)
+        try_no_masts(&MANNER[m]);
+    size_t otherwise = try_rules(SOSNYAVIK_ROUND), windy = try_rules(SOSNYAVIK_ALONG_WIND);
+    printf("host: an evening of %d by %d points, %zu of them reached by %zu of %d masts; by the listings %zu points "
+           "read otherwise, and along the wind %zu\n",
+           NX, NY, reached, accepted, MASTS, otherwise, windy);
     free_answer(&answer);
     free_evening(&evening);
 }
@@ -66,14 +104,14 @@ static void must_be_part(const struct answer *part, struct sosnyavik_ends ends, 
     }
 }
 
-static size_t try_windows_in(uint32_t mode) {
+static size_t try_windows_in(const struct manner *manner) {
     static const struct sosnyavik_ends windows[] = {
         {0, NX - 1, 0, NY - 1},           {0, 0, 0, 0},
         {NX - 1, NX - 1, NY - 1, NY - 1}, {9, 13, 8, 10},
         {0, NX - 1, NY / 2, NY / 2},      {NX / 2, NX / 2, 0, NY - 1},
     };
     const size_t count = sizeof windows / sizeof *windows;
-    struct evening evening = make_evening(NX, NY, MASTS, mode);
+    struct evening evening = make_evening(NX, NY, MASTS, manner);
     struct answer whole = whole_answer(&evening, UNTOUCHED);
     must(analyse(&evening, &whole) == 0, "an evening's answer");
     for (size_t i = 0; i < count; i++) {
@@ -89,9 +127,9 @@ static size_t try_windows_in(uint32_t mode) {
 
 void try_windows(void) {
     size_t asked = 0;
-    for (uint32_t mode = SOSNYAVIK_ROUND; mode <= SOSNYAVIK_ALONG_WIND; mode++)
-        asked += try_windows_in(mode);
-    printf("host: %zu windows, round and along the wind, each as the whole analysis has it\n", asked);
+    for (size_t m = 0; m < MANNERS; m++)
+        asked += try_windows_in(&MANNER[m]);
+    printf("host: %zu windows, round and along the wind, by both rules, each as the whole analysis has it\n", asked);
 }
 
 /* The windows by single queries, their results one after the other. */
@@ -146,9 +184,9 @@ static size_t try_screens_of(const struct evening *evening) {
 }
 
 /* The most points that a screen can have: sixteen times the largest grid. */
-static size_t try_largest_screen(uint32_t mode) {
+static size_t try_largest_screen(const struct manner *manner) {
     enum { SIDE = 64 };
-    struct evening evening = make_evening(SIDE, SIDE, MASTS, mode);
+    struct evening evening = make_evening(SIDE, SIDE, MASTS, manner);
     struct sosnyavik_ends windows[SOSNYAVIK_MOST_WINDOWS];
     for (size_t k = 0; k < SOSNYAVIK_MOST_WINDOWS; k++)
         windows[k] = (struct sosnyavik_ends){0, SIDE - 1, 0, SIDE - 1};
@@ -171,21 +209,22 @@ static size_t try_largest_screen(uint32_t mode) {
 
 /* With three scans the cuts of a few windows have more points than the grid. With one scan of R = 64 and no smoothing
  * those of fifteen have fewer. */
-static size_t try_screens_in(uint32_t mode) {
-    struct evening evening = make_evening(NX, NY, MASTS, mode);
+static size_t try_screens_in(const struct manner *manner) {
+    struct evening evening = make_evening(NX, NY, MASTS, manner);
     size_t shown = try_screens_of(&evening);
     evening.scans = 1, evening.smooth = false;
     numbers_of(&evening, RADIUS)[0] = 64;
     shown += try_screens_of(&evening);
-    shown += try_largest_screen(mode);
+    shown += try_largest_screen(manner);
     free_evening(&evening);
     return shown;
 }
 
 void try_screens(void) {
     size_t shown = 0;
-    for (uint32_t mode = SOSNYAVIK_ROUND; mode <= SOSNYAVIK_ALONG_WIND; mode++)
-        shown += try_screens_in(mode);
-    printf("host: %zu screens of up to %d windows, round and along the wind, each as single queries in its order\n",
+    for (size_t m = 0; m < MANNERS; m++)
+        shown += try_screens_in(&MANNER[m]);
+    printf("host: %zu screens of up to %d windows, round and along the wind, by both rules, each as single queries in "
+           "its order\n",
            shown, SOSNYAVIK_MOST_WINDOWS);
 }

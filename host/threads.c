@@ -11,7 +11,7 @@
 #include <string.h>
 #include <unistd.h>
 
-enum { THREADS = 8, ROUNDS = 20, EVENINGS = 2, NX = 32, NY = 32, MASTS = 60 };
+enum { THREADS = 8, ROUNDS = 20, EVENINGS = MANNERS, NX = 32, NY = 32, MASTS = 60 };
 
 static const struct sosnyavik_ends MIDDLE = {12, 19, 12, 19};
 
@@ -28,8 +28,7 @@ static const struct {
     size_t count;
 } WANTED[SCREENS] = {{FEW, sizeof FEW / sizeof *FEW}, {ALL, sizeof ALL / sizeof *ALL}};
 
-/* What all threads share: two evenings with their screens, one by round weights and one along the wind, and what a run
- * before them made of each. */
+/* What all threads share: an evening in each manner with its screens, and what a run before them made of it. */
 struct known {
     struct evening evening;
     struct screen screens[SCREENS];
@@ -80,8 +79,8 @@ static void run_all(const struct known *k, unsigned char pattern) {
     free_answer(&part);
 }
 
-/* Half of the threads begin with the one evening and half with the other: what one call left behind for another to find
- * would not fit. A thread has shown each screen of both evenings after four rounds. */
+/* The threads begin with different evenings: what one call left behind for another to find would not fit. A thread has
+ * shown each screen of every evening after eight rounds. */
 static void *run_rounds(void *first) {
     size_t which = *(const size_t *)first;
     pthread_barrier_wait(&at_once);
@@ -93,8 +92,8 @@ static void *run_rounds(void *first) {
     return NULL;
 }
 
-static void make_known(struct known *k, int32_t warmer, uint32_t mode) {
-    k->evening = make_evening(NX, NY, MASTS, mode);
+static void make_known(struct known *k, int32_t warmer, const struct manner *manner) {
+    k->evening = make_evening(NX, NY, MASTS, manner);
     for (size_t point = 0; point < NX * NY; point++)
         numbers_of(&k->evening, FIRST_GUESS)[point] += warmer;
     k->whole = whole_answer(&k->evening, UNTOUCHED);
@@ -149,8 +148,9 @@ void try_threads(void) {
     pthread_t threads[THREADS];
     size_t first[THREADS], size = 0;
     for (size_t e = 0; e < EVENINGS; e++)
-        make_known(&known[e], 40 * (int32_t)e, SOSNYAVIK_ROUND + (uint32_t)e);
-    must(!same_answer(&known[0].whole, &known[1].whole), "the answer of a warmer evening");
+        make_known(&known[e], 40 * (int32_t)e, &MANNER[e]);
+    for (size_t e = 1; e < EVENINGS; e++)
+        must(!same_answer(&known[e - 1].whole, &known[e].whole), "the answer of a warmer evening");
     if (pthread_barrier_init(&at_once, NULL, THREADS) != 0)
         no_thread();
     for (size_t i = 0; i < THREADS; i++) {
@@ -160,9 +160,9 @@ void try_threads(void) {
     for (size_t i = 0; i < THREADS; i++)
         pthread_join(threads[i], NULL);
     pthread_barrier_destroy(&at_once);
-    printf("host: %d threads at once on two evenings, %d rounds each, on stacks of %zu bytes, the same answers bit for "
-           "bit\n",
-           THREADS, ROUNDS, size);
+    printf("host: %d threads at once on %d evenings, in both modes and by both rules, %d rounds each, on stacks of %zu "
+           "bytes, the same answers bit for bit\n",
+           THREADS, EVENINGS, ROUNDS, size);
     for (size_t e = 0; e < EVENINGS; e++)
         free_known(&known[e]);
 }
@@ -219,8 +219,8 @@ static size_t show_on_small_stacks(void) {
     return size;
 }
 
-static void try_small_stacks_in(uint32_t mode) {
-    make_known(&known[0], 0, mode);
+static void try_small_stacks_in(const struct manner *manner) {
+    make_known(&known[0], 0, manner);
     small = whole_answer(&known[0].evening, UNTOUCHED);
     size_t analysis = run_on(SOSNYAVIK_STACK_ANALYSE, analyse_small);
     must(same_answer(&small, &known[0].whole), "the answer of an analysis on a small stack");
@@ -234,11 +234,11 @@ static void try_small_stacks_in(uint32_t mode) {
     size_t summed = run_on(SOSNYAVIK_STACK_SUMMARISE, sum_up_small);
     printf("host: threads with stacks of %zu (analysis), %zu (window), %zu (screen), %zu (reading) and %zu (summary) "
            "bytes, %s\n",
-           analysis, window, screen, read, summed, mode == SOSNYAVIK_ROUND ? "by round weights" : "along the wind");
+           analysis, window, screen, read, summed, manner->said);
     free_known(&known[0]);
 }
 
 void try_small_stacks(void) {
-    for (uint32_t mode = SOSNYAVIK_ROUND; mode <= SOSNYAVIK_ALONG_WIND; mode++)
-        try_small_stacks_in(mode);
+    for (size_t m = 0; m < MANNERS; m++)
+        try_small_stacks_in(&MANNER[m]);
 }

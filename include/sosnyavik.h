@@ -191,8 +191,8 @@ extern "C" {
 **
 **   weight*D/10000, rounded to the nearest 1/64 unit, halves away from zero
 **
-** which is never away from the station's value, nor past it. Where the station
-** stands on the point its weight is 10000, and the rules agree.
+** which lies between 0 and D. Where the station stands on the point its weight is
+** 10000, and the rules agree.
 **
 ** Inside is a matter of the distance: a station inside whose weight is 0 counts.
 ** Beside it no other is alone, and alone it moves nothing and supports nothing.
@@ -216,8 +216,8 @@ extern "C" {
 **                                  sosnyavik_no_wind(), 1,
 **                                  sosnyavik_no_wind(), 1,
 **                                  1, reach, 1, most, 1, false,
-**                                  SOSNYAVIK_ROUND, SOSNYAVIK_LISTINGS, 1000, 60,
-**                                  moved, 4, backed, 4, accepted, 1);
+**                                  SOSNYAVIK_ROUND, SOSNYAVIK_LISTINGS,
+**                                  1000, 60, moved, 4, backed, 4, accepted, 1);
 **
 ** Now r is 0, moved is 704, 665, 665, 644, and each byte of backed is 1. With
 ** SOSNYAVIK_EQUATIONS moved is 704, 704, 704, 704, and backed is the same.
@@ -445,8 +445,8 @@ static inline const int32_t *sosnyavik_no_wind(void) {
 **                                  sosnyavik_no_wind(), 3,
 **                                  sosnyavik_no_wind(), 3,
 **                                  1, radius, 1, limit, 1, false,
-**                                  SOSNYAVIK_ROUND, SOSNYAVIK_EQUATIONS, 1000, 60,
-**                                  grid, 9, support, 9, verdict, 3);
+**                                  SOSNYAVIK_ROUND, SOSNYAVIK_EQUATIONS,
+**                                  1000, 60, grid, 9, support, 9, verdict, 3);
 **
 ** Now r is 0, grid is 587, 672, 768, 672, 757, 768, 768, 768, 768, each byte
 ** of support is 1, and verdict is 0, 0, 2.
@@ -459,8 +459,8 @@ static inline const int32_t *sosnyavik_no_wind(void) {
 **                                  observed, 3, from, 3, until, 3,
 **                                  wind_u, 3, wind_v, 3,
 **                                  1, radius, 1, limit, 1, false,
-**                                  SOSNYAVIK_ALONG_WIND, SOSNYAVIK_EQUATIONS, 1000, 60,
-**                                  grid, 9, support, 9, verdict, 3);
+**                                  SOSNYAVIK_ALONG_WIND, SOSNYAVIK_EQUATIONS,
+**                                  1000, 60, grid, 9, support, 9, verdict, 3);
 **
 ** Now r is 0, and grid is 615, 648, 768, 696, 729, 768, 768, 768, 768. The two
 ** points beside the first station were alike, 672. Now the one that lies along
@@ -500,8 +500,8 @@ uint32_t sosnyavik_analyse(
 **                                 sosnyavik_no_wind(), 3,
 **                                 sosnyavik_no_wind(), 3,
 **                                 1, radius, 1, limit, 1, false,
-**                                 SOSNYAVIK_ROUND, SOSNYAVIK_EQUATIONS, 1000, 60,
-**                                 part, 2, part_support, 2);
+**                                 SOSNYAVIK_ROUND, SOSNYAVIK_EQUATIONS,
+**                                 1000, 60, part, 2, part_support, 2);
 **
 ** Now r is 0, part is 672, 757, and both bytes of part_support are 1.
 **
@@ -549,8 +549,8 @@ uint32_t sosnyavik_window(
 **                                  sosnyavik_no_wind(), 3,
 **                                  sosnyavik_no_wind(), 3,
 **                                  1, radius, 1, limit, 1, false,
-**                                  SOSNYAVIK_ROUND, SOSNYAVIK_EQUATIONS, 1000, 60,
-**                                  blocks, 7, blocks_support, 7);
+**                                  SOSNYAVIK_ROUND, SOSNYAVIK_EQUATIONS,
+**                                  1000, 60, blocks, 7, blocks_support, 7);
 **
 ** Now r is 0, blocks is 672, 757, 672, 768, 757, 768, 587, and each byte of
 ** blocks_support is 1. Entries 0 and 1 are of window 0, 2 .. 5 of window 1, and

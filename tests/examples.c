@@ -61,6 +61,24 @@ static void readings(void) {
 #include "the-point-reading.inc"
 }
 
+// The example as it stands, which has the listings' rule; then its call once more, with the other.
+static void lone_stations(void) {
+#include "lone-stations.inc"
+    uint8_t before[4];
+    printf("Now r is %u, ", r);
+    say_numbers("moved", moved, 4);
+    printf(", and each byte of backed is %d.\n", each(backed, 4));
+    memcpy(before, backed, sizeof before);
+    memset(backed, UNTOUCHED, sizeof backed);
+    r = sosnyavik_analyse(2, 2, level, 4, at, 1, at, 1, reads, 1, now, 1, always, 1, open, 1, sosnyavik_no_wind(), 1,
+                          sosnyavik_no_wind(), 1, 1, reach, 1, most, 1, false, SOSNYAVIK_ROUND, SOSNYAVIK_EQUATIONS,
+                          1000, 60, moved, 4, backed, 4, accepted, 1);
+    must_give(r, 0, "the call of a lone station with SOSNYAVIK_EQUATIONS");
+    printf("With SOSNYAVIK_EQUATIONS ");
+    say_numbers("moved", moved, 4);
+    printf(", and backed is %s.\n", memcmp(backed, before, sizeof before) == 0 ? "the same" : "another");
+}
+
 // Each example has the names of those before it, and an r of its own. The one along the wind writes over what the
 // others gave, and is last.
 int main(void) {
@@ -102,6 +120,7 @@ int main(void) {
         say_numbers("grid", grid, 9);
         puts(".");
     }
+    lone_stations();
     readings();
     summary();
 }

@@ -1,7 +1,7 @@
-// What include/sosnyavik.h tells a C programmer, called: the paper's example, calm and along the wind, whole, as a
-// window and as a screen of windows, a mistake for each refusal of each call, and the examples of the reading and the
-// summary. All of it twice, by the plain calls and by name; screens beside the windows one by one; the border; weights;
-// and what a request by name has where nothing is given.
+// What include/sosnyavik.h tells a C programmer, called: the paper's example, calm and along the wind, by both rules,
+// whole, as a window and as a screen of windows, a mistake for each refusal of each call, and the examples of the
+// reading and the summary. All of it twice, by the plain calls and by name; screens beside the windows one by one; the
+// border; weights; lone stations; and what a request by name has where nothing is given.
 #include <stdio.h>
 #include <stdlib.h>
 #include <string.h>
@@ -25,7 +25,7 @@ typedef struct {
     int32_t wind_u[ROWS], wind_v[ROWS];
     size_t y_len, wind_u_len, wind_v_len, verdict_len, part_len, plan_len;
     int32_t radius[2], limit[2];
-    uint32_t mode;
+    uint32_t mode, rule;
 } Request;
 
 typedef struct {
@@ -76,20 +76,22 @@ static const Request paper = {
     .radius = {96, 192},
     .limit = {200, 200},
     .mode = SOSNYAVIK_ROUND,
+    .rule = SOSNYAVIK_EQUATIONS,
 };
 
 static uint32_t analyse(const Request *q, Results *r) {
     return sosnyavik_analyse(q->nx, 3, q->first_guess, POINTS, q->x, ROWS, q->y, q->y_len, q->value, ROWS, q->observed,
                              ROWS, q->from, ROWS, q->until, ROWS, q->wind_u, q->wind_u_len, q->wind_v, q->wind_v_len,
-                             q->scans, q->radius, q->plan_len, q->limit, q->plan_len, false, q->mode, 1000, 60, r->grid,
-                             POINTS, r->support, POINTS, r->verdict, q->verdict_len);
+                             q->scans, q->radius, q->plan_len, q->limit, q->plan_len, false, q->mode, q->rule, 1000, 60,
+                             r->grid, POINTS, r->support, POINTS, r->verdict, q->verdict_len);
 }
 
 static uint32_t window(const Request *q, Results *r) {
     return sosnyavik_window(q->nx, 3, q->first_guess, POINTS, q->left, q->right, q->top, q->bottom, q->x, ROWS, q->y,
                             q->y_len, q->value, ROWS, q->observed, ROWS, q->from, ROWS, q->until, ROWS, q->wind_u,
                             q->wind_u_len, q->wind_v, q->wind_v_len, q->scans, q->radius, q->plan_len, q->limit,
-                            q->plan_len, false, q->mode, 1000, 60, r->grid, q->part_len, r->support, q->part_len);
+                            q->plan_len, false, q->mode, q->rule, 1000, 60, r->grid, q->part_len, r->support,
+                            q->part_len);
 }
 
 static uint32_t show(const Request *q, int32_t *grid, uint8_t *support) {
@@ -98,7 +100,7 @@ static uint32_t show(const Request *q, int32_t *grid, uint8_t *support) {
                              s->top_len, s->bottom, s->bottom_len, q->x, ROWS, q->y, q->y_len, q->value, ROWS,
                              q->observed, ROWS, q->from, ROWS, q->until, ROWS, q->wind_u, q->wind_u_len, q->wind_v,
                              q->wind_v_len, q->scans, q->radius, q->plan_len, q->limit, q->plan_len, false, q->mode,
-                             1000, 60, grid, s->points, support, s->points);
+                             q->rule, 1000, 60, grid, s->points, support, s->points);
 }
 
 static uint32_t screen(const Request *q, Results *r) { return show(q, r->grid, r->support); }
@@ -111,7 +113,7 @@ static struct sosnyavik_request by_name(const Request *q) {
                           .from = {q->from, ROWS}, .until = {q->until, ROWS}, .wind_u = {q->wind_u, q->wind_u_len},
                           .wind_v = {q->wind_v, q->wind_v_len}, .scans = q->scans, .radius = {q->radius, q->plan_len},
                           .limit = {q->limit, q->plan_len}, .mode = q->mode, .time = 1000);
-    request.age = 60;
+    request.rule = q->rule, request.age = 60;
     return request;
 }
 
@@ -203,6 +205,11 @@ static void gives(const Request *q, const int32_t *grid, const char *what) {
     answered(screen_by_name, q, &blocks, what);
 }
 
+static Request by_listings(Request q) {
+    q.rule = SOSNYAVIK_LISTINGS;
+    return q;
+}
+
 static Request breezy(void) {
     Request q = paper;
     q.wind_u[0] = 10, q.wind_v[0] = 0, q.wind_u[1] = 10, q.wind_v[1] = 0;
@@ -220,6 +227,16 @@ static void examples(void) {
     gives(&q, windy, "the example along the wind");
     q.mode = SOSNYAVIK_ROUND, gives(&q, calm, "the example with winds and round weights"), q = breezy();
     q.wind_u[0] = q.wind_u[1] = 0, gives(&q, calm, "the example along a calm wind");
+}
+
+// The points that hear the middle station alone move by its weight's part, and the others as ever.
+static void examples_by_listings(void) {
+    static const int32_t calm[POINTS] = {587, 672, 648, 672, 757, 689, 648, 689, 648};
+    static const int32_t windy[POINTS] = {615, 648, 673, 696, 729, 721, 673, 689, 673};
+    Request q = by_listings(paper);
+    gives(&q, calm, "the example by the listings"), q = by_listings(breezy());
+    gives(&q, windy, "the example along the wind by the listings");
+    q.mode = SOSNYAVIK_ROUND, gives(&q, calm, "the example with winds and round weights by the listings");
 }
 
 // The mistakes that all calls with a request refuse alike.
@@ -269,6 +286,37 @@ static void mistakes_of_winds(Call *call, Request right) {
     q.wind_v_len = 2, refused(call, q, 4, 0, "refusal 4 before mode"), q = right;
     q.wind_u[1] = SOSNYAVIK_MISSING, q.wind_v[1] = 0;
     must(call(&q, &r) == 524289, "the number for half a wind");
+}
+
+// A rule that is none, in the mode that is asked for: after refusal 4, and before 6 to 8.
+static void mistakes_of_a_rule(Call *call, Request right) {
+    static const uint32_t bad[] = {0, 3, UINT32_MAX};
+    for (size_t b = 0; b < sizeof bad / sizeof *bad; b++) {
+        Results r;
+        right.rule = bad[b];
+        Request q = right;
+        refused(call, q, 5, 0, "refusal 5, rule");
+        must(call(&q, &r) == 327680, "the number for another rule");
+        q.scans = 0, refused(call, q, 5, 0, "refusal 5, scans and rule"), q = right;
+        q.mode = 2, refused(call, q, 5, 0, "refusal 5, mode and rule"), q = right;
+        q.radius[0] = 0, refused(call, q, 5, 0, "refusal 5, rule, before 6"), q = right;
+        q.first_guess[4] = SOSNYAVIK_MISSING, refused(call, q, 5, 0, "refusal 5, rule, before 7"), q = right;
+        q.wind_u[1] = 101, refused(call, q, 5, 0, "refusal 5, rule, before 8"), q = right;
+        q.y_len = 2, refused(call, q, 4, 0, "refusal 4 before rule"), q = right;
+        q.nx = 65, refused(call, q, 1, 0, "refusal 1 before rule");
+    }
+}
+
+// Alone in both modes; and by both rules the mistakes of all else.
+static void mistakes_of_rules(Call *call, Request right) {
+    for (uint32_t mode = SOSNYAVIK_ROUND; mode <= SOSNYAVIK_ALONG_WIND; mode++)
+        right.mode = mode, mistakes_of_a_rule(call, right);
+    right.mode = SOSNYAVIK_ROUND;
+    for (uint32_t rule = SOSNYAVIK_EQUATIONS; rule <= SOSNYAVIK_LISTINGS; rule++) {
+        right.rule = rule;
+        mistakes(call, right);
+        mistakes_of_winds(call, right);
+    }
 }
 
 static void mistakes_of_an_analysis(Call *call) {
@@ -343,8 +391,7 @@ static void no_windows(Call *call) {
     refused(call, none, 3, 0, "refusal 3 without windows");
     none.screen.points = 0;
     must(call(&none, &r) == 0 && memcmp(&r, &before, sizeof r) == 0, "a screen without windows");
-    mistakes(call, none);
-    mistakes_of_winds(call, none);
+    mistakes_of_rules(call, none);
 }
 
 // Bit for bit: positive zero is not negative zero.
@@ -405,17 +452,17 @@ static void reading_of_the_example(void) {
 }
 
 // Not the same with x for y, left for top or u for v; one mast has no wind.
-static Request lopsided(uint32_t mode) {
+static Request lopsided(uint32_t mode, uint32_t rule) {
     Request q = paper;
     q.y[0] = 32, q.value[0] = 700, q.until[2] = SOSNYAVIK_NO_END;
     q.wind_u[0] = 100, q.wind_v[0] = -30, q.wind_u[2] = 0, q.wind_v[2] = 7;
-    q.mode = mode;
+    q.mode = mode, q.rule = rule;
     return q;
 }
 
 // By name as by the plain call, over every window.
-static void same_by_name(uint32_t mode) {
-    Request q = lopsided(mode);
+static void same_by_name(uint32_t mode, uint32_t rule) {
+    Request q = lopsided(mode, rule);
     for (uint32_t w = 0; w < 81; w++) {
         Results plain, named;
         memset(&plain, UNTOUCHED, sizeof plain);
@@ -451,10 +498,10 @@ static uint32_t one_by_one(Request *q, Blocks *b) {
 
 // Screens of one to sixteen windows, all windows among them, and ends that are none: by either call as by single
 // queries.
-static void same_as_single_queries(uint32_t mode) {
+static void same_as_single_queries(uint32_t mode, uint32_t rule) {
     static const uint32_t first[6] = {0, 0, 0, 1, 1, 2}, last[6] = {0, 1, 2, 1, 2, 2};
     Show *shows[] = {show, show_by_name};
-    Request q = lopsided(mode);
+    Request q = lopsided(mode, rule);
     for (uint32_t w = 0; w < 36 * MOST; w++) {
         Blocks single, shown;
         set_count(&q.screen, w % MOST + 1);
@@ -511,11 +558,17 @@ static void post_in_two_scans(Call *call) {
     must(call(&q, &r) == 0 && memcmp(&r, &expected, sizeof r) == 0, "a post in two scans");
     q.limit[1] = 63;
     must(call(&q, &r) == 0 && r.verdict[0] == 12 && r.grid[0] == 704, "a post under a lower limit");
+    q = by_listings(q);
+    must(call(&q, &r) == 0 && r.verdict[0] == 12 && r.grid[0] == 665 && r.grid[3] == 644, "a post by the listings");
+    q.limit[1] = 64;
+    must(call(&q, &r) == 0 && r.verdict[0] == 0 && r.grid[0] == 690 && r.grid[3] == 648 && r.support[3] == 3,
+         "a post in two scans by the listings");
 }
 
 // A mast on the first point, which agrees with the first guess, and one that is dx and dy off it and a million above:
-// the point moves by weight/(10000 + weight) of that million. With the second mast alone it has support if that has
-// weight. Winds and mode are the request's.
+// the point moves by weight/(10000 + weight) of that million, by either rule. With the second mast alone it has support
+// if that has weight, and moves by all of the million if it has, or by weight/10000 of it. Winds and mode are the
+// request's.
 static void weighs(Call *call, const Request *blowing, int32_t radius, int32_t dx, int32_t dy, int64_t weight) {
     Results r;
     Request q = *blowing;
@@ -524,9 +577,14 @@ static void weighs(Call *call, const Request *blowing, int32_t radius, int32_t d
     q.x[0] = 0, q.y[0] = 0, q.value[0] = 0;
     q.x[1] = dx, q.y[1] = dy, q.value[1] = 1000000;
     q.radius[0] = radius, q.limit[0] = 2000000;
-    must(call(&q, &r) == 0 && r.grid[0] == (2 * weight * 1000000 + together) / (2 * together), "a weight");
-    q.x[0] = 1000000;
+    for (q.rule = SOSNYAVIK_EQUATIONS; q.rule <= SOSNYAVIK_LISTINGS; q.rule++)
+        must(call(&q, &r) == 0 && r.grid[0] == (2 * weight * 1000000 + together) / (2 * together), "a weight");
+    q.x[0] = 1000000, q.rule = SOSNYAVIK_EQUATIONS;
     must(call(&q, &r) == 0 && r.support[0] == (weight > 0), "the support by a weight");
+    must(r.grid[0] == (weight > 0 ? 1000000 : 0), "a lone mast by the equations");
+    q.rule = SOSNYAVIK_LISTINGS;
+    must(call(&q, &r) == 0 && r.support[0] == (weight > 0), "the support by a weight, by the listings");
+    must(r.grid[0] == weight * 100, "a lone mast by the listings");
 }
 
 static void round_weights(Call *call, const Request *q) {
@@ -566,6 +624,48 @@ static void weights(Call *call) {
     stretched_weights(call);
 }
 
+// The first point, with a mast 64 units off that reads a degree more and has weight 1308, and another mast near it. It
+// moves by all of the degree by the equations, and by the listings too unless the first mast is alone.
+static void hears(Call *call, int32_t y, int32_t value, bool alone, const char *what) {
+    Results r;
+    Request q = paper;
+    q.radius[0] = 73;
+    q.x[0] = 64, q.y[0] = 0, q.value[0] = 704;
+    q.x[1] = 12, q.y[1] = y, q.value[1] = value;
+    must(call(&q, &r) == 0 && r.grid[0] == 704, what);
+    q.rule = SOSNYAVIK_LISTINGS;
+    must(call(&q, &r) == 0 && r.grid[0] == (alone ? 648 : 704), what);
+    must(r.support[0] == 1, what);
+}
+
+// Who counts beside a mast; and halves, away from zero.
+static void lone_masts(Call *call) {
+    Results r;
+    Request q = by_listings(paper);
+    hears(call, 72, 640, false, "a mast inside the radius, of weight 0");
+    hears(call, 73, 640, true, "a mast outside the radius");
+    hears(call, 72, 640 + 201, true, "a rejected mast inside the radius");
+    hears(call, 72, SOSNYAVIK_MISSING, true, "a mast inside the radius that says nothing");
+    q.x[0] = 64, q.y[0] = 0, q.x[1] = 1000000, q.limit[0] = 2500;
+    q.value[0] = 640 + 2500, must(call(&q, &r) == 0 && r.grid[0] == 640 + 962, "a half above zero");
+    q.value[0] = 640 - 2500, must(call(&q, &r) == 0 && r.grid[0] == 640 - 962, "a half below zero");
+}
+
+// A request by name that says nothing of a rule is one by the equations, and without SOSNYAVIK_REQUEST it has none.
+static void rule_where_none_is_given(void) {
+    Results plain, r;
+    struct sosnyavik_request request = by_name(&paper), bare = SOSNYAVIK_REQUEST(), named = SOSNYAVIK_REQUEST(.nx = 3);
+    struct sosnyavik_results whole = {
+        .grid = {r.grid, POINTS}, .support = {r.support, POINTS}, .verdict = {r.verdict, ROWS}};
+    must(SOSNYAVIK_DEFAULT_RULE == 1 && SOSNYAVIK_EQUATIONS == 1 && SOSNYAVIK_LISTINGS == 2, "the number of a rule");
+    must(bare.rule == SOSNYAVIK_EQUATIONS && named.rule == SOSNYAVIK_EQUATIONS, "the rule where none is given");
+    request.rule = bare.rule;
+    must(analyse(&paper, &plain) == 0 && sosnyavik_request_analyse(&request, whole) == 0, "a request without a rule");
+    must(memcmp(&r, &plain, sizeof r) == 0, "the answer where no rule is given");
+    request.rule = (struct sosnyavik_request){.nx = 3}.rule;
+    must(sosnyavik_request_analyse(&request, whole) == 327680, "a rule left out without SOSNYAVIK_REQUEST");
+}
+
 // Where no age is given, an observation of 120 minutes counts and one of 121 does not: document 01's default.
 static void age_where_none_is_given(void) {
     Results r;
@@ -593,7 +693,7 @@ static void refuses_nothing(struct sosnyavik_request request) {
 }
 
 // What is left out of a request is refused, and no station is no mistake.
-static void left_out(uint32_t mode) {
+static void left_out(uint32_t mode, uint32_t rule) {
     Results r;
     struct sosnyavik_request zeroed, bare = SOSNYAVIK_REQUEST(), empty = by_name(&paper);
     struct sosnyavik_results whole = {.grid = {r.grid, POINTS}, .support = {r.support, POINTS}},
@@ -605,7 +705,7 @@ static void left_out(uint32_t mode) {
     bare.nx = bare.ny = 3, bare.first_guess = empty.first_guess;
     must(sosnyavik_request_analyse(&bare, whole) == 0x00050000, "a request without a plan");
     must(bare.mode == SOSNYAVIK_ROUND, "the mode where none is given");
-    bare.mode = mode;
+    bare.mode = mode, bare.rule = rule;
     bare.scans = empty.scans, bare.radius = empty.radius, bare.limit = empty.limit;
     must(sosnyavik_request_analyse(&bare, whole) == 0, "a request without stations");
     must(memcmp(r.grid, paper.first_guess, sizeof r.grid) == 0, "the grid without stations");
@@ -613,10 +713,10 @@ static void left_out(uint32_t mode) {
 }
 
 // As by the plain calls with sosnyavik_no_wind, whole, as a window and as a screen.
-static void winds_left_out(uint32_t mode) {
+static void winds_left_out(uint32_t mode, uint32_t rule) {
     Results whole[2], part[2], blocks[2];
     Request q = paper;
-    q.mode = mode;
+    q.mode = mode, q.rule = rule;
     memset(whole, UNTOUCHED, sizeof whole), memset(part, UNTOUCHED, sizeof part);
     memset(blocks, UNTOUCHED, sizeof blocks);
     must(analyse(&q, &whole[0]) == 0 && window(&q, &part[0]) == 0 && screen(&q, &blocks[0]) == 0, "no winds");
@@ -629,13 +729,13 @@ static void winds_left_out(uint32_t mode) {
 }
 
 // A column that is left out beside one that is given is no column, and neither are two that are given with no rows.
-static void one_wind_left_out(uint32_t mode) {
+static void one_wind_left_out(uint32_t mode, uint32_t rule) {
     Results r;
     struct sosnyavik_request request = by_name(&paper);
     const struct sosnyavik_i32_column u = request.wind_u, v = request.wind_v, none = {NULL, 0};
     const struct sosnyavik_results whole = {
         .grid = {r.grid, POINTS}, .support = {r.support, POINTS}, .verdict = {r.verdict, ROWS}};
-    request.mode = mode;
+    request.mode = mode, request.rule = rule;
     request.wind_u = none;
     must(sosnyavik_request_analyse(&request, whole) == 0x00040000, "wind_u left out alone");
     request.wind_u = u, request.wind_v = none;
@@ -646,7 +746,7 @@ static void one_wind_left_out(uint32_t mode) {
 
 // As many stations as there may be, and one more, which is refused: with winds left out, where there are no more marks
 // than that, and with winds.
-static void most_stations(uint32_t mode, bool windy) {
+static void most_stations(uint32_t mode, uint32_t rule, bool windy) {
     enum { TOO_MANY = SOSNYAVIK_MOST_STATIONS + 1 };
     static int32_t zeros[TOO_MANY];
     static uint32_t minutes[TOO_MANY], ends[TOO_MANY];
@@ -655,7 +755,7 @@ static void most_stations(uint32_t mode, bool windy) {
     struct sosnyavik_request request = by_name(&paper);
     struct sosnyavik_results whole = {.grid = {r.grid, POINTS}, .support = {r.support, POINTS}};
     memset(ends, UNTOUCHED, sizeof ends);
-    request.mode = mode;
+    request.mode = mode, request.rule = rule;
     for (size_t rows = SOSNYAVIK_MOST_STATIONS; rows <= TOO_MANY; rows++) {
         request.x = request.y = request.value = (struct sosnyavik_i32_column){zeros, rows};
         request.observed = request.from = (struct sosnyavik_u32_column){minutes, rows};
@@ -671,27 +771,25 @@ static void marks(void) {
         must(sosnyavik_no_wind()[row] == SOSNYAVIK_MISSING, "a mark of sosnyavik_no_wind");
 }
 
-static void in_mode(uint32_t mode) {
-    same_by_name(mode);
-    same_as_single_queries(mode);
-    winds_left_out(mode);
-    one_wind_left_out(mode);
-    most_stations(mode, false);
-    most_stations(mode, true);
-    left_out(mode);
+static void in_manner(uint32_t mode, uint32_t rule) {
+    same_by_name(mode, rule);
+    same_as_single_queries(mode, rule);
+    winds_left_out(mode, rule);
+    one_wind_left_out(mode, rule);
+    most_stations(mode, rule, false);
+    most_stations(mode, rule, true);
+    left_out(mode, rule);
 }
 
 int main(void) {
     Call *analyses[] = {analyse, analyse_by_name}, *windows[] = {window, window_by_name};
     Call *screens[] = {screen, screen_by_name};
     examples();
+    examples_by_listings();
     for (int i = 0; i < 2; i++) {
-        mistakes(analyses[i], paper);
-        mistakes(windows[i], paper);
-        mistakes(screens[i], paper);
-        mistakes_of_winds(analyses[i], paper);
-        mistakes_of_winds(windows[i], paper);
-        mistakes_of_winds(screens[i], paper);
+        mistakes_of_rules(analyses[i], paper);
+        mistakes_of_rules(windows[i], paper);
+        mistakes_of_rules(screens[i], paper);
         mistakes_of_an_analysis(analyses[i]);
         mistakes_of_a_window(windows[i]);
         mistakes_of_columns(screens[i]);
@@ -701,15 +799,19 @@ int main(void) {
         verdicts_off_the_grid(analyses[i]);
         post_in_two_scans(analyses[i]);
         weights(analyses[i]);
+        lone_masts(analyses[i]);
     }
     readings();
     summaries();
     reading_of_the_example();
+    rule_where_none_is_given();
     age_where_none_is_given();
     marks();
-    in_mode(SOSNYAVIK_ROUND);
-    in_mode(SOSNYAVIK_ALONG_WIND);
-    puts("header: the examples, posts, weights, winds, screens, and the mistakes for refusals 1 to 8, answer as "
-         "include/sosnyavik.h says, by name too");
+    for (uint32_t rule = SOSNYAVIK_EQUATIONS; rule <= SOSNYAVIK_LISTINGS; rule++) {
+        in_manner(SOSNYAVIK_ROUND, rule);
+        in_manner(SOSNYAVIK_ALONG_WIND, rule);
+    }
+    puts("header: the examples, posts, weights, winds, lone stations by both rules, screens, and the mistakes for "
+         "refusals 1 to 8, answer as include/sosnyavik.h says, by name too");
     return 0;
 }

@@ -1,5 +1,5 @@
-// The example of include/sosnyavik.h from C++, calm and along the wind: by the plain calls, and by name as C++11 writes
-// it and, from C++20 on, with designated initialisers. What is left out has its default.
+// The example of include/sosnyavik.h from C++, calm, along the wind and by the listings: by the plain calls, and by
+// name as C++11 writes it and, from C++20 on, with designated initialisers. What is left out has its default.
 #include <cstdio>
 #include <cstdlib>
 #include <cstring>
@@ -15,6 +15,7 @@ const uint32_t until[3] = {SOSNYAVIK_NO_END, SOSNYAVIK_NO_END, 995};
 const int32_t wind_u[3] = {10, 10, SOSNYAVIK_MISSING}, wind_v[3] = {0, 0, SOSNYAVIK_MISSING};
 const int32_t radius[1] = {96}, limit[1] = {200};
 const uint32_t left[3] = {0, 1, 0}, right[3] = {1, 2, 0}, top[3] = {1, 0, 0}, bottom[3] = {1, 1, 0};
+const uint32_t bad_rules[3] = {0, 3, UINT32_MAX};
 const int32_t blocks[7] = {672, 757, 672, 768, 757, 768, 587};
 
 struct Answer {
@@ -54,7 +55,7 @@ void must_show() {
     Answer shown = {};
     must(sosnyavik_windows(3, 3, first_guess, 9, left, 3, right, 3, top, 3, bottom, 3, x, 3, y, 3, value, 3, observed,
                            3, from, 3, until, 3, sosnyavik_no_wind(), 3, sosnyavik_no_wind(), 3, 1, radius, 1, limit, 1,
-                           false, SOSNYAVIK_ROUND, 1000, 60, shown.grid, 7, shown.support, 7) == 0,
+                           false, SOSNYAVIK_ROUND, SOSNYAVIK_EQUATIONS, 1000, 60, shown.grid, 7, shown.support, 7) == 0,
          "the screen of the example");
     must(std::memcmp(shown.grid, blocks, sizeof blocks) == 0, "the screen of the example");
     must(shown.support[6] == 1 && shown.support[7] == 0 && shown.grid[7] == 0, "the screen's last entry");
@@ -64,6 +65,7 @@ sosnyavik_request by_assignment() {
     sosnyavik_request request = SOSNYAVIK_REQUEST();
     must(request.age == SOSNYAVIK_DEFAULT_AGE && request.x.at == nullptr && !request.smooth, "what is left out");
     must(request.mode == SOSNYAVIK_ROUND && request.wind_v.at == nullptr, "wind and mode, left out");
+    must(request.rule == SOSNYAVIK_DEFAULT_RULE && request.rule == SOSNYAVIK_EQUATIONS, "rule, left out");
     request.nx = 3, request.ny = 3, request.first_guess = {first_guess, 9};
     request.x = {x, 3}, request.y = {y, 3}, request.value = {value, 3};
     request.observed = {observed, 3}, request.from = {from, 3}, request.until = {until, 3};
@@ -72,8 +74,8 @@ sosnyavik_request by_assignment() {
     return request;
 }
 
-// The example along the wind, whole.
-void must_blow(const sosnyavik_request &request, const Answer &expected, const char *what) {
+// Along the wind or by the listings, whole.
+void must_give(const sosnyavik_request &request, const Answer &expected, const char *what) {
     Answer whole = {};
     sosnyavik_results results;
     results.grid = {whole.grid, 9};
@@ -86,12 +88,33 @@ void must_blow(const sosnyavik_request &request, const Answer &expected, const c
 void try_winds(const Answer &expected) {
     sosnyavik_request request = by_assignment();
     request.wind_u = {wind_u, 3}, request.wind_v = {wind_v, 3}, request.mode = SOSNYAVIK_ALONG_WIND;
-    must_blow(request, expected, "the example along the wind by name");
+    must_give(request, expected, "the example along the wind by name");
+}
+
+// A rule that is none is refused by each call, and nothing is written.
+void try_rules(const Answer &expected) {
+    sosnyavik_request request = by_assignment();
+    request.rule = SOSNYAVIK_LISTINGS;
+    must_give(request, expected, "the example by the listings by name");
+    for (uint32_t rule : bad_rules) {
+        Answer untouched = {}, before = {};
+        sosnyavik_results whole, part, shown;
+        whole.grid = {untouched.grid, 9}, whole.support = {untouched.support, 9};
+        whole.verdict = {untouched.verdict, 3};
+        part.grid = {untouched.grid, 2}, part.support = {untouched.support, 2};
+        shown.grid = {untouched.grid, 7}, shown.support = {untouched.support, 7};
+        request.rule = rule;
+        must(sosnyavik_request_analyse(&request, whole) == 327680, "another rule");
+        must(sosnyavik_request_window(&request, {0, 1, 1, 1}, part) == 327680, "another rule, of a window");
+        must(sosnyavik_request_windows(&request, {{left, 3}, {right, 3}, {top, 3}, {bottom, 3}}, shown) == 327680,
+             "another rule, of a screen");
+        must(std::memcmp(&untouched, &before, sizeof before) == 0, "the results of another rule");
+    }
 }
 
 #if __cplusplus >= 202002L
-// Members in their order, some left out in the middle and at the end, and age given in its place.
-void try_designated(const Answer &expected, const Answer &windy) {
+// Members in their order, some left out in the middle and at the end, and rule and age given in their place.
+void try_designated(const Answer &expected, const Answer &windy, const Answer &listed) {
     sosnyavik_request request =
         SOSNYAVIK_REQUEST(.nx = 3, .ny = 3, .first_guess = {first_guess, 9}, .x = {x, 3}, .y = {y, 3},
                           .value = {value, 3}, .observed = {observed, 3}, .from = {from, 3}, .until = {until, 3},
@@ -102,31 +125,46 @@ void try_designated(const Answer &expected, const Answer &windy) {
                           .value = {value, 3}, .observed = {observed, 3}, .from = {from, 3}, .until = {until, 3},
                           .wind_u = {wind_u, 3}, .wind_v = {wind_v, 3}, .scans = 1, .radius = {radius, 1},
                           .limit = {limit, 1}, .mode = SOSNYAVIK_ALONG_WIND, .time = 1000, .age = 60);
-    must_blow(along, windy, "the example along the wind with designated initialisers");
+    must_give(along, windy, "the example along the wind with designated initialisers");
+    sosnyavik_request by_listings =
+        SOSNYAVIK_REQUEST(.nx = 3, .ny = 3, .first_guess = {first_guess, 9}, .x = {x, 3}, .y = {y, 3},
+                          .value = {value, 3}, .observed = {observed, 3}, .from = {from, 3}, .until = {until, 3},
+                          .scans = 1, .radius = {radius, 1}, .limit = {limit, 1}, .mode = SOSNYAVIK_ROUND,
+                          .rule = SOSNYAVIK_LISTINGS, .time = 1000, .age = 60);
+    must_give(by_listings, listed, "the example by the listings with designated initialisers");
     sosnyavik_request bare = SOSNYAVIK_REQUEST(.nx = 3, .time = 1000);
     must(bare.age == SOSNYAVIK_DEFAULT_AGE && bare.until.count == 0, "what is not designated");
+    must(bare.rule == SOSNYAVIK_DEFAULT_RULE && along.rule == SOSNYAVIK_EQUATIONS, "a rule that is not designated");
 }
 #else
-void try_designated(const Answer &, const Answer &) {}
+void try_designated(const Answer &, const Answer &, const Answer &) {}
 #endif
 
 } // namespace
 
 int main() {
-    Answer plain = {}, windy = {};
+    Answer plain = {}, windy = {}, listed = {};
     must(sosnyavik_analyse(3, 3, first_guess, 9, x, 3, y, 3, value, 3, observed, 3, from, 3, until, 3,
                            sosnyavik_no_wind(), 3, sosnyavik_no_wind(), 3, 1, radius, 1, limit, 1, false,
-                           SOSNYAVIK_ROUND, 1000, 60, plain.grid, 9, plain.support, 9, plain.verdict, 3) == 0,
+                           SOSNYAVIK_ROUND, SOSNYAVIK_EQUATIONS, 1000, 60, plain.grid, 9, plain.support, 9,
+                           plain.verdict, 3) == 0,
          "the example");
     must(plain.grid[0] == 587 && plain.grid[4] == 757 && plain.verdict[2] == 2, "the example");
     must(sosnyavik_analyse(3, 3, first_guess, 9, x, 3, y, 3, value, 3, observed, 3, from, 3, until, 3, wind_u, 3,
-                           wind_v, 3, 1, radius, 1, limit, 1, false, SOSNYAVIK_ALONG_WIND, 1000, 60, windy.grid, 9,
-                           windy.support, 9, windy.verdict, 3) == 0,
+                           wind_v, 3, 1, radius, 1, limit, 1, false, SOSNYAVIK_ALONG_WIND, SOSNYAVIK_EQUATIONS, 1000,
+                           60, windy.grid, 9, windy.support, 9, windy.verdict, 3) == 0,
          "the example along the wind");
     must(windy.grid[1] == 648 && windy.grid[3] == 696 && windy.verdict[2] == 2, "the example along the wind");
+    must(sosnyavik_analyse(3, 3, first_guess, 9, x, 3, y, 3, value, 3, observed, 3, from, 3, until, 3,
+                           sosnyavik_no_wind(), 3, sosnyavik_no_wind(), 3, 1, radius, 1, limit, 1, false,
+                           SOSNYAVIK_ROUND, SOSNYAVIK_LISTINGS, 1000, 60, listed.grid, 9, listed.support, 9,
+                           listed.verdict, 3) == 0,
+         "the example by the listings");
+    must(listed.grid[0] == 587 && listed.grid[2] == 648 && listed.grid[5] == 689, "the example by the listings");
     must_show();
     must_answer(by_assignment(), plain, "the example by name");
     try_winds(windy);
-    try_designated(plain, windy);
+    try_rules(listed);
+    try_designated(plain, windy, listed);
     std::printf("header: the example from C++ %ld, by name too\n", __cplusplus);
 }
