@@ -10,6 +10,7 @@ use crate::generate::{
 };
 use crate::generate_posts::move_beyond_the_cut;
 use crate::generate_rims::add_on_a_rim;
+use crate::generate_rules::add_round_a_point;
 use crate::generate_window::{
     any_window, lay_chain, move_to_the_cut, one, roomy_call, shortened, small_window, some,
 };
@@ -86,6 +87,7 @@ fn with_screen(rng: &mut Rng, make: Make, lay: Lay) -> (Call, Screen) {
         move_to_the_cut(rng, &mut call, &one);
         move_beyond_the_cut(rng, &mut call, &another);
         add_on_a_rim(rng, &mut call, &one);
+        add_round_a_point(rng, &mut call, &one);
     }
     if chained {
         let window = rng.pick(&windows);

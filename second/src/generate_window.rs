@@ -9,6 +9,7 @@ use crate::generate::{
 };
 use crate::generate_posts::move_beyond_the_cut;
 use crate::generate_rims::add_on_a_rim;
+use crate::generate_rules::add_round_a_point;
 use crate::generate_winds::blow;
 use crate::rng::Rng;
 use crate::scan::weight;
@@ -51,6 +52,7 @@ fn with_window(rng: &mut Rng, make: fn(&mut Rng) -> Call, place: Place) -> (Call
     move_to_the_cut(rng, &mut call, &window);
     move_beyond_the_cut(rng, &mut call, &window);
     add_on_a_rim(rng, &mut call, &window);
+    add_round_a_point(rng, &mut call, &window);
     if rng.one_in(2) {
         lay_chain(rng, &mut call, &window);
     } else {
