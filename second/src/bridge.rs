@@ -307,7 +307,10 @@ mod tests {
         };
         let (rule, given, length) = sent(None);
         assert_eq!((rule, given), (0, 0));
-        assert_eq!([Some(0), Some(1), Some(u32::MAX)].map(sent), [0, 1, u32::MAX].map(|rule| (rule, 1, length)));
+        assert_eq!(
+            [Some(0), Some(1), Some(u32::MAX)].map(sent),
+            [0, 1, u32::MAX].map(|rule| (rule, 1, length))
+        );
     }
 
     #[test]

@@ -69,12 +69,24 @@ pub fn break_line(rng: &mut Rng, text: &mut Vec<u8>, way: u64) {
     let line = match way % WAYS {
         0 => with(b"0"),
         1 => with(b"3"),
-        2 => with(rng.pick(&[&b"4"[..], b"10", b"12", b"21", b"22", b"256", b"257", b"4294967295"])),
+        2 => {
+            with(rng.pick(&[&b"4"[..], b"10", b"12", b"21", b"22", b"256", b"257", b"4294967295"]))
+        }
         3 => with(rng.pick(&[&b"01"[..], b"02", b"001", b"00"])),
         4 => with(rng.pick(&[&b"-1"[..], b"-2", b"-0"])),
         5 => with(rng.pick(&[&b"+1"[..], b"+2"])),
         6 => with(b""),
-        7 => with(rng.pick(&[&b"two"[..], b"x", b"1x", b"2a", b"0x1", b"1e0", b"M", b"open", b"1.0"])),
+        7 => with(rng.pick(&[
+            &b"two"[..],
+            b"x",
+            b"1x",
+            b"2a",
+            b"0x1",
+            b"1e0",
+            b"M",
+            b"open",
+            b"1.0",
+        ])),
         8 => with(rng.pick(&[
             &b"4294967296"[..],
             b"4294967297",

@@ -117,10 +117,10 @@ pub fn call_of(rng: &mut Rng, nx: u32, ny: u32, stations: usize) -> Call {
     let mut call = untuned_call(rng, nx, ny, stations);
     let whole = whole_grid(&call);
     add_on_a_rim(rng, &mut call, &whole);
-    add_round_a_point(rng, &mut call, &whole);
-    call.fit_results();
     tune_limits(rng, &mut call);
     order_limits(rng, &mut call);
+    add_round_a_point(rng, &mut call, &whole);
+    call.fit_results();
     call
 }
 

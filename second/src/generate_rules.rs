@@ -60,14 +60,18 @@ enum Beside {
     RejectedBefore,
 }
 
-const ALL: [Beside; 18] = [
+const ALL: [Beside; 26] = [
     Beside::Nothing,
     Beside::AtThePoint,
     Beside::LonePost,
     Beside::Tie,
     Beside::Tie,
+    Beside::Tie,
     Beside::Silent(1),
     Beside::Silent(1),
+    Beside::Silent(1),
+    Beside::Silent(1),
+    Beside::Silent(2),
     Beside::Silent(2),
     Beside::SilentAlone,
     Beside::AtTheRim,
@@ -77,12 +81,20 @@ const ALL: [Beside; 18] = [
     Beside::Dead(4),
     Beside::Dead(5),
     Beside::Rejected,
+    Beside::Rejected,
+    Beside::RejectedBefore,
+    Beside::RejectedBefore,
+    Beside::RejectedBefore,
     Beside::RejectedBefore,
     Beside::RejectedBefore,
 ];
 
-/// The widest limit that is raised to let a lone station pass.
+/// Limits that are raised to this let most lone stations pass; and to this, any whose
+/// weight·D is to be an exact half.
 const TIGHT: i32 = 300;
+const FOR_A_TIE: i32 = WEIGHT_SCALE as i32;
+/// Radii with stations inside that have no weight.
+const WITH_SILENT: [i32; 6] = [71, 75, 90, 99, 100, 128];
 /// Past the border of posts, and inside this radius.
 const FAR: i32 = 320;
 
@@ -99,21 +111,32 @@ pub fn add_round_a_point(rng: &Rng, call: &mut Call, part: &Window) {
         return;
     }
     let beside = rng.pick(&ALL);
+    if matches!(beside, Beside::RejectedBefore) && rng.one_in(2) {
+        lengthen(rng, call);
+    }
     let scan = rng.up_to(call.scans - 1) as usize;
-    let scan = if matches!(beside, Beside::Tie) { 0 } else { scan };
+    let scan = match beside {
+        Beside::Tie => 0,
+        Beside::RejectedBefore => call.scans as usize - 1,
+        _ => scan,
+    };
     fit_radius(rng, call, scan, beside);
     let radius = call.radius[scan];
     let Some(point) = quiet_point(rng, call, part, radius, beside) else {
         return;
     };
     let limits = &mut call.limit[..=scan];
-    if rng.one_in(2) {
-        limits.iter_mut().for_each(|limit| *limit = (*limit).max(TIGHT));
+    let is_tie = matches!(beside, Beside::Tie);
+    if is_tie || rng.one_in(2) {
+        let tight = if is_tie { FOR_A_TIE } else { TIGHT };
+        limits.iter_mut().for_each(|limit| *limit = (*limit).max(tight));
     }
     let most = limits.iter().min().map_or(0, |limit| (*limit).clamp(0, 60_000));
     let lone = match beside {
         Beside::AtThePoint => Some(point),
-        Beside::LonePost => beyond(rng, call, point, radius, 1).or_else(|| within(rng, call, point, radius)),
+        Beside::LonePost => {
+            beyond(rng, call, point, radius, 1).or_else(|| within(rng, call, point, radius))
+        }
         Beside::SilentAlone => on_rim(rng, call, point, radius, Rim::Silent),
         _ => within(rng, call, point, radius),
     };
@@ -128,11 +151,28 @@ pub fn add_round_a_point(rng: &Rng, call: &mut Call, part: &Window) {
     put_beside(rng, call, point, radius, scan, beside);
 }
 
+/// Five scans or six, the last of them like the last there was.
+fn lengthen(rng: &mut Rng, call: &mut Call) {
+    let (scans, all) = (call.scans as usize, rng.pick(&[5, 6, 6]));
+    if scans < all {
+        let (radius, limit) = (call.radius[scans - 1], call.limit[scans - 1]);
+        call.radius.truncate(scans);
+        call.limit.truncate(scans);
+        call.radius.resize(all, radius);
+        call.limit.resize(all, limit);
+        call.scans = all as u32;
+    }
+}
+
 /// A little shorter a radius may have the rim that is asked for; and a station past
 /// the border of posts asks for a long one, and for few others.
 fn fit_radius(rng: &mut Rng, call: &mut Call, scan: usize, beside: Beside) {
     let rim = match beside {
-        Beside::Silent(_) | Beside::SilentAlone => Rim::Silent,
+        Beside::Silent(_) | Beside::SilentAlone => {
+            let least = rng.pick(&WITH_SILENT);
+            call.radius[..=scan].iter_mut().for_each(|old| *old = (*old).max(least));
+            Rim::Silent
+        }
         Beside::AtTheRim => Rim::By(0),
         Beside::Dead(5) => {
             let radius = FAR.min(*RADIUS.end());
@@ -164,7 +204,7 @@ fn quiet_point(
     radius: i32,
     beside: Beside,
 ) -> Option<(i32, i32)> {
-    let outside = matches!(beside, Beside::LonePost | Beside::Dead(5));
+    let outside = matches!(beside, Beside::LonePost | Beside::Dead(5) | Beside::RejectedBefore);
     let ways = [
         (part.left == 0, Window { right: part.left, ..*part }),
         (part.right == call.nx - 1, Window { left: part.right, ..*part }),
@@ -216,7 +256,13 @@ fn within(rng: &mut Rng, call: &Call, (x, y): (i32, i32), radius: i32) -> Option
 
 /// A place inside the radius round a point and at least so far beyond the border that
 /// the point stands on.
-fn beyond(rng: &mut Rng, call: &Call, (x, y): (i32, i32), radius: i32, least: i32) -> Option<(i32, i32)> {
+fn beyond(
+    rng: &mut Rng,
+    call: &Call,
+    (x, y): (i32, i32),
+    radius: i32,
+    least: i32,
+) -> Option<(i32, i32)> {
     let (last_x, last_y) = (64 * call.nx as i32 - 64, 64 * call.ny as i32 - 64);
     let most = if least > 1 { radius - 1 } else { (radius - 1).min(BORDER as i32) };
     if most < least {
@@ -293,12 +339,14 @@ fn put_beside(
             bury(call, verdict);
         }
         Beside::Rejected | Beside::RejectedBefore => {
-            let at = match beside {
-                Beside::Rejected => scan,
-                _ => rng.up_to(scan as u32) as usize,
+            let (near, post) =
+                (within(rng, call, point, radius), beyond(rng, call, point, radius, 1));
+            let (at, place) = match beside {
+                Beside::Rejected => (scan, near),
+                // A post's D stays, and is not followed by the field.
+                _ => (scan - rng.up_to(scan.min(1) as u32) as usize, post.or(near)),
             };
-            let place = within(rng, call, point, radius).unwrap_or(point);
-            push_rejected(rng, call, place, at);
+            push_rejected(rng, call, place.unwrap_or(point), at);
         }
         _ => (),
     }

@@ -87,7 +87,6 @@ fn with_screen(rng: &mut Rng, make: Make, lay: Lay) -> (Call, Screen) {
         move_to_the_cut(rng, &mut call, &one);
         move_beyond_the_cut(rng, &mut call, &another);
         add_on_a_rim(rng, &mut call, &one);
-        add_round_a_point(rng, &mut call, &one);
     }
     if chained {
         let window = rng.pick(&windows);
@@ -97,7 +96,9 @@ fn with_screen(rng: &mut Rng, make: Make, lay: Lay) -> (Call, Screen) {
         order_limits(rng, &mut call);
     }
     let whole = whole_grid(&call);
-    blow(rng, &mut call, windows.first().unwrap_or(&whole));
+    let part = windows.first().unwrap_or(&whole);
+    add_round_a_point(rng, &mut call, part);
+    blow(rng, &mut call, part);
     (call.grid_len, call.support_len) = (points(&windows), points(&windows));
     (call, Screen::new(&windows))
 }

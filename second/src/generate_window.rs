@@ -52,13 +52,13 @@ fn with_window(rng: &mut Rng, make: fn(&mut Rng) -> Call, place: Place) -> (Call
     move_to_the_cut(rng, &mut call, &window);
     move_beyond_the_cut(rng, &mut call, &window);
     add_on_a_rim(rng, &mut call, &window);
-    add_round_a_point(rng, &mut call, &window);
     if rng.one_in(2) {
         lay_chain(rng, &mut call, &window);
     } else {
         tune_limits(rng, &mut call);
         order_limits(rng, &mut call);
     }
+    add_round_a_point(rng, &mut call, &window);
     blow(rng, &mut call, &window);
     call.grid_len = window.area();
     call.support_len = window.area();

@@ -37,6 +37,7 @@ pub mod reading;
 pub mod real;
 pub mod refusals;
 pub mod rng;
+pub mod rule_sorts;
 pub mod running;
 pub mod scan;
 pub mod scheme;

@@ -1,0 +1,1 @@
+//! The sorts of rules are told apart, and each has its floor.
