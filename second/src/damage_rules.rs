@@ -6,10 +6,11 @@ use crate::damage::break_one;
 use crate::damage_winds::bad_mode;
 use crate::rng::Rng;
 
-/// Rules that there are none of, and that are 1 or 2 in fewer bits.
-const WRAPPING: [u32; 8] =
-    [257, 258, 65_537, 65_538, (1 << 24) + 1, (1 << 24) + 2, (1 << 31) + 1, (1 << 31) + 2];
-const OTHERS: [u32; 7] = [4, 5, 10, 12, 21, 256, 1 << 31];
+/// Rules that there are none of, and that are 1 or 2 in two bytes or three, or without
+/// the highest bit.
+const WRAPPING: [u32; 6] =
+    [65_537, 65_538, (1 << 24) + 1, (1 << 24) + 2, (1 << 31) + 1, (1 << 31) + 2];
+const OTHERS: [u32; 9] = [4, 5, 10, 12, 21, 256, 257, 258, 1 << 31];
 
 fn bad_rule(rng: &mut Rng) -> u32 {
     let (wrapping, other) = (rng.pick(&WRAPPING), rng.pick(&OTHERS));
@@ -42,17 +43,17 @@ fn break_rule(rng: &mut Rng, call: &mut Call, way: u64) {
     });
     match way % 12 {
         4 => break_one(rng, call, 4),
-        5 => call.mode = bad_mode(rng),
-        6 => break_one(rng, call, 6),
-        7 => break_one(rng, call, 5),
-        10 => break_one(rng, call, 3),
+        5 => break_one(rng, call, 6),
+        6 => call.grid_len += 1,
+        7 => call.mode = bad_mode(rng),
+        10 => break_one(rng, call, 5),
         11 => break_one(rng, call, 7 + (way / 12 % 2) as u32),
         _ => (),
     }
 }
 
 /// How many ways to go wrong a rule's line has.
-pub const WAYS: u64 = 20;
+pub const WAYS: u64 = 21;
 
 const KEYS: [&[u8]; 8] =
     [b"rules=", b"Rule=", b"RULE=", b"rul=", b"role=", b" rule=", b"rule =", b"rule"];
@@ -72,7 +73,7 @@ pub fn break_line(rng: &mut Rng, text: &mut Vec<u8>, way: u64) {
         2 => {
             with(rng.pick(&[&b"4"[..], b"10", b"12", b"21", b"22", b"256", b"257", b"4294967295"]))
         }
-        3 => with(rng.pick(&[&b"01"[..], b"02", b"001", b"00"])),
+        3 => with(rng.pick(&[&b"01"[..], b"02", b"001", b"002"])),
         4 => with(rng.pick(&[&b"-1"[..], b"-2", b"-0"])),
         5 => with(rng.pick(&[&b"+1"[..], b"+2"])),
         6 => with(b""),
@@ -87,16 +88,16 @@ pub fn break_line(rng: &mut Rng, text: &mut Vec<u8>, way: u64) {
             b"open",
             b"1.0",
         ])),
+        // In 32 bits, or in 64, these are 1 or 2.
         8 => with(rng.pick(&[
-            &b"4294967296"[..],
-            b"4294967297",
+            &b"4294967297"[..],
             b"4294967298",
             b"18446744073709551617",
             b"18446744073709551618",
-            b"99999999999999999999",
         ])),
         9 => with(rng.pick(&[&b"1,1"[..], b"2,1", b"1,", b",2", b"1,2"])),
         10 => with(rng.pick(&[&b" 1"[..], b"2 ", b"2\r", b"1\t", b"2\0", b"\xC2\xB2"])),
+        20 => with(rng.pick(&[&b"4294967296"[..], b"9999999999", b"99999999999999999999"])),
         11 => [rng.pick(&KEYS), &good[5..]].concat(),
         _ => good.to_vec(),
     };

@@ -9,7 +9,8 @@ use crate::generate_rims::{offset, placed, radius_with, Rim};
 use crate::rng::Rng;
 use crate::scan::weight;
 use crate::units::{
-    BORDER, EQUATIONS, LISTINGS, MISSING, MOST_STATIONS, RADIUS, VALUE, WEIGHT_SCALE,
+    BORDER, EQUATIONS, HUNDREDTHS, LIMIT, LISTINGS, MISSING, MOST_STATIONS, RADIUS, VALUE,
+    WEIGHT_SCALE,
 };
 
 /// The rule of a request: left out in a third, and rule 2 in nearly half.
@@ -46,6 +47,8 @@ enum Beside {
     Nothing,
     AtThePoint,
     LonePost,
+    /// Nothing, and weight·D is past 32 bits.
+    Huge,
     /// Nothing, and weight·D is an exact half of the scale more than a multiple.
     Tie,
     /// So many stations inside without a weight; and one of these alone.
@@ -60,10 +63,17 @@ enum Beside {
     RejectedBefore,
 }
 
-const ALL: [Beside; 26] = [
+const ALL: [Beside; 38] = [
     Beside::Nothing,
     Beside::AtThePoint,
     Beside::LonePost,
+    Beside::Huge,
+    Beside::Huge,
+    Beside::Tie,
+    Beside::Tie,
+    Beside::Tie,
+    Beside::Tie,
+    Beside::Tie,
     Beside::Tie,
     Beside::Tie,
     Beside::Tie,
@@ -74,11 +84,16 @@ const ALL: [Beside; 26] = [
     Beside::Silent(2),
     Beside::Silent(2),
     Beside::SilentAlone,
+    Beside::SilentAlone,
+    Beside::SilentAlone,
     Beside::AtTheRim,
     Beside::Dead(1),
     Beside::Dead(2),
     Beside::Dead(3),
     Beside::Dead(4),
+    Beside::Dead(5),
+    Beside::Dead(5),
+    Beside::Dead(5),
     Beside::Dead(5),
     Beside::Rejected,
     Beside::Rejected,
@@ -98,7 +113,7 @@ const WITH_SILENT: [i32; 6] = [71, 75, 90, 99, 100, 128];
 /// Past the border of posts, and inside this radius.
 const FAR: i32 = 320;
 
-/// Gives half of the requests under rule 2 a point of a part of the grid that hears
+/// Gives two thirds of the requests under rule 2 a point of a part of the grid that hears
 /// one accepted station alone in a scan, and something beside it that counts, or
 /// does not. Whatever else is drawn for the request stays, but for stations that
 /// would be heard there too.
@@ -107,7 +122,7 @@ pub fn add_round_a_point(rng: &Rng, call: &mut Call, part: &Window) {
     let rng = &mut rng.beside().beside();
     let room = MOST_STATIONS.saturating_sub(call.x.len());
     let is_grid = call.nx >= 2 && call.ny >= 2;
-    if call.rule() != LISTINGS || !is_grid || room < 4 || !rng.one_in(2) {
+    if call.rule() != LISTINGS || !is_grid || room < 4 || rng.one_in(3) {
         return;
     }
     let beside = rng.pick(&ALL);
@@ -126,11 +141,12 @@ pub fn add_round_a_point(rng: &Rng, call: &mut Call, part: &Window) {
         return;
     };
     let limits = &mut call.limit[..=scan];
-    let is_tie = matches!(beside, Beside::Tie);
-    if is_tie || rng.one_in(2) {
-        let tight = if is_tie { FOR_A_TIE } else { TIGHT };
-        limits.iter_mut().for_each(|limit| *limit = (*limit).max(tight));
-    }
+    let least = match beside {
+        Beside::Tie => FOR_A_TIE,
+        Beside::Huge => *LIMIT.end(),
+        _ => rng.pick(&[0, TIGHT]),
+    };
+    limits.iter_mut().for_each(|limit| *limit = (*limit).max(least));
     let most = limits.iter().min().map_or(0, |limit| (*limit).clamp(0, 60_000));
     let lone = match beside {
         Beside::AtThePoint => Some(point),
@@ -145,6 +161,14 @@ pub fn add_round_a_point(rng: &Rng, call: &mut Call, part: &Window) {
     };
     let d = match beside {
         Beside::Tie => tie(rng, point, lone, radius, most),
+        Beside::Huge => {
+            let size = rng.between(*VALUE.end() / 2, *VALUE.end());
+            if guess_at(call, lone.0, lone.1) > 0 {
+                -size
+            } else {
+                size
+            }
+        }
         _ => rng.between(-most, most),
     };
     push(call, lone, d);
@@ -220,7 +244,7 @@ fn quiet_point(
     if let Some(point) = points.into_iter().find(is_quiet) {
         return Some(point);
     }
-    rng.one_in(2).then(|| {
+    (matches!(beside, Beside::Tie | Beside::Dead(5)) || rng.one_in(2)).then(|| {
         drop_inside(call, points[0], radius);
         points[0]
     })
@@ -293,13 +317,19 @@ fn on_rim(
 }
 
 /// A difference up to a size for which weight·D, with the round weight, is half of
-/// the scale past a multiple of it, if there is one; or else any.
+/// the scale past a multiple of it, or just short of that, if there is one; or else any.
 fn tie(rng: &mut Rng, point: (i32, i32), place: (i32, i32), radius: i32, most: i32) -> i32 {
     let (dx, dy) = (i64::from(place.0 - point.0), i64::from(place.1 - point.1));
     let weight = weight(i64::from(radius).pow(2), dx * dx + dy * dy);
-    let is_tie = |d: &i32| weight * i64::from(*d) % WEIGHT_SCALE == WEIGHT_SCALE / 2;
-    let found = (1..=most.min(WEIGHT_SCALE as i32)).find(is_tie);
-    found.unwrap_or(most) * rng.pick(&[-1, 1])
+    let half = WEIGHT_SCALE / 2;
+    let least = rng.pick(&[half, half, half - HUNDREDTHS / 2]);
+    let is_tie = |d: &i32| {
+        let rest = weight * i64::from(*d) % WEIGHT_SCALE;
+        rest == least || least < rest && rest < half
+    };
+    let found = (1..=most.min(FOR_A_TIE)).find(is_tie);
+    // Below zero a half away from zero is unlike one that goes up.
+    found.unwrap_or(most) * rng.pick(&[-1, -1, 1])
 }
 
 /// Adds a row that takes part, with a difference from the first guess.
@@ -334,7 +364,11 @@ fn put_beside(
         Beside::Dead(verdict) => {
             let far = beyond(rng, call, point, radius, BORDER as i32 + 1);
             let near = within(rng, call, point, radius).unwrap_or(point);
-            let place = if verdict == 5 { far.unwrap_or(near) } else { near };
+            let (place, verdict) = match (verdict, far) {
+                (5, Some(far)) => (far, 5),
+                (5, None) => (near, 1),
+                _ => (near, verdict),
+            };
             push(call, place, 0);
             bury(call, verdict);
         }
@@ -384,14 +418,19 @@ fn push_rejected(rng: &mut Rng, call: &mut Call, place: (i32, i32), scan: usize)
 #[cfg(test)]
 mod tests {
     use super::*;
+    use std::collections::BTreeSet;
 
     #[test]
     fn ties_are_found_where_there_are_any() {
         let mut rng = Rng::for_case(1, 2, 3);
         // 3,846 is twice 1,923: 2,500 times it is half the scale past a multiple.
-        let d = tie(&mut rng, (0, 0), (64, 0), 96, 60_000);
-        assert_eq!((d.abs(), 3_846 * i64::from(d.abs()) % 10_000), (2_500, 5_000));
-        assert_eq!(tie(&mut rng, (0, 0), (64, 0), 96, 2_499).abs(), 2_499, "there is none");
-        assert_eq!(tie(&mut rng, (0, 0), (0, 0), 96, 100).abs(), 100, "the scale itself");
+        let mut rests = BTreeSet::new();
+        for _ in 0..50 {
+            let d = i64::from(tie(&mut rng, (0, 0), (64, 0), 96, 60_000));
+            rests.insert((d.abs() <= 2_500, 3_846 * d.abs() % 10_000));
+            assert_eq!(tie(&mut rng, (0, 0), (0, 0), 96, 100).abs(), 100, "the scale itself");
+        }
+        assert_eq!(rests.len(), 2, "{rests:?}");
+        assert!(rests.iter().all(|(small, rest)| *small && (4_950..=5_000).contains(rest)));
     }
 }

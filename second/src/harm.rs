@@ -186,9 +186,15 @@ fn put(rng: &mut Rng, line: &mut Vec<u8>, byte: u8) {
     }
 }
 
+/// Any byte of eight bits; in half of the lines one that is like the old one in seven.
 fn put_high(rng: &mut Rng, lines: &mut Lines, at: usize) {
     let byte = rng.between(128, 255) as u8;
-    put(rng, &mut lines[at], byte);
+    if rng.one_in(2) {
+        let inside = rng.below(lines[at].len() - 1);
+        lines[at][inside] |= 128;
+    } else {
+        put(rng, &mut lines[at], byte);
+    }
 }
 
 fn add_field(line: &mut Vec<u8>) {

@@ -10,7 +10,7 @@ use crate::call::{Analysis, Call, Refusal, Window};
 use crate::refusals::check_request;
 use crate::scan::{correct, judge, smoothed, weight, weight_at, Accepted, Sums};
 use crate::scheme::run;
-use crate::sorts::{floors_in_order, named, Sort};
+use crate::sorts::{named, Sort};
 use crate::tally::Floor;
 use crate::units::{
     rounded, ALONG_WIND, BORDER, EQUATIONS, LISTINGS, MODES, RULES, STEP, WEIGHT_SCALE,
@@ -26,7 +26,7 @@ const LONE: &str = "point with one station alone inside (in the first scan, late
 const WEIGHT: &str = "lone station of a weight of (0, 1 or more without another correction, with \
     another, 10,000)";
 const CORRECTION: &str = "lone station that moves a point by its part of D (D negative, positive; \
-    by nothing; an exact half up, an exact half down; rounded up, cut)";
+    by nothing; an exact half up, an exact half down; rounded up, cut; weight·D past i32)";
 const BESIDE: &str = "station with a weight that would be alone but for (one without a weight, \
     more of them, others with a weight)";
 pub const RIM: &str = "lone station that would not be alone with one at R²";
@@ -54,29 +54,80 @@ const TOO: &str = "bad rule with a fault too (of results, columns, scan count, m
 const LINE: &str = "refusal 9 at the line of a rule (0, 3, another number, a leading zero, a minus, \
     a plus, empty, a word, past u32, more fields, a strange byte, another key, before smooth, after \
     scans, doubled, elsewhere, unended)";
-const LINES: usize = 17;
+
+/// The least of each sort, by its name and numbers in order; those of verdicts and of
+/// scans begin at 1.
+type Least = (&'static str, &'static [u64]);
+
+const ACCEPTED_LEAST: [Least; 13] = [
+    (GIVEN, &[980, 900, 550, 520, 1_250, 1_150]),
+    (LONE, &[1_700, 1_050, 1_500, 750]),
+    (WEIGHT, &[95, 1_000, 1_600, 500]),
+    (CORRECTION, &[1_250, 1_200, 580, 45, 80, 1_450, 1_550, 75]),
+    (BESIDE, &[70, 25, 1_000]),
+    (RIM, &[180]),
+    (VERDICT, &[190, 175, 160, 105, 115, 0, 0, 0, 0, 0, 200, 55, 15, 9, 14, 10]),
+    (POST, &[480, 370]),
+    (WIND, &[450, 540]),
+    (CHANGE, &[420, 850]),
+    (UNLIKE, &[1_600, 100, 130, 100]),
+    (SMOOTHED, &[800, 800]),
+    (SCANS, &[160, 400, 190, 80, 100, 300]),
+];
+
+const WINDOW_LEAST: [Least; 2] = [(UNLIKE_INSIDE, &[1_400, 70]), (CUT, &[1_350, 1_350, 90])];
+
+const REFUSED_LEAST: [Least; 2] =
+    [(ALONE, &[17, 17, 12, 14, 8]), (TOO, &[12, 11, 12, 12, 12, 6, 6])];
+
+const TEXT_LEAST: [Least; 13] = [
+    (GIVEN, &[1_800, 0, 1_090, 0, 2_400]),
+    (LONE, &[1_450, 1_300, 1_200, 640]),
+    (WEIGHT, &[85, 1_000, 1_450, 560]),
+    (CORRECTION, &[1_050, 1_030, 660, 40, 85, 1_250, 1_350, 50]),
+    (BESIDE, &[75, 25, 1_000]),
+    (RIM, &[200]),
+    (VERDICT, &[240, 235, 205, 135, 115, 0, 0, 0, 0, 0, 230, 95, 30, 17, 17, 11]),
+    (POST, &[340, 250]),
+    (CHANGE, &[620, 1_150]),
+    (UNLIKE, &[1_450, 170, 260, 170]),
+    (SMOOTHED, &[700, 700]),
+    (SCANS, &[120, 300, 160, 155, 160, 500]),
+    (LINE, &[26, 26, 24, 26, 32, 27, 33, 44, 43, 26, 31, 41, 61, 56, 26, 19, 20]),
+];
+
+fn floors_of(sorts: &[Least]) -> Vec<Floor> {
+    let in_order = |(name, least): &Least| {
+        let first = u32::from([VERDICT, SCANS].contains(name));
+        let floors = (first..).zip(*least).filter(|(_, least)| **least > 0);
+        floors.map(|(number, least)| Floor::times(name, number, *least)).collect::<Vec<_>>()
+    };
+    sorts.iter().flat_map(in_order).collect()
+}
 
 /// The least of each sort in a full run of analyses.
 pub fn floors() -> Vec<Floor> {
-    [common_floors(), refused_floors()].concat()
-}
-
-fn common_floors() -> Vec<Floor> {
-    Vec::new()
-}
-
-fn refused_floors() -> Vec<Floor> {
-    Vec::new()
+    [floors_of(&ACCEPTED_LEAST), floors_of(&REFUSED_LEAST)].concat()
 }
 
 /// The same in a full run of windows or screens, with what only these have.
 pub fn window_floors() -> Vec<Floor> {
-    floors()
+    [floors(), floors_of(&WINDOW_LEAST)].concat()
 }
 
-/// The same in a full run of texts, which have no mode and no other calls' faults.
+/// The same in a full run of texts, which have no mode, and no rule that is another.
 pub fn text_floors() -> Vec<Floor> {
-    Vec::new()
+    floors_of(&TEXT_LEAST)
+}
+
+/// The real stations are asked for with the rule left out and under rule 2, in both
+/// modes; texts in mode 0 alone.
+pub fn real_floors() -> Vec<Floor> {
+    [0, 1, 4, 5].map(|n| Floor::fixed(GIVEN, n, 6)).to_vec()
+}
+
+pub fn real_text_floors() -> Vec<Floor> {
+    [0, 4].map(|n| Floor::fixed(GIVEN, n, 6)).to_vec()
 }
 
 /// The sorts of an accepted request with the windows that are asked for, if any.
@@ -131,7 +182,7 @@ struct Found {
     supported: usize,
     supported_alone: usize,
     weight: [bool; 4],
-    correction: [bool; 7],
+    correction: [bool; 8],
     beside: [bool; 3],
     rim: bool,
     verdicts: [bool; 17],
@@ -272,6 +323,7 @@ impl Found {
             half && d < 0,
             2 * rest > WEIGHT_SCALE,
             0 < 2 * rest && 2 * rest < WEIGHT_SCALE,
+            i32::try_from(product).is_err(),
         ];
         self.correction.iter_mut().zip(holds).for_each(|(found, holds)| *found |= holds);
     }

@@ -32,7 +32,6 @@ pub enum RuleFault {
     /// What is divided by what.
     ScaleForTwo,
     ScaleForAll,
-    ScaleForOneWithAWeight,
     OverHundred,
     OverTheScaleLessOne,
     DividedTwice,
@@ -94,7 +93,7 @@ pub enum RuleFault {
 use RuleFault::*;
 
 /// Those that every kind of request shows.
-pub const OF_NUMBERS: [RuleFault; 35] = [
+pub const OF_NUMBERS: [RuleFault; 34] = [
     Ignored,
     Always,
     Exchanged,
@@ -110,7 +109,6 @@ pub const OF_NUMBERS: [RuleFault; 35] = [
     SquareCounted,
     ScaleForTwo,
     ScaleForAll,
-    ScaleForOneWithAWeight,
     OverHundred,
     OverTheScaleLessOne,
     DividedTwice,
@@ -255,8 +253,12 @@ fn as_read(request: &[u8], fault: RuleFault) -> Vec<u8> {
         Doubled if key(after, b"rule=") => drop(lines.remove(at)),
         TextThree if lines[at] == b"rule=3\n" => lines[at] = b"rule=2\n",
         TextZero if lines[at] == b"rule=0\n" => lines[at] = b"rule=1\n",
-        TextLeadingZero if lines[at] == b"rule=01\n" => lines[at] = b"rule=1\n",
-        TextLeadingZero if lines[at] == b"rule=02\n" => lines[at] = b"rule=2\n",
+        TextLeadingZero if key(lines[at], b"rule=0") && lines[at].ends_with(b"1\n") => {
+            lines[at] = b"rule=1\n";
+        }
+        TextLeadingZero if key(lines[at], b"rule=0") && lines[at].ends_with(b"2\n") => {
+            lines[at] = b"rule=2\n";
+        }
         TextPlus if lines[at] == b"rule=+1\n" => lines[at] = b"rule=1\n",
         TextPlus if lines[at] == b"rule=+2\n" => lines[at] = b"rule=2\n",
         TextEmpty if lines[at] == b"rule=\n" => lines[at] = b"rule=1\n",
@@ -365,8 +367,6 @@ fn correct(
         let is_lone = match fault {
             ScaleForTwo => inside == 1 || inside == 2,
             ScaleForAll => inside > 0,
-            // The same count, by another way: as long as its station has a weight.
-            ScaleForOneWithAWeight => accepted.iter().filter(|one| weight_of(one) > 0).count() == 1,
             OnlyInside => inside == 1 && !border,
             _ => inside == 1,
         };

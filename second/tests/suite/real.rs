@@ -106,12 +106,12 @@ fn the_cases_are_counted() {
         &format!("smoothing off: 322 of 405 rejected; 88 of the 405 are posts; {GAIN}: 10\n"),
         &format!("smoothing on: 330 of 405 rejected; 88 of the 405 are posts; {GAIN}: 8\n"),
         &format!("327 of 405 rejected; 88 of the 405 are posts; {GAIN}: 1; {MOVED}: 516\n"),
-        "\nreal analysis, 13 cases\n",
-        "\nreal window, 409 cases\n",
-        "\nreal windows, 122 cases\n",
+        "\nreal analysis, 25 cases\n",
+        "\nreal window, 817 cases\n",
+        "\nreal windows, 242 cases\n",
         "\nreal reading, 3072 cases\n",
         "\nreal summary, 6 cases\n",
-        "\nreal text, 7 cases\n",
+        "\nreal text, 13 cases\n",
     ] {
         assert!(out.contains(said), "{said} is not in {out}");
     }
