@@ -46,7 +46,11 @@ fn break_rule(rng: &mut Rng, call: &mut Call, way: u64) {
         5 => break_one(rng, call, 6),
         6 => call.grid_len += 1,
         7 => call.mode = bad_mode(rng),
-        10 => break_one(rng, call, 5),
+        10 => match rng.below(3) {
+            0 => call.radius.clear(),
+            1 => call.limit.clear(),
+            _ => break_one(rng, call, 5),
+        },
         11 => break_one(rng, call, 7 + (way / 12 % 2) as u32),
         _ => (),
     }

@@ -63,7 +63,7 @@ enum Beside {
     RejectedBefore,
 }
 
-const ALL: [Beside; 38] = [
+const ALL: [Beside; 40] = [
     Beside::Nothing,
     Beside::AtThePoint,
     Beside::LonePost,
@@ -77,6 +77,8 @@ const ALL: [Beside; 38] = [
     Beside::Tie,
     Beside::Tie,
     Beside::Tie,
+    Beside::Silent(1),
+    Beside::Silent(1),
     Beside::Silent(1),
     Beside::Silent(1),
     Beside::Silent(1),
@@ -144,6 +146,7 @@ pub fn add_round_a_point(rng: &Rng, call: &mut Call, part: &Window) {
     let least = match beside {
         Beside::Tie => FOR_A_TIE,
         Beside::Huge => *LIMIT.end(),
+        Beside::Silent(_) => TIGHT,
         _ => rng.pick(&[0, TIGHT]),
     };
     limits.iter_mut().for_each(|limit| *limit = (*limit).max(least));
@@ -228,6 +231,7 @@ fn quiet_point(
     radius: i32,
     beside: Beside,
 ) -> Option<(i32, i32)> {
+    let needs_quiet = matches!(beside, Beside::Tie | Beside::Silent(_) | Beside::Dead(5));
     let outside = matches!(beside, Beside::LonePost | Beside::Dead(5) | Beside::RejectedBefore);
     let ways = [
         (part.left == 0, Window { right: part.left, ..*part }),
@@ -244,7 +248,7 @@ fn quiet_point(
     if let Some(point) = points.into_iter().find(is_quiet) {
         return Some(point);
     }
-    (matches!(beside, Beside::Tie | Beside::Dead(5)) || rng.one_in(2)).then(|| {
+    (needs_quiet || rng.one_in(2)).then(|| {
         drop_inside(call, points[0], radius);
         points[0]
     })

@@ -2,6 +2,7 @@
 //! faults that these must show.
 
 use crate::faulty::{Fault, Faulty};
+use crate::faulty_rules::RuleFault;
 use crate::faulty_screens::{FaultyScreen, OF_ANSWERS};
 use crate::faulty_weights::WeightFault;
 use crate::faulty_winds::WindFault;
@@ -105,6 +106,7 @@ fn the_cases_are_counted() {
         &format!("smoothing off: 96 of 405 rejected; 88 of the 405 are posts; {GAIN}: 1\n"),
         &format!("smoothing off: 322 of 405 rejected; 88 of the 405 are posts; {GAIN}: 10\n"),
         &format!("smoothing on: 330 of 405 rejected; 88 of the 405 are posts; {GAIN}: 8\n"),
+        "; points that rule 1 leaves otherwise: ",
         &format!("327 of 405 rejected; 88 of the 405 are posts; {GAIN}: 1; {MOVED}: 516\n"),
         "\nreal analysis, 25 cases\n",
         "\nreal window, 817 cases\n",
@@ -145,6 +147,10 @@ fn faults_are_seen_in_the_real_stations() {
         Fault::Winds(WindFault::MarkIsANumber),
         Fault::Winds(WindFault::CalmIsSilent),
         Fault::Winds(WindFault::StretchedInTheSumOnly),
+        Fault::Rules(RuleFault::Ignored),
+        Fault::Rules(RuleFault::Always),
+        Fault::Rules(RuleFault::ScaleForTwo),
+        Fault::Rules(RuleFault::RejectedCounted),
     ] {
         let seen = cases.analyses.iter().any(|case| case.differs(&Faulty(fault)).is_some());
         assert!(seen, "{fault:?} was not seen");
