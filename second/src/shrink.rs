@@ -265,11 +265,13 @@ fn lower_modes(call: &Call) -> impl Iterator<Item = Call> + '_ {
     modes.filter(|mode| *mode < call.mode).map(|mode| Call { mode, ..call.clone() })
 }
 
-/// The rules that there are and the first on either side that there is not, below
-/// the call's.
+/// The rules that there are, below the call's; from one that there is not, also the
+/// first on either side.
 fn lower_rules(call: &Call) -> impl Iterator<Item = Call> + '_ {
     let rules = *RULES.start() - 1..=*RULES.end() + 1;
-    let lower = rules.filter(|rule| call.rule.is_some_and(|given| *rule < given));
+    let is_lower =
+        |rule: &u32, given: u32| *rule < given && (RULES.contains(rule) || !RULES.contains(&given));
+    let lower = rules.filter(move |rule| call.rule.is_some_and(|given| is_lower(rule, given)));
     lower.map(|rule| Call { rule: Some(rule), ..call.clone() })
 }
 
