@@ -17,6 +17,7 @@ use second::units::HUNDREDTHS;
 
 const GRID: Shape = Shape { nx: 21, ny: 27 };
 const GAIN: &str = "points that gain support over a run in hundredths";
+const ALONE: &str = "points that rule 1 leaves otherwise";
 const MOVED: &str = "points that mode 0 leaves otherwise";
 
 fn cases() -> Cases {
@@ -106,7 +107,8 @@ fn the_cases_are_counted() {
         &format!("smoothing off: 96 of 405 rejected; 88 of the 405 are posts; {GAIN}: 1\n"),
         &format!("smoothing off: 322 of 405 rejected; 88 of the 405 are posts; {GAIN}: 10\n"),
         &format!("smoothing on: 330 of 405 rejected; 88 of the 405 are posts; {GAIN}: 8\n"),
-        "; points that rule 1 leaves otherwise: ",
+        &format!("322 of 405 rejected; 88 of the 405 are posts; {GAIN}: 10; {ALONE}: 122\n"),
+        &format!("{GAIN}: 0; {MOVED}: 550; {ALONE}: 327\n"),
         &format!("327 of 405 rejected; 88 of the 405 are posts; {GAIN}: 1; {MOVED}: 516\n"),
         "\nreal analysis, 25 cases\n",
         "\nreal window, 817 cases\n",
