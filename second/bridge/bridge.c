@@ -7,11 +7,11 @@
  *
  *   0, greet     nothing. The answer is GREETING.
  *   1, analyse   whether empty slices get null; the byte that fills results and guards; nx, ny, scans, smooth, mode,
- *                time, age; whether the winds are given; the eleven columns in the order of enum column_name; the
- *                lengths of grid, support and verdict. Winds that are not given are empty columns here, and left to the
- *                header's default. The answer is what the archive returned, the flags, and grid, support and verdict as
- *                they are then.
- *   2, window    the same, with left, right, top and bottom after whether the winds are given, and without verdict.
+ *                rule, time, age; whether the winds are given; whether the rule is; the eleven columns in the order of
+ *                enum column_name; the lengths of grid, support and verdict. Winds that are not given are empty columns
+ *                here, and a rule that is not given is 0; both are left to the header's default. The answer is what the
+ *                archive returned, the flags, and grid, support and verdict as they are then.
+ *   2, window    the same, with left, right, top and bottom after whether the rule is given, and without verdict.
  *   3, kind      whether empty slices get null; nx, ny, x, y; the column field; the column support, of bytes. The
  *                answer is what the archive returned, and the flags.
  *   4, value     the same. The answer is the double as it lies in memory, and the flags.
@@ -128,7 +128,7 @@ static void take_columns(struct request *q, bool null) {
     q->screen.bottom = unsigned_column(&in[BOTTOM]);
 }
 
-/* Every member comes, but for winds that are not given: these are left to their default. */
+/* Every member comes, but for winds and a rule that are not given: these are left to their default. */
 static struct request take_request(enum function function) {
     struct request q = {.asked = SOSNYAVIK_REQUEST(),
                         .columns_lent = function == WINDOWS ? COLUMNS : LEFT,
@@ -140,9 +140,12 @@ static struct request take_request(enum function function) {
     q.asked.scans = take_number();
     q.asked.smooth = take_number() != 0;
     q.asked.mode = take_number();
+    uint32_t rule = take_number();
     q.asked.time = take_number();
     q.asked.age = take_number();
     bool with_winds = take_number() != 0;
+    if (take_number() != 0)
+        q.asked.rule = rule;
     if (function == WINDOW)
         q.ends = take_ends();
     take_columns(&q, null);

@@ -158,10 +158,13 @@ fn put_opening(bytes: &mut Vec<u8>, function: u32, empty: Empty) {
     put_numbers(bytes, &[function, null, BYTE_PATTERN.into()]);
 }
 
+/// A rule that is left out is sent as 0, which is none; that it is left out is said
+/// after.
 fn put_plain(bytes: &mut Vec<u8>, call: &Call) {
     put_numbers(bytes, &[call.nx, call.ny, call.scans]);
-    put_numbers(bytes, &[call.smooth.into(), call.mode, call.time, call.age]);
-    put_numbers(bytes, &[call.winds.is_some().into()]);
+    put_numbers(bytes, &[call.smooth.into(), call.mode, call.rule.unwrap_or(0)]);
+    put_numbers(bytes, &[call.time, call.age]);
+    put_numbers(bytes, &[call.winds.is_some().into(), call.rule.is_some().into()]);
 }
 
 /// Wind columns that are left out are sent as empty ones; that they are has been
@@ -261,6 +264,7 @@ mod tests {
             limit: vec![],
             smooth: true,
             mode: 12,
+            rule: Some(24),
             time: 13,
             age: 14,
             ..Call::default()
@@ -272,11 +276,11 @@ mod tests {
         let call = call();
         let results = Results { grid: &mut [0; 15], support: &mut [0; 16], verdict: &mut [0; 17] };
         let null = numbers_of(&analyse_request(&call, &results, Empty::Null));
-        assert_eq!(null[..11], [1, 1, 0xA5, 1, 2, 10, 1, 12, 13, 14, 1]);
-        assert_eq!(null[11..18], [1, 3_u32.wrapping_neg(), 2, 4, 0x8000_0000, 1, 5]);
-        assert_eq!(null[18..27], [1, 6, 2, 7, u32::MAX, 1, 8, 1, 9]);
-        assert_eq!(null[27..32], [1, 21_u32.wrapping_neg(), 2, 22, 23]);
-        assert_eq!(null[32..], [1, 11, 0, 15, 16, 17]);
+        assert_eq!(null[..13], [1, 1, 0xA5, 1, 2, 10, 1, 12, 24, 13, 14, 1, 1]);
+        assert_eq!(null[13..20], [1, 3_u32.wrapping_neg(), 2, 4, 0x8000_0000, 1, 5]);
+        assert_eq!(null[20..29], [1, 6, 2, 7, u32::MAX, 1, 8, 1, 9]);
+        assert_eq!(null[29..34], [1, 21_u32.wrapping_neg(), 2, 22, 23]);
+        assert_eq!(null[34..], [1, 11, 0, 15, 16, 17]);
         let dangling = numbers_of(&analyse_request(&call, &results, Empty::Dangling));
         assert_eq!((dangling[1], &dangling[2..]), (0, &null[2..]));
     }
@@ -288,9 +292,25 @@ mod tests {
             numbers_of(&analyse_request(&Call { winds, ..call() }, &results, Empty::Null))
         };
         let (left_out, empty) = (sent(None), sent(Some(Winds::default())));
-        assert_eq!((left_out[10], empty[10]), (0, 1));
-        assert_eq!((left_out.len(), &left_out[11..]), (empty.len(), &empty[11..]));
-        assert_eq!(empty[27..], [0, 0, 1, 11, 0, 0, 0, 0]);
+        assert_eq!((left_out[11], empty[11]), (0, 1));
+        assert_eq!((left_out.len(), &left_out[12..]), (empty.len(), &empty[12..]));
+        assert_eq!(empty[29..], [0, 0, 1, 11, 0, 0, 0, 0]);
+    }
+
+    #[test]
+    fn a_rule_that_is_left_out_is_told_from_any_other() {
+        let sent = |rule: Option<u32>| {
+            let results = Results { grid: &mut [], support: &mut [], verdict: &mut [] };
+            let numbers =
+                numbers_of(&analyse_request(&Call { rule, ..call() }, &results, Empty::Null));
+            (numbers[8], numbers[12], numbers.len())
+        };
+        let (rule, given, length) = sent(None);
+        assert_eq!((rule, given), (0, 0));
+        assert_eq!(
+            [Some(0), Some(1), Some(u32::MAX)].map(sent),
+            [0, 1, u32::MAX].map(|rule| (rule, 1, length))
+        );
     }
 
     #[test]
@@ -299,9 +319,9 @@ mod tests {
         let results = Results { grid: &mut [0; 15], support: &mut [0; 16], verdict: &mut [] };
         let whole = numbers_of(&analyse_request(&call(), &results, Empty::Null));
         let part = numbers_of(&window_request(&call(), &window, &results, Empty::Null));
-        assert_eq!((part[0], &part[1..11]), (2, &whole[1..11]));
-        assert_eq!(part[11..15], [18, 19, 20, u32::MAX]);
-        assert_eq!(part[15..], whole[11..whole.len() - 1]);
+        assert_eq!((part[0], &part[1..13]), (2, &whole[1..13]));
+        assert_eq!(part[13..17], [18, 19, 20, u32::MAX]);
+        assert_eq!(part[17..], whole[13..whole.len() - 1]);
     }
 
     #[test]

@@ -1,7 +1,7 @@
 //! What a C call receives and gives, as plain columns and numbers.
 
 use crate::field::Shape;
-use crate::units::MISSING;
+use crate::units::{DEFAULT_RULE, MISSING};
 
 /// The two wind columns, good or bad.
 #[derive(Clone, Debug, Default, PartialEq, Eq)]
@@ -57,6 +57,8 @@ pub struct Call {
     pub limit: Vec<i32>,
     pub smooth: bool,
     pub mode: u32,
+    /// Where it is left out, it is the default.
+    pub rule: Option<u32>,
     pub time: u32,
     pub age: u32,
     pub grid_len: usize,
@@ -68,6 +70,11 @@ impl Call {
     /// The grid's shape; it means something once refusal 1 is ruled out.
     pub fn shape(&self) -> Shape {
         Shape { nx: self.nx as usize, ny: self.ny as usize }
+    }
+
+    /// The rule that is asked for, good or bad.
+    pub fn rule(&self) -> u32 {
+        self.rule.unwrap_or(DEFAULT_RULE)
     }
 
     /// The wind of a row, none where it is missing; it means something once

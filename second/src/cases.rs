@@ -8,11 +8,12 @@ use crate::generate_query;
 use crate::generate_text;
 use crate::generate_window;
 use crate::harm;
-use crate::impossible::{late_rejection, moved_by_wind, wrong_weight};
+use crate::impossible::{late_rejection, moved_by_rule, moved_by_wind, wrong_weight};
 use crate::patterned::{Patterned, BYTE_PATTERN, GRID_PATTERN};
 use crate::post_sorts;
 use crate::query_sorts;
 use crate::reading::Reading;
+use crate::rule_sorts;
 use crate::scheme::analyse;
 use crate::shrink;
 use crate::smoothing_sorts;
@@ -58,8 +59,9 @@ pub fn count_scheme(outcome: Result<(&Call, &Analysis), &Refusal>, tally: &mut T
     }
 }
 
-/// What only C calls have: winds and a mode, with the windows that are asked for.
-pub fn count_winds(
+/// What only C calls have: winds, a mode, and any rule, with the windows that are asked
+/// for.
+pub fn count_winds_and_rules(
     call: &Call,
     windows: &[Window],
     outcome: &Result<Analysis, Refusal>,
@@ -69,6 +71,10 @@ pub fn count_winds(
         Ok(analysis) => wind_sorts::of_accepted(call, analysis, windows),
         Err(refusal) => wind_sorts::of_refused(call, refusal),
     });
+    tally.add_sorts(&match outcome {
+        Ok(analysis) => rule_sorts::of_accepted(call, analysis, windows),
+        Err(refusal) => rule_sorts::of_refused(call, refusal),
+    });
 }
 
 /// What is wrong with an accepted answer, whatever it is compared with.
@@ -76,6 +82,7 @@ pub fn wrong_by_itself(call: &Call, expected: &Result<Analysis, Refusal>) -> Opt
     let analysis = expected.as_ref().ok()?;
     late_rejection(call, &analysis.verdict)
         .or_else(|| moved_by_wind(call, analysis))
+        .or_else(|| moved_by_rule(call, analysis))
         .or_else(|| wrong_weight(call, &analysis.verdict))
 }
 
@@ -116,7 +123,7 @@ impl Case for AnalysisCase {
     fn count(&self, expected: &Self::Expected, tally: &mut Tally) {
         let call = &self.0;
         count_scheme(expected.as_ref().map(|analysis| (call, analysis)), tally);
-        count_winds(call, &[], expected, tally);
+        count_winds_and_rules(call, &[], expected, tally);
         let (points, rows) = (call.first_guess.len(), call.x.len());
         let results = [call.grid_len, call.support_len, call.verdict_len];
         tally.add_lengths(call, &results, &[points, points, rows], number_of(expected));
@@ -153,7 +160,8 @@ impl Case for AnalysisCase {
         let scheme = scheme_floors(10_000, 300, &[1, 3, 4, 5, 6, 7, 8]);
         let posts = post_sorts::call_floors();
         let others = [weight_sorts::floors(), smoothing_sorts::floors()].concat();
-        [scheme, length_floors(), posts, others, wind_sorts::floors()].concat()
+        let winds = [wind_sorts::floors(), rule_sorts::floors()].concat();
+        [scheme, length_floors(), posts, others, winds].concat()
     }
 }
 
@@ -180,7 +188,7 @@ impl Case for WindowCase {
     fn count(&self, expected: &Self::Expected, tally: &mut Tally) {
         let (call, window) = (&self.call, &self.window);
         count_scheme(expected.as_ref().map(|analysis| (call, analysis)), tally);
-        count_winds(call, &[*window], expected, tally);
+        count_winds_and_rules(call, &[*window], expected, tally);
         let number = number_of(expected);
         // After refusals 1 and 2 the ends are in order, and nothing wraps.
         let asked = [window.wrapped_area() as usize; 2];
@@ -230,7 +238,7 @@ impl Case for WindowCase {
         let empty = vec![Floor::times("empty slice", 2, 50)];
         let posts = [post_sorts::call_floors(), post_sorts::window_floors(50)].concat();
         let others = [weight_sorts::window_floors(), smoothing_sorts::window_floors(8)].concat();
-        let winds = wind_sorts::window_floors();
+        let winds = [wind_sorts::window_floors(), rule_sorts::window_floors()].concat();
         [scheme, length_floors(), empty, sorts::floors(), posts, others, winds].concat()
     }
 }
@@ -355,6 +363,10 @@ impl Case for TextCase {
     fn count(&self, expected: &Self::Expected, tally: &mut Tally) {
         count_scheme(expected.as_ref().map(|(call, analysis)| (call, analysis)), tally);
         tally.add_sorts(&text_sorts::of_text(&self.text, expected.is_ok()));
+        tally.add_sorts(&match expected {
+            Ok((call, analysis)) => rule_sorts::of_accepted(call, analysis, &[]),
+            Err(refusal) => rule_sorts::of_text(&self.text, refusal),
+        });
         tally.add_sorts(self.harm.as_slice());
     }
 
@@ -378,7 +390,7 @@ impl Case for TextCase {
 
     fn impossible(&self, expected: &Self::Expected) -> Option<String> {
         let (call, analysis) = expected.as_ref().ok()?;
-        late_rejection(call, &analysis.verdict)
+        late_rejection(call, &analysis.verdict).or_else(|| moved_by_rule(call, analysis))
     }
 
     fn smaller(&self) -> Box<dyn Iterator<Item = Self> + '_> {
@@ -396,7 +408,7 @@ impl Case for TextCase {
     fn floors() -> Vec<Floor> {
         let scheme = scheme_floors(10_000, 300, &[6, 7, 8, 9, 10]);
         let stations = [post_sorts::text_floors(), weight_sorts::floors()].concat();
-        let smoothing = smoothing_sorts::floors();
-        [scheme, text_sorts::floors(), harm::floors(), stations, smoothing].concat()
+        let others = [smoothing_sorts::floors(), rule_sorts::text_floors()].concat();
+        [scheme, text_sorts::floors(), harm::floors(), stations, others].concat()
     }
 }

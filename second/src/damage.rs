@@ -3,6 +3,7 @@
 //! texts.
 
 use crate::call::{Call, Query, Window, Winds};
+use crate::damage_rules::break_by_rule;
 use crate::damage_winds::break_by_wind;
 use crate::rng::Rng;
 use crate::units::{BORDER, MISSING, MOST_STATIONS, NO_END};
@@ -11,10 +12,10 @@ const SIDES: [u32; 4] = [0, 1, 65, u32::MAX];
 const BAD_VALUES: [i32; 4] = [1_000_001, -1_000_001, i32::MAX, i32::MIN + 1];
 const EDGE_VALUES: [i32; 4] = [1_000_000, -1_000_000, MISSING, 32_767];
 
-/// Breaks a call so that it earns a refusal, sometimes in a second way too. Winds
-/// and modes have their turns, and second faults of their own.
+/// Breaks a call so that it earns a refusal, sometimes in a second way too. Winds,
+/// modes and rules have their turns, and second faults of their own.
 pub fn break_call(rng: &mut Rng, call: &mut Call, number: u32, turn: u64) {
-    if break_by_wind(rng, call, number, turn) {
+    if break_by_rule(rng, call, number, turn) || break_by_wind(rng, call, number, turn) {
         return;
     }
     break_one(rng, call, number);

@@ -4,6 +4,7 @@
 
 use crate::call::{Call, Screen, Window};
 use crate::damage::{bad_ends, break_call, break_one, wrong_length, BAD_ENDS};
+use crate::damage_rules::break_by_rule;
 use crate::damage_winds::break_by_wind;
 use crate::rng::Rng;
 use crate::screen::points;
@@ -31,7 +32,8 @@ pub fn break_screen(
             break_the_rest(rng, &mut call);
         }
         3 => break_results(rng, &mut call, &screen.windows(), way),
-        // A way to break a wind comes seldom, and no bad window is to hide it.
+        // A way to break a rule or a wind comes seldom, and no bad window is to hide it.
+        _ if break_by_rule(rng, &mut call, number, way) => (),
         _ if break_by_wind(rng, &mut call, number, way) => (),
         _ => {
             if rng.one_in(3) {

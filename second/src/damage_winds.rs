@@ -52,7 +52,7 @@ fn break_columns(rng: &mut Rng, call: &mut Call, way: u64) {
 /// Modes that there are none of, and that are like 0 or 1 in fewer bits.
 const WRAPPING: [u32; 6] = [256, 257, 65_536, 65_537, 1 << 31, (1 << 31) + 1];
 
-fn bad_mode(rng: &mut Rng) -> u32 {
+pub fn bad_mode(rng: &mut Rng) -> u32 {
     let wrapping = rng.pick(&WRAPPING);
     rng.pick(&[2, 3, wrapping, u32::MAX])
 }

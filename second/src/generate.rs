@@ -1,14 +1,16 @@
 //! The seeded generator: calls, each valid, heavy with bounds, or damaged by a
 //! schedule over the index. `generate_window` and `generate_screen` place windows
 //! on such calls, `generate_text` writes them out as texts, `generate_posts` sets
-//! stations beyond the border, `generate_rims` some at the rim of a radius, and
-//! `generate_winds` gives them winds, which no text has; `generate_query` makes readings and summaries, and `generate_field` single
-//! fields.
+//! stations beyond the border, `generate_rims` some at the rim of a radius,
+//! `generate_rules` some that are alone with a point or nearly so, and
+//! `generate_winds` gives them winds, which no text has; `generate_query` makes
+//! readings and summaries, and `generate_field` single fields.
 
 use crate::call::{Call, Window};
 use crate::damage;
 use crate::generate_posts::beyond;
 use crate::generate_rims::add_on_a_rim;
+use crate::generate_rules::{add_round_a_point, any_rule, thin_out};
 use crate::generate_winds::blow;
 use crate::rng::Rng;
 use crate::scan::{difference, rounded_at};
@@ -115,14 +117,16 @@ pub fn call_of(rng: &mut Rng, nx: u32, ny: u32, stations: usize) -> Call {
     let mut call = untuned_call(rng, nx, ny, stations);
     let whole = whole_grid(&call);
     add_on_a_rim(rng, &mut call, &whole);
-    call.fit_results();
     tune_limits(rng, &mut call);
     order_limits(rng, &mut call);
+    add_round_a_point(rng, &mut call, &whole);
+    call.fit_results();
     call
 }
 
 /// The same, with limits that do not know the differences.
 pub fn untuned_call(rng: &mut Rng, nx: u32, ny: u32, stations: usize) -> Call {
+    let beside = &mut rng.beside();
     let spread = rng.pick(&[3, 40, 300, 2_000]);
     let time = rng.pick(&[0, 1_000, 1_000, 1_000, 30_000_000, u32::MAX - 1, u32::MAX]);
     let short = rng.up_to(300);
@@ -133,6 +137,7 @@ pub fn untuned_call(rng: &mut Rng, nx: u32, ny: u32, stations: usize) -> Call {
         first_guess: first_guess(rng, nx, ny, spread),
         scans: rng.pick(&[1, 2, 2, 3, 4, 5, 6, 6, 6]),
         smooth: rng.one_in(2),
+        rule: any_rule(beside),
         time,
         age,
         ..Call::default()
@@ -141,6 +146,7 @@ pub fn untuned_call(rng: &mut Rng, nx: u32, ny: u32, stations: usize) -> Call {
     for _ in 0..stations {
         station(rng, &mut call, spread);
     }
+    thin_out(beside, &mut call);
     call.fit_results();
     call
 }

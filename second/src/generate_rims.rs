@@ -9,7 +9,7 @@ use crate::units::{BORDER, HUNDREDTHS, MOST_STATIONS, STEP, VALUE, WEIGHT_SCALE}
 
 /// Where a station stands to the rim.
 #[derive(Clone, Copy)]
-enum Rim {
+pub enum Rim {
     /// With a weight that hundredths would not give.
     Faint,
     /// With a weight of 1.
@@ -34,7 +34,7 @@ const RIMS: [Rim; 8] = [
 impl Rim {
     /// The least and the greatest squared distance. A weight is at least w as
     /// far out as (10,000 - w)R² over 10,000 + w.
-    fn squares(self, radius: i32) -> (i64, i64) {
+    pub fn squares(self, radius: i32) -> (i64, i64) {
         let r2 = i64::from(radius).pow(2);
         let farthest = |w: i64| (WEIGHT_SCALE - w) * r2 / (WEIGHT_SCALE + w);
         match self {
@@ -88,7 +88,7 @@ pub fn add_silent(rng: &mut Rng, call: &mut Call, part: &Window) {
 }
 
 /// The greatest radius up to one, of as many grid steps, that has such a rim.
-fn radius_with(rng: &mut Rng, rim: Rim, most: i32) -> Option<i32> {
+pub fn radius_with(rng: &mut Rng, rim: Rim, most: i32) -> Option<i32> {
     let step = STEP as i32;
     let least = (most - 1) / step * step + 1;
     (least..=most).rev().find(|radius| offset(rng, rim.squares(*radius)).is_some())
@@ -96,7 +96,7 @@ fn radius_with(rng: &mut Rng, rim: Rim, most: i32) -> Option<i32> {
 
 /// A whole offset along x and y whose square lies between these, if there is
 /// one; along x it is the shorter.
-fn offset(rng: &mut Rng, (least, most): (i64, i64)) -> Option<(i32, i32)> {
+pub fn offset(rng: &mut Rng, (least, most): (i64, i64)) -> Option<(i32, i32)> {
     if least == most && most % 4 == 3 {
         // No sum of two squares is such a number, and the search is long.
         return None;
@@ -143,7 +143,7 @@ fn add_station(rng: &mut Rng, call: &mut Call, point: (i32, i32), radius: i32, r
 
 /// A place at such an offset from a point, whichever way: on the grid, or else
 /// where a post may be.
-fn placed(
+pub fn placed(
     rng: &mut Rng,
     call: &Call,
     (x, y): (i32, i32),

@@ -10,6 +10,7 @@ use crate::generate::{
 };
 use crate::generate_posts::move_beyond_the_cut;
 use crate::generate_rims::add_on_a_rim;
+use crate::generate_rules::add_round_a_point;
 use crate::generate_window::{
     any_window, lay_chain, move_to_the_cut, one, roomy_call, shortened, small_window, some,
 };
@@ -95,7 +96,9 @@ fn with_screen(rng: &mut Rng, make: Make, lay: Lay) -> (Call, Screen) {
         order_limits(rng, &mut call);
     }
     let whole = whole_grid(&call);
-    blow(rng, &mut call, windows.first().unwrap_or(&whole));
+    let part = windows.first().unwrap_or(&whole);
+    add_round_a_point(rng, &mut call, part);
+    blow(rng, &mut call, part);
     (call.grid_len, call.support_len) = (points(&windows), points(&windows));
     (call, Screen::new(&windows))
 }

@@ -3,6 +3,7 @@
 
 use crate::call::Call;
 use crate::damage::break_one;
+use crate::damage_rules::break_line;
 use crate::damage_text::break_text;
 use crate::generate::{
     big_call, boundary_call, flavour, push_station, small_call, untuned_call, Flavour, TURNS,
@@ -18,10 +19,11 @@ const LIMIT_EVERY: u64 = 97;
 /// Every so many indices a text is a long one of any size.
 const LONG_EVERY: u64 = 23;
 /// The refusals that the damaged turns aim at. In the first of them texts are
-/// harmed in turn, whatever else the index would ask for; in the last, at
-/// random.
-const DAMAGES: [u32; 10] = [9, 9, 9, 9, 9, 6, 7, 8, 10, 9];
+/// harmed in turn, whatever else the index would ask for, and in the last the line of
+/// the rule; in the last but one, texts are harmed at random.
+const DAMAGES: [u32; 11] = [9, 9, 9, 9, 9, 6, 7, 8, 10, 9, 9];
 const HARMS: u64 = 5;
+const RULE_HARMS: u64 = 10;
 
 /// A request text, and the harm that was done to it in turn.
 pub fn text(seed: u64, index: u64) -> (Vec<u8>, Option<Sort>) {
@@ -33,6 +35,11 @@ pub fn text(seed: u64, index: u64) -> (Vec<u8>, Option<Sort>) {
             let mut text = harmless(rng);
             let sort = harm(rng, &mut text, index / TURNS * HARMS + turn);
             (text, Some(sort))
+        }
+        _ if turn == RULE_HARMS => {
+            let mut text = written(rng, small_call);
+            break_line(rng, &mut text, index / TURNS);
+            (text, None)
         }
         _ if index % LIMIT_EVERY == 5 => {
             let past = index / LIMIT_EVERY % 2;
@@ -90,6 +97,7 @@ fn harmless(rng: &mut Rng) -> Vec<u8> {
     let mut call = small_call(rng);
     let guess = call.first_guess[0];
     push_station(&mut call, 0, 0, guess);
+    call.rule = Some(call.rule());
     call.fit_results();
     let style = Style { marks_as_digits: rng.one_in(3), age_left_out: false };
     request_text(&call, style).unwrap_or_default()

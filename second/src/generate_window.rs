@@ -9,6 +9,7 @@ use crate::generate::{
 };
 use crate::generate_posts::move_beyond_the_cut;
 use crate::generate_rims::add_on_a_rim;
+use crate::generate_rules::add_round_a_point;
 use crate::generate_winds::blow;
 use crate::rng::Rng;
 use crate::scan::weight;
@@ -57,6 +58,7 @@ fn with_window(rng: &mut Rng, make: fn(&mut Rng) -> Call, place: Place) -> (Call
         tune_limits(rng, &mut call);
         order_limits(rng, &mut call);
     }
+    add_round_a_point(rng, &mut call, &window);
     blow(rng, &mut call, &window);
     call.grid_len = window.area();
     call.support_len = window.area();

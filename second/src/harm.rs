@@ -9,11 +9,12 @@ use crate::tally::Floor;
 /// The least of each harm to each line or field in a full run.
 const LEAST: u64 = 10;
 
-const KEYS: [&str; 9] = ["grid", "time", "age", "smooth", "scans", "scan", "row", "stations", "st"];
+const KEYS: [&str; 10] =
+    ["grid", "time", "age", "smooth", "rule", "scans", "scan", "row", "stations", "st"];
 
 macro_rules! by_line {
     ($harm:literal) => {
-        concat!($harm, " (grid, time, age, smooth, scans, scan, row, stations, st)")
+        concat!($harm, " (grid, time, age, smooth, rule, scans, scan, row, stations, st)")
     };
 }
 
@@ -21,7 +22,7 @@ macro_rules! by_field {
     ($harm:literal) => {
         concat!(
             $harm,
-            " (nx, ny, time, age, smooth, scans, R, E, row, stations, \
+            " (nx, ny, time, age, smooth, rule, scans, R, E, row, stations, \
              x, y, value, observed, from, until)"
         )
     };
@@ -71,26 +72,27 @@ const fn minute(key: usize, at: usize) -> Field {
     Field { key, at, range: U32, of_type: U32 }
 }
 
-const FIELDS: [Field; 16] = [
+const FIELDS: [Field; 17] = [
     number(0, 0, 2, 64),
     number(0, 1, 2, 64),
     minute(1, 0),
     minute(2, 0),
     number(3, 0, 0, 1),
-    number(4, 0, 1, 6),
-    number(5, 0, 1, 1024),
-    number(5, 1, 0, 2_000_000),
-    number(6, 0, -1_000_000, 1_000_000),
-    number(7, 0, 0, 512),
-    number(8, 0, -1_000_000, 1_000_000),
-    number(8, 1, -1_000_000, 1_000_000),
-    number(8, 2, -1_000_000, 1_000_000),
-    minute(8, 3),
-    minute(8, 4),
-    minute(8, 5),
+    number(4, 0, 1, 2),
+    number(5, 0, 1, 6),
+    number(6, 0, 1, 1024),
+    number(6, 1, 0, 2_000_000),
+    number(7, 0, -1_000_000, 1_000_000),
+    number(8, 0, 0, 512),
+    number(9, 0, -1_000_000, 1_000_000),
+    number(9, 1, -1_000_000, 1_000_000),
+    number(9, 2, -1_000_000, 1_000_000),
+    minute(9, 3),
+    minute(9, 4),
+    minute(9, 5),
 ];
 /// Any point of a row may be harmed, not its first alone.
-const ROW: usize = 6;
+const ROW: usize = 7;
 
 /// The new way to write a field, from the old one.
 type NumberHarm = fn(&mut Rng, &Field, &[u8]) -> Vec<u8>;
@@ -126,7 +128,7 @@ pub fn floors() -> Vec<Floor> {
 }
 
 /// Harms a request text in the way whose turn it is. Every kind of line must
-/// be there, `age` and a station too.
+/// be there, `age`, `rule` and a station too.
 pub fn harm(rng: &mut Rng, text: &mut Vec<u8>, turn: u64) -> Sort {
     let turn = (turn % turns() as u64) as usize;
     let of_lines = LINE_HARMS.len() * KEYS.len();
@@ -184,9 +186,15 @@ fn put(rng: &mut Rng, line: &mut Vec<u8>, byte: u8) {
     }
 }
 
+/// Any byte of eight bits; in half of the lines one that is like the old one in seven.
 fn put_high(rng: &mut Rng, lines: &mut Lines, at: usize) {
     let byte = rng.between(128, 255) as u8;
-    put(rng, &mut lines[at], byte);
+    if rng.one_in(2) {
+        let inside = rng.below(lines[at].len() - 1);
+        lines[at][inside] |= 128;
+    } else {
+        put(rng, &mut lines[at], byte);
+    }
 }
 
 fn add_field(line: &mut Vec<u8>) {

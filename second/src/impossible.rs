@@ -5,7 +5,7 @@ use crate::call::{Analysis, Call, Window};
 use crate::post_sorts::is_post;
 use crate::scan::{weight, weight_at};
 use crate::scheme::run;
-use crate::units::{ROUND, WEIGHT_SCALE};
+use crate::units::{EQUATIONS, ROUND, WEIGHT_SCALE};
 use crate::verdicts::REJECTED;
 use crate::weight_sorts::{each_point, is_small, Around};
 
@@ -57,4 +57,20 @@ pub fn wrong_weight(call: &Call, verdict: &[u8]) -> Option<String> {
 pub fn out_of_bounds(round: i64, along: i64) -> Option<String> {
     let good = (round..=WEIGHT_SCALE).contains(&along);
     (!good).then(|| format!("a weight is {along} along the wind, and {round} without it"))
+}
+
+/// From the same field both rules judge alike and support alike: the first scan does
+/// under either. A request with very many stations and points is not run once more.
+pub fn moved_by_rule(call: &Call, analysis: &Analysis) -> Option<String> {
+    if call.rule() == EQUATIONS || !is_small(call) {
+        return None;
+    }
+    let other = run(&Call { rule: Some(EQUATIONS), ..call.clone() });
+    let first = |of: &Analysis| {
+        let support: Vec<u8> = of.support.iter().map(|byte| byte & 1).collect();
+        let at_once = |verdict: &u8| if *verdict > REJECTED + 1 { 0 } else { *verdict };
+        (support, of.verdict.iter().map(at_once).collect::<Vec<u8>>())
+    };
+    let unlike = first(analysis) != first(&other);
+    unlike.then(|| "in the first scan rule 1 has other supports or verdicts".to_string())
 }

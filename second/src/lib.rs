@@ -1,4 +1,4 @@
-//! The independent second program: document 01 with requests 1 to 5 of
+//! The independent second program: document 01 with requests 1 to 6 of
 //! document 02, worked out plainly, to be compared number for number with the
 //! proved implementation.
 
@@ -9,6 +9,7 @@ pub mod call;
 pub mod cases;
 pub mod compare;
 pub mod damage;
+pub mod damage_rules;
 pub mod damage_screen;
 pub mod damage_text;
 pub mod damage_winds;
@@ -20,6 +21,7 @@ pub mod generate_field;
 pub mod generate_posts;
 pub mod generate_query;
 pub mod generate_rims;
+pub mod generate_rules;
 pub mod generate_screen;
 pub mod generate_text;
 pub mod generate_window;
@@ -35,6 +37,7 @@ pub mod reading;
 pub mod real;
 pub mod refusals;
 pub mod rng;
+pub mod rule_sorts;
 pub mod running;
 pub mod scan;
 pub mod scheme;

@@ -1,6 +1,7 @@
 //! The stations of source document 002 as requests: real positions and values,
 //! on that document's grid, under limits that reject none, some and most of
-//! them; once with the round weight and once along winds, which are made up.
+//! them; once with the round weight and once along winds, which are made up; and
+//! each under both rules.
 
 use crate::call::{Analysis, Call, Query, Screen, Window, Winds};
 use crate::cases::{AnalysisCase, ReadingCase, SummaryCase, TextCase, WindowCase};
@@ -9,7 +10,8 @@ use crate::scheme::{run, run_in};
 use crate::screen::points;
 use crate::screen_case::ScreenCase;
 use crate::units::{
-    ALONG_WIND, DEFAULT_AGE, HUNDREDTHS, MISSING, MOST_STATIONS, MOST_WINDOWS, NO_END, ROUND,
+    ALONG_WIND, DEFAULT_AGE, EQUATIONS, HUNDREDTHS, LISTINGS, MISSING, MOST_STATIONS, MOST_WINDOWS,
+    NO_END, ROUND,
 };
 use crate::write::{written_out, Style};
 
@@ -128,6 +130,11 @@ fn blown(call: Call) -> Call {
     Call { winds: Some(winds), mode: ALONG_WIND, ..call }
 }
 
+/// The call under rule 2; without that it leaves the rule out.
+fn listed(call: Call) -> Call {
+    Call { rule: Some(LISTINGS), ..call }
+}
+
 /// A request over as many stations as a request may have, its analysis, and a
 /// line on what its limits reject and its weights gain.
 struct Accepted {
@@ -151,12 +158,13 @@ impl Accepted {
         let posts = part.iter().filter(|(row, verdict)| is_post(&call, *row, *verdict)).count();
         let (rejected, of) = (part.iter().filter(|(_, verdict)| *verdict > 10).count(), part.len());
         let (gained, moved) = (gained(&call, &analysis), moved(&call, &analysis));
+        let alone = alone(&call, &analysis);
         let Plan { limits, rejects, holds } = plan;
         let switch = if smooth { "on" } else { "off" };
         let said = format!(
             "limits {limits:?}, smoothing {switch}: {rejected} of {of} rejected; \
              {posts} of the {of} are posts; \
-             points that gain support over a run in hundredths: {gained}{moved}"
+             points that gain support over a run in hundredths: {gained}{moved}{alone}"
         );
         if holds(rejected, of) {
             Ok(Accepted { call, analysis, said })
@@ -196,8 +204,21 @@ fn moved(call: &Call, analysis: &Analysis) -> String {
         return String::new();
     }
     let round = run(&Call { mode: ROUND, ..call.clone() });
-    let unlike = analysis.grid.iter().zip(&round.grid).filter(|(one, other)| one != other).count();
-    format!("; points that mode 0 leaves otherwise: {unlike}")
+    format!("; points that mode 0 leaves otherwise: {}", unlike(analysis, &round))
+}
+
+/// What is said of the points that rule 2 moves otherwise; nothing under rule 1.
+fn alone(call: &Call, analysis: &Analysis) -> String {
+    if call.rule() == EQUATIONS {
+        return String::new();
+    }
+    let other = run(&Call { rule: Some(EQUATIONS), ..call.clone() });
+    format!("; points that rule 1 leaves otherwise: {}", unlike(analysis, &other))
+}
+
+/// How many points have another value.
+fn unlike(one: &Analysis, other: &Analysis) -> usize {
+    one.grid.iter().zip(&other.grid).filter(|(one, other)| one != other).count()
 }
 
 /// The call with a window, and results as long as that.
@@ -246,8 +267,8 @@ fn places(last: u32) -> Vec<u32> {
     places
 }
 
-/// All that is asked over the stations; readings, summaries and texts with the
-/// round weight alone. The last analysis, window and text, and the last two
+/// All that is asked over the stations; texts with the round weight alone, and
+/// readings and summaries with the rule left out too. The last analysis, window and text, and the last two
 /// screens, have all 536 rows, which is too many.
 pub struct Cases {
     /// A line on each plan.
@@ -264,11 +285,13 @@ impl Cases {
     pub fn new(stations: &[Station]) -> Result<Self, String> {
         let round = accepted(stations, |call| call)?;
         let along = accepted(stations, blown)?;
-        let accepted = || round.iter().chain(&along);
+        let round_listed = accepted(stations, listed)?;
+        let along_listed = accepted(stations, |call| listed(blown(call)))?;
+        let accepted = || round.iter().chain(&along).chain(&round_listed).chain(&along_listed);
         let too_many = call(stations, &PLANS[0], false);
         let plain = |text| TextCase { text, harm: None };
         let too_long = written_out(&too_many, Style::default()).into_bytes();
-        let texts = round.iter().map(Accepted::text).chain([too_long]);
+        let texts = round.iter().chain(&round_listed).map(Accepted::text).chain([too_long]);
         let analyses = accepted().map(|one| one.call.clone()).chain([too_many.clone()]);
         let each_window =
             accepted().flat_map(|one| windows().map(|window| windowed(one.call.clone(), window)));

@@ -3,7 +3,7 @@
 use crate::call::{Call, Refusal, Window, Winds};
 use crate::field::Shape;
 use crate::units::{
-    LIMIT, MISSING, MODES, MOST_STATIONS, POSITION, RADIUS, SCANS, SIDE, VALUE, WIND,
+    LIMIT, MISSING, MODES, MOST_STATIONS, POSITION, RADIUS, RULES, SCANS, SIDE, VALUE, WIND,
 };
 
 pub type Checked = Result<(), Refusal>;
@@ -54,6 +54,7 @@ pub fn check_request(call: &Call) -> Checked {
     check_columns(call)?;
     check_scan_count(call)?;
     demand(MODES.contains(&call.mode), 5, 0)?;
+    demand(RULES.contains(&call.rule()), 5, 0)?;
     check_plan(call)?;
     check_first_guess(call)?;
     check_stations(call)

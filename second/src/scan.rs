@@ -2,7 +2,7 @@
 
 use crate::call::Call;
 use crate::field::Shape;
-use crate::units::{rounded, ALONG_WIND, CELL, STEP, WEIGHT_SCALE};
+use crate::units::{rounded, ALONG_WIND, CELL, LISTINGS, STEP, WEIGHT_SCALE};
 use crate::verdicts::{ACCEPTED, REJECTED};
 
 /// A station that takes part in a scan, at its true position, with its
@@ -115,17 +115,51 @@ pub fn weight_at(scale: i64, r2: i64, offset: (i64, i64), wind: Option<(i64, i64
     }
 }
 
-/// The sum of weights and the sum of weight times D at the point (i, j).
-pub fn sums(i: usize, j: usize, radius: i32, scale: i64, accepted: &[Accepted]) -> (i64, i64) {
+/// What the accepted stations come to at a point: how many of them are "strictly
+/// inside the radius", whatever their weight, the sum of weights, and the sum of
+/// weight times D.
+#[derive(Clone, Copy, Debug, Default, PartialEq, Eq)]
+pub struct Sums {
+    pub inside: usize,
+    pub weights: i64,
+    pub weighted: i64,
+}
+
+impl Sums {
+    /// Under rule 2 "a point with exactly one accepted station strictly inside the
+    /// radius is moved by weight·D over the full weight scale, rounded". Every other
+    /// point is moved as document 01 has it.
+    pub fn correction(&self, rule: u32, scale: i64) -> i64 {
+        if rule == LISTINGS && self.inside == 1 {
+            rounded(self.weighted, scale)
+        } else if self.weights > 0 {
+            rounded(self.weighted, self.weights)
+        } else {
+            0
+        }
+    }
+
+    /// The same under both rules.
+    pub fn supports(&self) -> bool {
+        self.weights > 0
+    }
+}
+
+/// The sums at the point (i, j).
+pub fn sums(i: usize, j: usize, radius: i32, scale: i64, accepted: &[Accepted]) -> Sums {
     let (px, py) = (STEP * i as i64, STEP * j as i64);
     let r2 = i64::from(radius) * i64::from(radius);
-    let (mut weights, mut weighted) = (0, 0);
+    let mut sums = Sums::default();
     for station in accepted {
-        let w = weight_at(scale, r2, station.offset(px, py), station.wind);
-        weights += w;
-        weighted += w * station.difference;
+        let (dx, dy) = station.offset(px, py);
+        if dx * dx + dy * dy < r2 {
+            let w = weight_at(scale, r2, (dx, dy), station.wind);
+            sums.inside += 1;
+            sums.weights += w;
+            sums.weighted += w * station.difference;
+        }
     }
-    (weights, weighted)
+    sums
 }
 
 /// Corrects all points. The differences were taken before, so no corrected
@@ -141,17 +175,15 @@ pub fn correct(
     let shape = call.shape();
     let radius = i64::from(call.radius[scan]);
     for j in 0..shape.ny {
-        // A station this far off in y alone has no weight in the whole row.
+        // A station this far off in y alone is inside at no point of the row.
         let beside = |station: &&Accepted| (station.y - STEP * j as i64).abs() < radius;
         let near: Vec<Accepted> = accepted.iter().filter(beside).copied().collect();
         for i in 0..shape.nx {
-            let (weights, weighted) = sums(i, j, call.radius[scan], scale, &near);
-            if weights > 0 {
-                let point = shape.index(i, j);
-                // A correction is at most E in size, so i32 holds the sum.
-                field[point] += rounded(weighted, weights) as i32;
-                support[point] |= 1 << scan;
-            }
+            let sums = sums(i, j, call.radius[scan], scale, &near);
+            let point = shape.index(i, j);
+            // A correction is at most E in size, so i32 holds the sum.
+            field[point] += sums.correction(call.rule(), scale) as i32;
+            support[point] |= u8::from(sums.supports()) << scan;
         }
     }
 }

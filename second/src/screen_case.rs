@@ -2,13 +2,14 @@
 
 use crate::call::{Analysis, Call, Refusal, Screen};
 use crate::cases::{
-    count_scheme, count_winds, length_floors, number_of, scheme_floors, unlike_code,
+    count_scheme, count_winds_and_rules, length_floors, number_of, scheme_floors, unlike_code,
     wrong_by_itself,
 };
 use crate::compare::{Case, Results, Subject};
 use crate::generate_screen;
 use crate::patterned::{Patterned, BYTE_PATTERN, GRID_PATTERN};
 use crate::post_sorts;
+use crate::rule_sorts;
 use crate::screen::{one_after_the_other, points, whole};
 use crate::screen_sorts;
 use crate::shrink_screen;
@@ -42,7 +43,7 @@ impl Case for ScreenCase {
     fn count(&self, expected: &Self::Expected, tally: &mut Tally) {
         let (call, screen) = (&self.call, &self.screen);
         count_scheme(expected.as_ref().map(|analysis| (call, analysis)), tally);
-        count_winds(call, &screen.windows(), expected, tally);
+        count_winds_and_rules(call, &screen.windows(), expected, tally);
         let number = number_of(expected);
         // Only after refusals 1 and 2 are the windows good.
         let asked = if [1, 2].contains(&number) { 0 } else { points(&screen.windows()) };
@@ -86,7 +87,8 @@ impl Case for ScreenCase {
         let empty = vec![Floor::times("empty slice", 2, 50)];
         let stations = [post_sorts::screen_floors(), weight_sorts::window_floors()].concat();
         let smoothing = smoothing_sorts::window_floors(120);
-        let screens = [screen_sorts::floors(), wind_sorts::window_floors()].concat();
-        [scheme, length_floors(), empty, screens, stations, smoothing].concat()
+        let winds = [wind_sorts::window_floors(), rule_sorts::window_floors()].concat();
+        let screens = screen_sorts::floors();
+        [scheme, length_floors(), empty, screens, winds, stations, smoothing].concat()
     }
 }

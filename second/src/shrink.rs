@@ -4,7 +4,7 @@ use crate::call::{Call, Query, Window, Winds};
 use crate::compare::Case;
 use crate::refusals::is_on_grid;
 use crate::text::parse;
-use crate::units::{MISSING, MODES, NO_END, ROUND};
+use crate::units::{MISSING, MODES, NO_END, ROUND, RULES};
 use crate::write::{request_text, Style};
 use std::iter::successors;
 use std::ops::Range;
@@ -238,6 +238,7 @@ pub fn simpler(call: &Call) -> impl Iterator<Item = Call> + '_ {
         Call { smooth: false, ..call.clone() },
         Call { winds: None, mode: ROUND, ..call.clone() },
         Call { winds: None, ..call.clone() },
+        Call { rule: None, ..call.clone() },
         at_level_zero(call),
         in_service_for_good(call),
     ];
@@ -245,6 +246,7 @@ pub fn simpler(call: &Call) -> impl Iterator<Item = Call> + '_ {
         .into_iter()
         .filter(move |simpler| simpler != call)
         .chain(lower_modes(call))
+        .chain(lower_rules(call))
         .chain(weaker_winds(call))
         .chain(nearer(call, |call| &mut call.first_guess, 0))
         .chain(nearer(call, |call| &mut call.radius, 64))
@@ -261,6 +263,16 @@ pub fn simpler(call: &Call) -> impl Iterator<Item = Call> + '_ {
 fn lower_modes(call: &Call) -> impl Iterator<Item = Call> + '_ {
     let modes = *MODES.start()..=*MODES.end() + 1;
     modes.filter(|mode| *mode < call.mode).map(|mode| Call { mode, ..call.clone() })
+}
+
+/// The rules that there are, below the call's; from one that there is not, also the
+/// first on either side.
+fn lower_rules(call: &Call) -> impl Iterator<Item = Call> + '_ {
+    let rules = *RULES.start() - 1..=*RULES.end() + 1;
+    let is_lower =
+        |rule: &u32, given: u32| *rule < given && (RULES.contains(rule) || !RULES.contains(&given));
+    let lower = rules.filter(move |rule| call.rule.is_some_and(|given| is_lower(rule, given)));
+    lower.map(|rule| Call { rule: Some(rule), ..call.clone() })
 }
 
 /// Calls without the wind of a row, or with one of its numbers nearer to zero.

@@ -7,6 +7,7 @@ use crate::field_case::FieldCase;
 use crate::near::{Edits, PAPER};
 use crate::post_sorts::real_floors;
 use crate::real::{stations, Cases};
+use crate::rule_sorts;
 use crate::screen_case::ScreenCase;
 use crate::screen_sorts;
 use crate::tally::Floor;
@@ -97,7 +98,7 @@ pub fn compare_real(subject: &dyn Subject, data: &str, out: &mut dyn Write) -> R
     let cases = real_cases(data, out)?;
     let all_but = |refused: usize, cases: usize| {
         let outcomes = vec![fixed("accepted", 0, cases - refused), fixed("refusal", 4, refused)];
-        [outcomes, real_floors(), wind_sorts::real_floors()].concat()
+        [outcomes, real_floors(), wind_sorts::real_floors(), rule_sorts::real_floors()].concat()
     };
     let floors = all_but(1, cases.analyses.len());
     real_kind("real analysis", subject, cases.analyses, &floors, out)?;
@@ -119,7 +120,8 @@ pub fn compare_real_texts(
 ) -> Result<(), String> {
     let texts = real_cases(data, out)?.texts;
     let refused = fixed("refusal with a place", 9, 1);
-    let floors = [vec![fixed("accepted", 0, texts.len() - 1), refused], real_floors()].concat();
+    let outcomes = vec![fixed("accepted", 0, texts.len() - 1), refused];
+    let floors = [outcomes, real_floors(), rule_sorts::real_text_floors()].concat();
     real_kind("real text", program, texts, &floors, out)
 }
 

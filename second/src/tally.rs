@@ -3,6 +3,7 @@
 use crate::call::{Analysis, Call, Refusal, Winds};
 use crate::field_sorts;
 use crate::query_sorts::NO_POINTS;
+use crate::rule_sorts;
 use crate::screen_sorts;
 use crate::sorts::{Sort, SMALL_OF_BIG, WRAPPED};
 use crate::units::{LIMIT, SIDE};
@@ -12,7 +13,7 @@ use std::fmt::{Display, Formatter};
 /// Floors are given for a run of this many; smaller runs scale them down.
 const FULL_RUN: u64 = 20_000;
 /// The names under which there is one number only, which says nothing.
-const UNNUMBERED: [&str; 7] = [
+const UNNUMBERED: [&str; 8] = [
     "accepted",
     "big",
     SMALL_OF_BIG,
@@ -20,6 +21,7 @@ const UNNUMBERED: [&str; 7] = [
     NO_POINTS,
     screen_sorts::WRAPPED,
     field_sorts::WRAPPED,
+    rule_sorts::RIM,
 ];
 
 /// How often something was seen, by its name and number.

@@ -2,7 +2,7 @@
 
 use crate::call::{Analysis, Call, Refusal};
 use crate::scheme::analyse;
-use crate::units::{DEFAULT_AGE, MISSING, MOST_STATIONS, MOST_TEXT, NO_END, SCANS, SIDE};
+use crate::units::{DEFAULT_AGE, MISSING, MOST_STATIONS, MOST_TEXT, NO_END, RULES, SCANS, SIDE};
 use std::fmt::Display;
 use std::ops::RangeInclusive;
 
@@ -78,9 +78,14 @@ fn parse_head(lines: &mut Lines) -> Result<Call, Refusal> {
         DEFAULT_AGE
     };
     let smooth = lines.counts("smooth", 1, 0..=1)?[0] == 1;
+    let rule = if lines.rest.starts_with(b"rule=") {
+        Some(lines.counts("rule", 1, RULES)?[0])
+    } else {
+        None
+    };
     let scans = lines.counts("scans", 1, SCANS)?[0];
     let (nx, ny) = (grid[0], grid[1]);
-    Ok(Call { nx, ny, time, age, smooth, scans, ..Call::default() })
+    Ok(Call { nx, ny, time, age, smooth, rule, scans, ..Call::default() })
 }
 
 fn parse_station(lines: &mut Lines, call: &mut Call) -> Result<(), Refusal> {

@@ -36,6 +36,13 @@ pub const ROUND: u32 = 0;
 /// Mode 1: the weight that is stretched along the wind.
 pub const ALONG_WIND: u32 = 1;
 pub const MODES: RangeInclusive<u32> = ROUND..=ALONG_WIND;
+/// Rule 1: a lone station moves a point as the equations have it, by all of D.
+pub const EQUATIONS: u32 = 1;
+/// Rule 2: it does so as the listings have it, by its weight's part of D.
+pub const LISTINGS: u32 = 2;
+pub const RULES: RangeInclusive<u32> = EQUATIONS..=LISTINGS;
+/// The rule where a request leaves it out.
+pub const DEFAULT_RULE: u32 = EQUATIONS;
 pub const MOST_STATIONS: usize = 512;
 /// The most windows of a screen.
 pub const MOST_WINDOWS: usize = 16;

@@ -10,7 +10,7 @@ use crate::scheme::run;
 use crate::sorts::{floors_in_order, named, Sort};
 use crate::tally::Floor;
 use crate::units::{
-    ALONG_WIND, BORDER, HUNDREDTHS, MISSING, MODES, MOST_STATIONS, ROUND, WEIGHT_SCALE, WIND,
+    ALONG_WIND, BORDER, HUNDREDTHS, MISSING, MODES, MOST_STATIONS, ROUND, RULES, WEIGHT_SCALE, WIND,
 };
 use crate::verdicts::{before_first_scan, ACCEPTED, REJECTED};
 use crate::weight_sorts::{each_point, is_small, Around};
@@ -269,6 +269,10 @@ impl Found {
 /// The sorts of a refused request.
 pub fn of_refused(call: &Call, refusal: &Refusal) -> Vec<Sort> {
     let bad_mode = !MODES.contains(&call.mode);
+    if bad_mode && !RULES.contains(&call.rule()) {
+        // That is counted among the rules.
+        return Vec::new();
+    }
     // What would be left if the mode were good.
     let rest = check_request(&Call { mode: ROUND, ..call.clone() }).err();
     match (refusal.number, rest) {

@@ -17,7 +17,7 @@ pub struct Style {
 
 /// The request text of a call. A text cannot say the faults of refusals 1 to
 /// 5, it has no plan entries past the scan count, and it stays with the round
-/// weight and without winds.
+/// weight and without winds. A rule that is left out has no line.
 pub fn request_text(call: &Call, style: Style) -> Option<Vec<u8>> {
     let sayable = match check_analysis(call) {
         Ok(()) => true,
@@ -34,6 +34,7 @@ pub fn written_out(call: &Call, style: Style) -> String {
         text += &line("age", &[call.age]);
     }
     text += &line("smooth", &[u8::from(call.smooth)]);
+    text += &call.rule.map(|rule| line("rule", &[rule])).unwrap_or_default();
     text += &line("scans", &[call.scans]);
     for (radius, limit) in call.radius.iter().zip(&call.limit).take(call.scans as usize) {
         text += &line("scan", &[radius, limit]);
@@ -80,7 +81,7 @@ pub fn rerun_form(call: &Call) -> String {
 }
 
 /// Every argument on a line of its own, in the order of the C calls. Wind
-/// columns that are left out have no lines.
+/// columns and a rule that are left out have no lines.
 pub fn listing(call: &Call) -> String {
     let winds = call.winds.iter().map(|winds| line("wind_u", &winds.u) + &line("wind_v", &winds.v));
     [
@@ -98,6 +99,7 @@ pub fn listing(call: &Call) -> String {
         line("limit", &call.limit),
         line("smooth", &[call.smooth]),
         line("mode", &[call.mode]),
+        call.rule.map(|rule| line("rule", &[rule])).unwrap_or_default(),
         line("time,age", &[call.time, call.age]),
         line(
             "grid_len,support_len,verdict_len",

@@ -37,6 +37,7 @@ fn call(time: u32) -> Call {
         limit: vec![209],
         smooth: true,
         mode: 105,
+        rule: Some(110),
         time,
         age: 104,
         ..Call::default()
@@ -44,13 +45,13 @@ fn call(time: u32) -> Call {
 }
 
 fn answer(bridge: &Bridge, time: u32) -> (Answer<u32>, Vec<i32>, Vec<u8>, Vec<u8>) {
-    let (mut grid, mut support, mut verdict) = (vec![5; 47], vec![5; 3], vec![5; 2]);
+    let (mut grid, mut support, mut verdict) = (vec![5; 48], vec![5; 3], vec![5; 2]);
     let results = Results { grid: &mut grid, support: &mut support, verdict: &mut verdict };
     (bridge.analyse(&call(time), results), grid, support, verdict)
 }
 
 fn window_answer(bridge: &Bridge, time: u32) -> (Answer<u32>, Vec<i32>, Vec<u8>) {
-    let (mut grid, mut support) = (vec![5; 47], vec![5; 3]);
+    let (mut grid, mut support) = (vec![5; 48], vec![5; 3]);
     let results = Results { grid: &mut grid, support: &mut support, verdict: &mut [] };
     (bridge.window(&call(time), &Window::new(105, 106, 107, u32::MAX), results), grid, support)
 }
@@ -66,18 +67,18 @@ fn screen() -> Screen {
 }
 
 fn windows_answer(bridge: &Bridge, time: u32) -> (Answer<u32>, Vec<i32>, Vec<u8>) {
-    let (mut grid, mut support) = (vec![5; 57], vec![5; 3]);
+    let (mut grid, mut support) = (vec![5; 58], vec![5; 3]);
     let results = Results { grid: &mut grid, support: &mut support, verdict: &mut [] };
     (bridge.windows(&call(time), &screen(), results), grid, support)
 }
 
 /// What the stub says of a call's plain numbers and columns.
 fn assert_told(grid: &[i32]) {
-    assert_eq!(grid[..7], [101, 102, 103, 1, 105, 0, 104]);
-    assert_eq!(grid[7..19], [3, -201, 301, 4, -202, 302, 5, -203, 303, 6, i32::MIN, 304]);
-    assert_eq!(grid[19..28], [7, 205, 305, 8, 206, 306, 9, 207, -1]);
-    assert_eq!(grid[28..34], [2, -210, -310, 3, 211, 311]);
-    assert_eq!(grid[34..40], [2, 208, 308, 1, 209, 209]);
+    assert_eq!(grid[..8], [101, 102, 103, 1, 105, 110, 0, 104]);
+    assert_eq!(grid[8..20], [3, -201, 301, 4, -202, 302, 5, -203, 303, 6, i32::MIN, 304]);
+    assert_eq!(grid[20..29], [7, 205, 305, 8, 206, 306, 9, 207, -1]);
+    assert_eq!(grid[29..35], [2, -210, -310, 3, 211, 311]);
+    assert_eq!(grid[35..41], [2, 208, 308, 1, 209, 209]);
 }
 
 #[test]
@@ -85,9 +86,9 @@ fn every_argument_and_result_crosses_the_bridge() {
     let (code, grid, support, verdict) = answer(&start(Empty::Null), 0);
     assert_eq!((code, support, verdict), (Ok(0), vec![1; 3], vec![2; 2]));
     assert_told(&grid);
-    assert_eq!(grid[40..43], [47, 3, 2], "the lengths of the results");
+    assert_eq!(grid[41..44], [48, 3, 2], "the lengths of the results");
     let untouched = i32::from_ne_bytes([0xA5; 4]);
-    assert_eq!(grid[43..], [untouched; 4], "as they were before the call");
+    assert_eq!(grid[44..], [untouched; 4], "as they were before the call");
 }
 
 #[test]
@@ -95,8 +96,8 @@ fn a_window_query_crosses_the_bridge() {
     let (code, grid, support) = window_answer(&start(Empty::Null), 0);
     assert_eq!((code, support), (Ok(0), vec![1; 3]));
     assert_told(&grid);
-    assert_eq!(grid[40..42], [47, 3], "the lengths of the results");
-    assert_eq!(grid[43..], [105, 106, 107, -1], "the ends");
+    assert_eq!(grid[41..43], [48, 3], "the lengths of the results");
+    assert_eq!(grid[44..], [105, 106, 107, -1], "the ends");
 }
 
 #[test]
@@ -104,18 +105,42 @@ fn a_screen_crosses_the_bridge() {
     let (code, grid, support) = windows_answer(&start(Empty::Null), 0);
     assert_eq!((code, support), (Ok(0), vec![1; 3]));
     assert_told(&grid);
-    assert_eq!(grid[40..42], [57, 3], "the lengths of the results");
+    assert_eq!(grid[41..43], [58, 3], "the lengths of the results");
     let ends = [1, 105, 105, 2, 106, 111, 3, 107, 112, 4, 108, -1];
-    assert_eq!(grid[45..], ends, "the length, the first and the last of each column of ends");
+    assert_eq!(grid[46..], ends, "the length, the first and the last of each column of ends");
 }
 
 /// The lengths of the wind columns and their first numbers, as the archive gets
 /// them, and how many of its addresses are null.
 fn winds_of(empty: Empty, winds: Option<Winds>) -> (Answer<u32>, [i32; 4]) {
-    let mut grid = vec![5; 47];
+    let mut grid = vec![5; 48];
     let results = Results { grid: &mut grid, support: &mut [0], verdict: &mut [0] };
     let code = start(empty).analyse(&Call { winds, ..call(0) }, results);
-    (code, [grid[28], grid[31], grid[29], grid[32]])
+    (code, [grid[29], grid[32], grid[30], grid[33]])
+}
+
+/// A rule that is left out is the header's to fill in; any other is handed on, bad
+/// ones too.
+#[test]
+fn a_rule_that_is_left_out_is_the_default_to_the_archive() {
+    let bridge = start(Empty::Null);
+    let told = |rule: Option<u32>| {
+        let call = Call { rule, ..call(0) };
+        let mut grids = [vec![5; 48], vec![5; 48], vec![5; 58]];
+        let [whole, window, windows] = &mut grids;
+        let results = |grid| Results { grid, support: &mut [], verdict: &mut [] };
+        let codes = [
+            bridge.analyse(&call, results(whole)),
+            bridge.window(&call, &Window::new(1, 2, 3, 4), results(window)),
+            bridge.windows(&call, &screen(), results(windows)),
+        ];
+        assert!(codes.iter().all(Result::is_ok), "{codes:?}");
+        grids.map(|grid| grid[5])
+    };
+    assert_eq!(told(None), [1; 3]);
+    for (rule, said) in [(0, 0), (1, 1), (2, 2), (3, 3), (u32::MAX, -1)] {
+        assert_eq!(told(Some(rule)), [said; 3]);
+    }
 }
 
 #[test]

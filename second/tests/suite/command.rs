@@ -64,11 +64,11 @@ fn generate_prints_fields() {
 
 #[test]
 fn the_environment_overrides_seed_and_count() {
-    let environment = [("SOSNYAVIK_SEED", "9"), ("SOSNYAVIK_COUNT", "30")];
+    let environment = [("SOSNYAVIK_SEED", "9"), ("SOSNYAVIK_COUNT", "1")];
     let output = second(&["survey", "1", "20"], &environment, "");
-    assert!(output.status.success() && output.stdout.starts_with(b"seed 9, count 30\n"));
+    assert!(output.status.success() && output.stdout.starts_with(b"seed 9, count 1\n"));
     let said = String::from_utf8_lossy(&output.stdout).into_owned();
-    assert!(said.contains("\nsmoothing, 30 cases\n"), "{said}");
+    assert!(said.contains("\nsmoothing, 1 cases\n"), "{said}");
 }
 
 /// What is said where a variable names no program that makes the calls.

@@ -1,5 +1,6 @@
 //! Subjects with one planted fault each, to show that the harness sees it.
 
+use crate::faulty_rules::{self, RuleFault};
 use crate::faulty_weights::{self, WeightFault};
 use crate::faulty_winds::{self, WindFault};
 use crate::windows::{from_part, picked_from};
@@ -12,7 +13,7 @@ use second::screen::{check_screen, points};
 use second::slips::{smoothed_with, Slip};
 use second::summary::Summary;
 use second::text;
-use second::units::{rounded, BORDER, MISSING, WEIGHT_SCALE};
+use second::units::{rounded, BORDER, LISTINGS, MISSING, WEIGHT_SCALE};
 use second::verdicts::{before_first_scan, ACCEPTED, OFF_GRID};
 use second::window::{cut, pick, reach, rows_on, widened};
 
@@ -39,6 +40,7 @@ pub enum Fault {
     PostsOfTheWindowOnly,
     Weights(WeightFault),
     Winds(WindFault),
+    Rules(RuleFault),
     Smooths(Slip),
     IdleCornersCount,
     NegativeZero,
@@ -63,6 +65,9 @@ impl Faulty {
         match self.0 {
             Fault::Winds(fault) => {
                 faulty_winds::check(call, fault, test).map(|()| faulty_winds::tamed(call))
+            }
+            Fault::Rules(fault) => {
+                faulty_rules::check(call, fault, test).map(|()| faulty_rules::tamed(call, fault))
             }
             _ => test(call).map(|()| call.clone()),
         }
@@ -156,6 +161,9 @@ impl Subject for Faulty {
             let kept = request.iter().copied().filter(|byte| *byte != b'\r');
             return Own.text(&kept.collect::<Vec<u8>>());
         }
+        if let Fault::Rules(fault) = self.0 {
+            return Ok(faulty_rules::text(request, fault));
+        }
         let answer = text::decide(request).map(|(call, _)| {
             let analysis = faulty_run(&call, self.0);
             (call, analysis)
@@ -202,6 +210,10 @@ fn faulty_window(call: &Call, ends: &Window, fault: Fault) -> WindowAnswer {
         }
         Fault::Winds(WindFault::CutWithTheFirstWinds) => {
             let cut = faulty_winds::with_the_first_winds(call, cut(call, &part));
+            picked_from(&cut, ends, &part)
+        }
+        Fault::Rules(RuleFault::CutUnderTheDefault) => {
+            let cut = Call { rule: None, ..cut(call, &part) };
             picked_from(&cut, ends, &part)
         }
         Fault::PostsLeaveTheCut => from_part(&moved_away(call, is_post), ends, &part),
@@ -296,6 +308,9 @@ pub fn faulty_run(call: &Call, fault: Fault) -> Analysis {
     if let Fault::Winds(fault) = fault {
         return faulty_winds::run(call, fault);
     }
+    if let Fault::Rules(fault) = fault {
+        return faulty_rules::run(call, fault);
+    }
     let mut call = call.clone();
     if fault == Fault::Missing32767 {
         let marks = call.value.iter_mut().filter(|value| **value == 32_767);
@@ -338,10 +353,13 @@ fn halves_down(call: &Call, scan: usize, from: &[Accepted], grid: &mut [i32], su
     let shape = call.shape();
     for point in 0..shape.points() {
         let (i, j) = (point % shape.nx, point / shape.nx);
-        let (weights, weighted) = sums(i, j, call.radius[scan], WEIGHT_SCALE, from);
-        if weights > 0 {
-            let exact_half = 2 * (weighted % weights).abs() == weights;
-            let change = if exact_half { weighted / weights } else { rounded(weighted, weights) };
+        let sums = sums(i, j, call.radius[scan], WEIGHT_SCALE, from);
+        if sums.supports() {
+            let alone = call.rule() == LISTINGS && sums.inside == 1;
+            let over = if alone { WEIGHT_SCALE } else { sums.weights };
+            let exact_half = 2 * (sums.weighted % over).abs() == over;
+            let down = sums.weighted / over;
+            let change = if exact_half { down } else { rounded(sums.weighted, over) };
             grid[point] += change as i32;
             support[point] |= 1 << scan;
         }
@@ -356,11 +374,9 @@ fn feeding(call: &Call, scan: usize, verdict: &[u8], grid: &mut [i32], support: 
         let accepted: Vec<Accepted> =
             rows.map(|row| Accepted::new(call, row, difference(call, grid, row))).collect();
         let (i, j) = (point % shape.nx, point / shape.nx);
-        let (weights, weighted) = sums(i, j, call.radius[scan], WEIGHT_SCALE, &accepted);
-        if weights > 0 {
-            grid[point] += rounded(weighted, weights) as i32;
-            support[point] |= 1 << scan;
-        }
+        let sums = sums(i, j, call.radius[scan], WEIGHT_SCALE, &accepted);
+        grid[point] += sums.correction(call.rule(), WEIGHT_SCALE) as i32;
+        support[point] |= u8::from(sums.supports()) << scan;
     }
 }
 

@@ -2,7 +2,7 @@
 
 use second::call::Call;
 use second::scan::{Accepted, Effective};
-use second::units::{rounded, HUNDREDTHS, RADIUS, STEP, WEIGHT_SCALE};
+use second::units::{rounded, HUNDREDTHS, LISTINGS, RADIUS, STEP, WEIGHT_SCALE};
 
 #[derive(Clone, Copy, Debug, PartialEq, Eq)]
 pub enum WeightFault {
@@ -96,7 +96,7 @@ pub fn correct(
         let beside: Vec<Accepted> = beside.copied().collect();
         for (i, value) in row.iter_mut().enumerate() {
             let inside = inside(&beside, radius * radius, STEP * i as i64, y);
-            let (change, supports) = correction(&inside, fault);
+            let (change, supports) = correction(call, &inside, fault);
             *value += change as i32;
             support[j * nx + i] |= u8::from(supports) << scan;
         }
@@ -119,15 +119,18 @@ fn inside(accepted: &[Accepted], r2: i64, x: i64, y: i64) -> Vec<Inside> {
 }
 
 /// The correction out of the stations inside the radius, and whether they
-/// support.
-fn correction(inside: &[Inside], fault: WeightFault) -> (i64, bool) {
+/// support. Another scale is that of lone stations too.
+fn correction(call: &Call, inside: &[Inside], fault: WeightFault) -> (i64, bool) {
     let (mut weights, mut weighted) = (0, 0);
     for station in inside {
         let (in_the_sum, with_d) = station.faulty_weights(fault);
         weights += in_the_sum;
         weighted += with_d * station.difference;
     }
-    let change = if weights > 0 { rounded(weighted, weights) } else { 0 };
+    let scale = if let Scale(scale) = fault { scale } else { WEIGHT_SCALE };
+    let alone = call.rule() == LISTINGS && inside.len() == 1;
+    let over = if alone { scale } else { weights };
+    let change = if weights > 0 { rounded(weighted, over) } else { 0 };
     let supports = match fault {
         SupportOfAllInside => !inside.is_empty(),
         SupportOfHundredths => inside.iter().any(|station| station.weight_in(HUNDREDTHS) > 0),

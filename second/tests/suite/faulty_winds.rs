@@ -4,7 +4,8 @@ use second::call::{Analysis, Call, Refusal, Winds};
 use second::refusals::{is_wind, Checked};
 use second::scan::{judge, smoothed, weight, weight_at, Accepted, Effective};
 use second::units::{
-    rounded, ALONG_WIND, BORDER, HUNDREDTHS, MISSING, MODES, ROUND, STEP, WEIGHT_SCALE, WIND,
+    rounded, ALONG_WIND, BORDER, HUNDREDTHS, LISTINGS, MISSING, MODES, ROUND, STEP, WEIGHT_SCALE,
+    WIND,
 };
 use second::verdicts::before_first_scan;
 
@@ -215,8 +216,10 @@ fn correct(
     let stretched = call.mode == ALONG_WIND;
     for (point, value) in grid.iter_mut().enumerate() {
         let (x, y) = (STEP * (point % nx) as i64, STEP * (point / nx) as i64);
-        let (mut weights, mut weighted) = (0, 0);
+        let (mut weights, mut weighted, mut inside) = (0, 0, 0);
         for station in accepted {
+            let (dx, dy) = station.offset(x, y);
+            inside += u32::from(dx * dx + dy * dy < r2);
             let (in_the_sum, with_d) = match stretched {
                 true => faulty_weights(r2, station.offset(x, y), station.wind, fault),
                 false => both(weight_at(WEIGHT_SCALE, r2, station.offset(x, y), None)),
@@ -225,7 +228,9 @@ fn correct(
             weighted += with_d * station.difference;
         }
         if weights > 0 {
-            *value = value.wrapping_add(rounded(weighted, weights) as i32);
+            let alone = call.rule() == LISTINGS && inside == 1;
+            let over = if alone { WEIGHT_SCALE } else { weights };
+            *value = value.wrapping_add(rounded(weighted, over) as i32);
             support[point] |= 1 << scan;
         }
     }

@@ -206,7 +206,7 @@ fn grid_stations_beside_the_cut_are_not_its_posts() {
         let shape = cut(&call, &part).shape();
         assert_eq!(pick(shape, &right, &inner), pick(shape, &wrong, &inner), "case {index}");
     }
-    assert!(taken > 300 && differ > 100, "{taken} cuts had more stations, {differ} other numbers");
+    assert!(taken > 200 && differ > 80, "{taken} cuts had more stations, {differ} other numbers");
 }
 
 #[test]

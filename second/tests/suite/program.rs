@@ -50,10 +50,10 @@ fn a_long_text_is_written_to_a_program_that_does_not_read() {
 fn compare_runs_a_program() {
     let program = stand_in("");
     let environment = [("SOSNYAVIK_ANALYSE", &program[..]), ("SOSNYAVIK_STRIDE", "2000")];
-    let output = second(&["compare", "text", "3", "60"], &environment, "");
+    let output = second(&["compare", "text", "8", "60"], &environment, "");
     let said = String::from_utf8_lossy(&output.stdout).into_owned();
     assert!(output.status.success(), "{output:?}");
-    assert!(said.starts_with("seed 3, count 60\ntext, 60 cases\n  accepted: "), "{said}");
+    assert!(said.starts_with("seed 8, count 60\ntext, 60 cases\n  accepted: "), "{said}");
     let output = second(&["compare", "near"], &environment, "");
     let said = String::from_utf8_lossy(&output.stdout).into_owned();
     assert!(output.status.success(), "{output:?}");
@@ -94,7 +94,7 @@ fn harmed() -> Vec<(&'static str, u32, u32)> {
     let mut rng = Rng::for_case(1, 2, 3);
     let turns = floors().len() as u64;
     let harmed = (0..turns).map(|turn| {
-        let mut text = REQUEST.as_bytes().to_vec();
+        let mut text = REQUEST.replacen("scans=", "rule=2\nscans=", 1).into_bytes();
         let (name, number) = harm(&mut rng, &mut text, turn);
         (name, number, decide(&text).err().map_or(0, |refusal| refusal.number))
     });
@@ -123,11 +123,11 @@ fn harms_do_what_they_say() {
         "number one outside its type",
         "number that wraps to what it was",
     ] {
-        assert_eq!(outcomes(not_in_form), [9; 16], "{not_in_form}");
+        assert_eq!(outcomes(not_in_form), [9; 17], "{not_in_form}");
     }
-    // nx, ny, time, age, smooth, scans, R, E, row, stations, x, y, value, and
+    // nx, ny, time, age, smooth, rule, scans, R, E, row, stations, x, y, value, and
     // three minutes.
-    let outside = [9, 9, 9, 9, 9, 9, 6, 6, 7, 9, 8, 8, 8, 9, 9, 9];
+    let outside = [9, 9, 9, 9, 9, 9, 9, 6, 6, 7, 9, 8, 8, 8, 9, 9, 9];
     assert_eq!(outcomes("number one below its range"), outside);
     assert_eq!(outcomes("number one above its range"), outside);
     for not_in_form in
@@ -136,8 +136,9 @@ fn harms_do_what_they_say() {
         let outcomes = outcomes(not_in_form);
         assert!(!outcomes.is_empty() && outcomes.iter().all(|n| *n == 9), "{not_in_form}");
     }
-    assert_eq!(outcomes("line doubled"), [9; 9]);
-    assert_eq!(outcomes("line dropped"), [9, 9, 0, 9, 9, 9, 9, 9, 9], "age may be left out");
+    assert_eq!(outcomes("line doubled"), [9; 10]);
+    let dropped = [9, 9, 0, 9, 0, 9, 9, 9, 9, 9];
+    assert_eq!(outcomes("line dropped"), dropped, "age and rule may be left out");
     assert_eq!(outcomes("text with"), [9; 13]);
 }
 

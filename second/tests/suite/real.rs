@@ -2,6 +2,7 @@
 //! faults that these must show.
 
 use crate::faulty::{Fault, Faulty};
+use crate::faulty_rules::RuleFault;
 use crate::faulty_screens::{FaultyScreen, OF_ANSWERS};
 use crate::faulty_weights::WeightFault;
 use crate::faulty_winds::WindFault;
@@ -16,6 +17,7 @@ use second::units::HUNDREDTHS;
 
 const GRID: Shape = Shape { nx: 21, ny: 27 };
 const GAIN: &str = "points that gain support over a run in hundredths";
+const ALONE: &str = "points that rule 1 leaves otherwise";
 const MOVED: &str = "points that mode 0 leaves otherwise";
 
 fn cases() -> Cases {
@@ -105,13 +107,15 @@ fn the_cases_are_counted() {
         &format!("smoothing off: 96 of 405 rejected; 88 of the 405 are posts; {GAIN}: 1\n"),
         &format!("smoothing off: 322 of 405 rejected; 88 of the 405 are posts; {GAIN}: 10\n"),
         &format!("smoothing on: 330 of 405 rejected; 88 of the 405 are posts; {GAIN}: 8\n"),
+        &format!("322 of 405 rejected; 88 of the 405 are posts; {GAIN}: 10; {ALONE}: 122\n"),
+        &format!("{GAIN}: 0; {MOVED}: 550; {ALONE}: 327\n"),
         &format!("327 of 405 rejected; 88 of the 405 are posts; {GAIN}: 1; {MOVED}: 516\n"),
-        "\nreal analysis, 13 cases\n",
-        "\nreal window, 409 cases\n",
-        "\nreal windows, 122 cases\n",
+        "\nreal analysis, 25 cases\n",
+        "\nreal window, 817 cases\n",
+        "\nreal windows, 242 cases\n",
         "\nreal reading, 3072 cases\n",
         "\nreal summary, 6 cases\n",
-        "\nreal text, 7 cases\n",
+        "\nreal text, 13 cases\n",
     ] {
         assert!(out.contains(said), "{said} is not in {out}");
     }
@@ -145,6 +149,10 @@ fn faults_are_seen_in_the_real_stations() {
         Fault::Winds(WindFault::MarkIsANumber),
         Fault::Winds(WindFault::CalmIsSilent),
         Fault::Winds(WindFault::StretchedInTheSumOnly),
+        Fault::Rules(RuleFault::Ignored),
+        Fault::Rules(RuleFault::Always),
+        Fault::Rules(RuleFault::ScaleForTwo),
+        Fault::Rules(RuleFault::RejectedCounted),
     ] {
         let seen = cases.analyses.iter().any(|case| case.differs(&Faulty(fault)).is_some());
         assert!(seen, "{fault:?} was not seen");

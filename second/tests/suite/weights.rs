@@ -34,7 +34,7 @@ fn faults_of_weights_are_made_small() {
     for fault in faults() {
         let failure = run_cases::<AnalysisCase>(&Faulty(fault), ENOUGH).failure.expect("seen");
         let call = failure.smallest.0;
-        assert!(call.x.len() <= 2 && call.first_guess.len() <= 4, "{fault:?}: {call:?}");
+        assert!(call.x.len() <= 3 && call.first_guess.len() <= 6, "{fault:?}: {call:?}");
         assert!(call.scans <= 2, "{fault:?}: {call:?}");
     }
     for fault in OF_SUPPORT.map(Fault::Weights) {

@@ -228,7 +228,7 @@ fn faults_of_winds_are_made_small() {
     for fault in OF_WEIGHTS {
         let failure = run_cases::<AnalysisCase>(&Faulty(Fault::Winds(fault)), ENOUGH).failure;
         let call = failure.expect("seen").smallest.0;
-        assert!(call.x.len() <= 2 && call.first_guess.len() <= 9, "{fault:?}: {call:?}");
+        assert!(call.x.len() <= 2 && call.first_guess.len() <= 16, "{fault:?}: {call:?}");
         assert!(call.scans <= 2 && call.mode == 1, "{fault:?}: {call:?}");
     }
     for fault in OF_REFUSALS {
