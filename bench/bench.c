@@ -117,7 +117,8 @@ static void complain(const char *what, const char *word) {
         stderr,
         "bench: %s '%s': use bench CASE ours|plain|both REPEAT, window SIDE, "
         "screen|windows|singles|tests|cuts SCREEN, one reading|summary, text, or stack [SIDE|SCREEN|reading|summary], "
-        "where a CASE is a, b, c, p, w, l, s or u, with a w after it along the wind, with a 2 at its end by the listings' "
+        "where a CASE is a, b, c, p, w, l, s or u, with a w after it along the wind, with a 2 at its end by the "
+        "listings' "
         "rule, and a SCREEN is spread, corners, middle or none\n",
         what, word);
     exit(2);

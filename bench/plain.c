@@ -1,6 +1,6 @@
 /*
- * plain.c: document 01's analysis, as requests 1, 3, 5 and 6 of document 02 changed it, and request 2's screen of windows,
- * the way a C programmer would write them first: their loops, their numbers, no tricks. It assumes what
+ * plain.c: document 01's analysis, as requests 1, 3, 5 and 6 of document 02 changed it, and request 2's screen of
+ * windows, the way a C programmer would write them first: their loops, their numbers, no tricks. It assumes what
  * include/sosnyavik.h says that the caller owes.
  */
 #include "plain.h"
