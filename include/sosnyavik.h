@@ -126,9 +126,9 @@ extern "C" {
 **
 ** In a scan a point is moved by the mean of the accepted stations' differences,
 ** each counted by its weight there, rounded to the nearest 1/64 unit, halves
-** away from zero. Weights are whole ten-thousandths. Where d2 is the squared
-** distance from point to station, a station with d2 < radius*radius has the
-** weight
+** away from zero; where there is one alone, see LONE STATIONS too. Weights are
+** whole ten-thousandths. Where d2 is the squared distance from point to station,
+** a station with d2 < radius*radius has the weight
 **
 **   10000*(radius*radius - d2)/(radius*radius + d2), without its fraction
 **
@@ -200,7 +200,9 @@ extern "C" {
 **
 ** The rules differ in nothing else. From the same field they judge alike, support
 ** alike, and move every other point alike; smoothing and later scans then go by
-** the field that each has made.
+** the field that each has made. So with SOSNYAVIK_LISTINGS a point far from its
+** one station stays near the first guess and is supported all the same: compare
+** by that rule, and decide by SOSNYAVIK_EQUATIONS.
 **
 ** Two by two points at 10 degrees, and one mast on the first of them, which reads
 ** 11: it stands 64, 64 and 90.5 from the others, where its weights are 3846, 3846
