@@ -225,11 +225,11 @@ fn correct_row_by(
     ensures { λ u. ⌜ Filled (pos 0) (rowZ rule (now (z .entry)) (alongShare (now (lx .entry)) (now (ly .entry)) (now (ld .entry)) (now (lw .entry)) r2) n base) base (base + nx) (now (z .entry)) (now (z .exit))
         × Filled 0 (rowS (now (support .entry)) (alongShare (now (lx .entry)) (now (ly .entry)) (now (ld .entry)) (now (lw .entry)) r2) n bit base) base (base + nx) (now (support .entry)) (now (support .exit)) ⌝ }
 {
-    if rule == request::LISTINGS {
-        correct_row_by_listings(z, support, base, nx, lx, ly, ld, lw, n, r2, bit);
+    if rule != request::LISTINGS {
+        correct_row(z, support, base, nx, lx, ly, ld, lw, n, r2, bit);
         return;
     }
-    correct_row(z, support, base, nx, lx, ly, ld, lw, n, r2, bit);
+    correct_row_by_listings(z, support, base, nx, lx, ly, ld, lw, n, r2, bit);
 }
 
 // One correction of the whole grid, in place, as scan_point's. What is gathered of the winds has its room here, for mode 1 alone.

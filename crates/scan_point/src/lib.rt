@@ -341,11 +341,11 @@ fn correct_row_by(
     ensures { λ u. ⌜ Filled (pos 0) (rowZ rule (now (z .entry)) (nearShare (now (lx .entry)) (now (ly .entry)) (now (ld .entry)) r2) n base) base (base + nx) (now (z .entry)) (now (z .exit))
         × Filled 0 (rowS (now (support .entry)) (nearShare (now (lx .entry)) (now (ly .entry)) (now (ld .entry)) r2) n bit base) base (base + nx) (now (support .entry)) (now (support .exit)) ⌝ }
 {
-    if rule == request::LISTINGS {
-        correct_row_by_listings(z, support, base, nx, lx, ly, ld, n, r2, bit);
+    if rule != request::LISTINGS {
+        correct_row(z, support, base, nx, lx, ly, ld, n, r2, bit);
         return;
     }
-    correct_row(z, support, base, nx, lx, ly, ld, n, r2, bit);
+    correct_row_by_listings(z, support, base, nx, lx, ly, ld, n, r2, bit);
 }
 
 // One correction of the whole grid, in place: the differences d were all taken before, so that no point sees another's correction. The lists

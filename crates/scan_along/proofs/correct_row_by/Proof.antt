@@ -22,8 +22,8 @@ module _ (s : tie.Start) where
   abbrev valuesBy : ℕ → ℕ → ℤ
   valuesBy rule = rowZ rule (s .args .z .now) give (s .args .n) (s .args .base)
 
-correct-row-by-listings-requires : tie.Need-correct-row-by-listings-requires
-correct-row-by-listings-requires c κs = search needs
+correct-row-requires : tie.Need-correct-row-requires
+correct-row-requires c κs = search needs
 
 same-length : tie.Need-same-length
 same-length c = search needs
@@ -36,11 +36,12 @@ returns c =
     let r = c .before .before .before in
     let t = c .before .before .before .before .before .before in
     let s = t .before .before in
-    let e = r .correct-row-by-listings .ensures in
-    (subst (λ (rule : ℕ). FilledBy s (r .correct-row-by-listings .last .0) (valuesBy s rule)) (sym (t .if1 .taken)) (e .0), e .1)
+    let e = r .correct-row .ensures in
+    let same = other-rule (s .args .rule) (t .if1 .taken) (s .args .z .now) (give s) (s .args .n) (s .args .base) in
+    (subst (FilledBy s (r .correct-row .last .0)) (sym same) (e .0), e .1)
 
-correct-row-requires : tie.Need-correct-row-requires
-correct-row-requires c κs = search needs
+correct-row-by-listings-requires : tie.Need-correct-row-by-listings-requires
+correct-row-by-listings-requires c κs = search needs
 
 same-length-3 : tie.Need-same-length-3
 same-length-3 c = search needs
@@ -53,19 +54,18 @@ returns-2 c =
     let r = c .before .before .before in
     let t = c .before .before .before .before .before .before in
     let s = t .before .before in
-    let e = r .correct-row .ensures in
-    let same = other-rule (s .args .rule) (t .if1 .left) (s .args .z .now) (give s) (s .args .n) (s .args .base) in
-    (subst (FilledBy s (r .correct-row .last .0)) (sym same) (e .0), e .1)
+    let e = r .correct-row-by-listings .ensures in
+    (subst (λ (rule : ℕ). FilledBy s (r .correct-row-by-listings .last .0) (valuesBy s rule)) (sym (t .if1 .left)) (e .0), e .1)
 
 pub correct-row-by-spec : {M : Type 1} → statement M
 correct-row-by-spec =
     tie.close
     (tie.spec
-    correct-row-by-listings-requires
+    correct-row-requires
     same-length
     same-length-2
     returns
-    correct-row-requires
+    correct-row-by-listings-requires
     same-length-3
     same-length-4
     returns-2)
