@@ -17,8 +17,9 @@ use Rattle.scheme.specs.Weights.{inside-alone}
 use Rattle.scheme.specs.Streaks.{Fair}
 use Rattle.scheme.specs.Gifts.{weighed, gift-weighed}
 use Rattle.scan_weight.specs.Along.{calmed, calmed-fair, weightBy, beyond, weightBy-most, by-wind, mostStrength, strength-small, mostPart, part-small}
+use Rattle.scan_lone.specs.Inside.{insideIn}
 use Rattle.scan_point.specs.Near.{Stations, windIn, xAt, yAt, windAt, verdictAt, dAt, shareAt, Slight, weighed-slight, rowGap, Inside, Ready, Near, near-is-accepted, near-step, accepted-shares}
-use Rattle.scan_point.specs.Round.{insideIn, Sized, Roomy, roomy-set, sized-set, new-x, new-y, new-d, next-sized}
+use Rattle.scan_point.specs.Round.{Sized, Roomy, roomy-set, sized-set, new-x, new-y, new-d, next-sized}
 
 -- of a wind, for the points of a row that the station is dy off
 abbrev pub streakOf : Wind → ℤ → List ℤ

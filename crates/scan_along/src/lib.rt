@@ -94,7 +94,7 @@ fn near_row(
         ly[n] = gap;
         ld[n] = d[k];
         lw[n] = streak;
-        n += scan_point::one_if_below(gap, r2);
+        n += scan_weight::one_if_below(gap, r2);
         k += 1;
     }
     n
@@ -200,7 +200,7 @@ fn correct_row_by_listings(
     let mut i: usize = 0;
     while i < nx {
         let s = point_sums(lx, ly, ld, lw, n, i, r2);
-        let w = scan_point::divisor(s.w, lx, ly, n, i, r2);
+        let w = scan_lone::divisor(s.w, lx, ly, n, i, r2);
         scan_point::set_point(z, support, base + i, w, s.wd, bit);
         i += 1;
     }

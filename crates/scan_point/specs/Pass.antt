@@ -20,6 +20,7 @@ use Rattle.scheme.specs.Weight.{scale}
 use Rattle.scheme.specs.Correction.{Sums, nothing, plus, divisor, correction}
 use Rattle.scheme.specs.Most.{mostPoints, mostSquare, mostWeights, mostField}
 use Rattle.scheme.specs.Accepted.{Shaped, same-shape}
+use Rattle.scan_lone.specs.Divides.{Divides}
 use Rattle.scan_point.specs.Near.{Slight, weights-few, near-small, Stations, sumsOver, Ready, Near}
 
 -- ---- one row, whose points stand at base, base + 1, ..
@@ -39,13 +40,7 @@ rowS sup give n bit base k = getD sup k 0 + cond (ltb 0 (rowSums give n (k - bas
 abbrev pub movedBy : (w : ℕ) (wd : ℤ) → ℤ
 movedBy w wd = cond (eqb w 0) (pos 0) (rounded wd w)
 
--- by what it is to be divided, w the sum of weights and so many stations inside; nothing, without any weight
-pub record Divides (rule w inside over : ℕ) : Type 0 where
-  pub least : w ≤ over
-  pub most : over ≤ mostWeights
-  pub none : w ≡ 0 → over ≡ 0
-  pub is : 0 < w → over ≡ cond (eqb rule listingRule && eqb inside 1) scale w
-
+-- by what it is to be divided: so the correction, and the support
 module _ (rule w inside over : ℕ) (by : Divides rule w inside over) where
   divides-so : (wd : ℤ) (s : Sums) → w ≡ s .weights → wd ≡ s .pulls → s .inside ≡ inside → movedBy over wd ≡ correction rule s
   unfolding correction divisor

@@ -1,16 +1,14 @@
 -- The lists of mode 0: of each near station its position along the row, its squared distance to it, and its difference. An entry gives by the round
 -- weight.
-use Prim.Native.Nat.{ℕ, _+_, _-_, _*_, _≤_, _<_}
+use Prim.Native.Nat.{ℕ, _+_, _*_, _≤_, _<_}
 use native.Mathlib.Omega.{arith}
-use mathlib.Core.Path.{_≡_, refl, sym, ap, subst, _∙_}
+use mathlib.Core.Path.{_≡_, refl, sym, ap, _∙_}
 use mathlib.Core.Bool.{cond}
 use mathlib.Core.List.{List}
 use lib.Dec.{ltb}
 use lib.ListN.{length, getD, set, length-set, replicate, length-replicate}
 use lib.Seq.{getD-set-same, getD-set-other}
 use lib.IntN.{ℤ, pos, natAbs, _-ℤ_}
-use Rattle.lists.specs.Tests.{cond-both}
-use Rattle.lists.specs.Sums.{upTo, upTo-next}
 use Rattle.scheme.specs.Units.{step, mostStations, mostLimit, roundMode}
 use Rattle.scheme.specs.Weight.{weight, square, inside, weightAt}
 use Rattle.scheme.specs.Correction.{Sums}
@@ -18,6 +16,7 @@ use Rattle.scheme.specs.Most.{mostAlong, mostSquare}
 use Rattle.scheme.specs.Weights.{weight-beyond, weight-most, inside-alone}
 use Rattle.scheme.specs.Streaks.{round-if-still, still-in-mode-0}
 use Rattle.scheme.specs.Gifts.{weighed, gift-weighed}
+use Rattle.scan_lone.specs.Inside.{insideIn, Placed}
 use Rattle.scan_point.specs.Near.{Stations, xAt, yAt, windAt, verdictAt, dAt, shareAt, Slight, weighed-slight, rowGap, Ready, Near, near-is-accepted, near-step, accepted-shares}
 
 unfoldable pub nearShare : (lx : List ℤ) (ly : List ℕ) (ld : List ℤ) (r2 i t : ℕ) → Sums
@@ -30,48 +29,7 @@ pub record Sized (lx : List ℤ) (ly : List ℕ) (ld : List ℤ) (t : ℕ) : Typ
   pub y-small : getD ly t 0 ≤ mostSquare
   pub d-small : natAbs (getD ld t (pos 0)) ≤ mostLimit
 
--- ---- those inside the radius, by the lists that both modes have: 1 for an entry that is inside at column i, and else 0
-
-unfoldable pub insideIn : (lx : List ℤ) (ly : List ℕ) (r2 i t : ℕ) → ℕ
-insideIn lx ly r2 i t = cond (ltb (square (getD lx t (pos 0) -ℤ pos (step * i)) + getD ly t 0) r2) 1 0
-
-pub inside-once : (lx : List ℤ) (ly : List ℕ) (r2 i t : ℕ) → insideIn lx ly r2 i t ≤ 1
-unfolding insideIn
-inside-once lx ly r2 i t = cond-both (λ (n : ℕ). n ≤ 1) (ltb (square (getD lx t (pos 0) -ℤ pos (step * i)) + getD ly t 0) r2) 1 0 (λ e. omega arith) (λ e. omega arith)
-
--- so many of the entries from t up to n, as a loop from the last to the first counts them
-pub record Counted (f : ℕ → ℕ) (n t count : ℕ) : Type 0 where
-  pub no-more : t ≤ n
-  pub few : count + t ≤ n
-  pub sum : upTo 0 _+_ n f ≡ upTo 0 _+_ t f + count
-
-pub counted-none : (f : ℕ → ℕ) (n : ℕ) → Counted f n n 0
-counted-none f n = record { no-more = omega arith; few = omega arith; sum = omega arith }
-
--- one more, at s
-pub counted-next : (f : ℕ → ℕ) {n t count : ℕ} (s : ℕ) {one : ℕ} → s + 1 ≡ t → f s ≤ 1 → one ≡ f s → Counted f n t count → Counted f n s (count + one)
-counted-next f {t = t} s next slight e c =
-    let last : upTo 0 _+_ t f ≡ upTo 0 _+_ s f + f s = ap (λ (k : ℕ). upTo 0 _+_ k f) (sym next) ∙ upTo-next 0 _+_ s f in
-    record { no-more = omega (arith, c .no-more); few = omega (arith, c .few, e); sum = omega (arith, c .sum, last, e) }
-
-pub counted-one : (f : ℕ → ℕ) {t : ℕ} (s : ℕ) {one : ℕ} → s + 1 ≡ t → f s ≤ 1 → one ≡ f s → Counted f t s one
-counted-one f {t = t} s {one = one} next slight e =
-    let none : 0 + one ≡ one = omega arith in
-    subst (Counted f t s) none (counted-next f s next slight e (counted-none f t))
-
--- some, and then others
-pub counted-join : (f : ℕ → ℕ) {n t s count more : ℕ} → Counted f n t count → Counted f t s more → Counted f n s (count + more)
-counted-join f c d =
-    record { no-more = omega (arith, c .no-more, d .no-more); few = omega (arith, c .few, d .few); sum = omega (arith, c .sum, d .sum) }
-
--- all
-pub counted-all : (f : ℕ → ℕ) {n count : ℕ} → Counted f n 0 count → count ≡ upTo 0 _+_ n f
-unfolding upTo
-counted-all f c = omega (arith, c .sum)
-
-pub record Placed (lx : List ℤ) (ly : List ℕ) (t : ℕ) : Type 0 where
-  pub x-small : natAbs (getD lx t (pos 0)) ≤ mostAlong
-  pub y-small : getD ly t 0 ≤ mostSquare
+-- ---- those inside the radius, by the lists that both modes have
 
 pub sized-placed : {lx : List ℤ} {ly : List ℕ} {ld : List ℤ} {t : ℕ} → Sized lx ly ld t → Placed lx ly t
 sized-placed s = record { x-small = s .x-small; y-small = s .y-small }

@@ -1,7 +1,7 @@
 // Sums and corrections at the points of a grid (document 01, "One scan", Correction; document 02, 6): what both modes share, and those by the round
 // weight.
 ghost use mathlib.Core.Path.{_≡_};
-ghost use Prim.Native.Nat.{ℕ, _+_, _-_, _*_, _≤_, _<_};
+ghost use Prim.Native.Nat.{ℕ, _+_, _*_, _≤_, _<_};
 ghost use mathlib.Core.Bool.{cond};
 ghost use lib.Dec.{ltb};
 ghost use lib.ListN.{getD, set};
@@ -13,8 +13,8 @@ ghost use Rattle.scheme.specs.Weight.{scale, weight};
 ghost use Rattle.scheme.specs.Correction.{nothing, plus};
 ghost use Rattle.scheme.specs.Most.{mostAlong, mostSquare, mostWeights, mostPulls, mostField};
 ghost use Rattle.scan_point.specs.Near.{Down, Added, rowGap, stationsWith, Ready, Near};
-ghost use Rattle.scan_point.specs.Round.{nearShare, insideIn, Counted, Placed, Sized, Roomy};
-ghost use Rattle.scan_point.specs.Pass.{rowZ, rowS, movedBy, Divides, PointReady, RowReady, corrected, backed, PassReady};
+ghost use Rattle.scan_point.specs.Round.{nearShare, Sized, Roomy};
+ghost use Rattle.scan_point.specs.Pass.{rowZ, rowS, movedBy, PointReady, RowReady, corrected, backed, PassReady};
 use request::Terms;
 
 // The sum of weights, and the sum of weight·D.
@@ -121,79 +121,6 @@ fn point_sums(
     rest_sums(s.w, s.wd, lx, ly, ld, n, t, i, r2)
 }
 
-// 1 for a station that is inside the radius at column i of a grid row, the one at t of those near that row, and else 0.
-fn one_if_inside(lx: &[i32; 512], ly: &[u32; 512], t: usize, i: usize, r2: u32) -> usize
-    requires { ⌜ (t < mostStations) × (i < mostSide) × Placed (now lx) (now ly) t ⌝ }
-    ensures { λ r. ⌜ r ≡ insideIn (now (lx .entry)) (now (ly .entry)) r2 i t ⌝ }
-{
-    let px = (64 * i) as i32;
-    one_if_below(scan_weight::squared_distance(lx[t], px, ly[t]), r2)
-}
-
-// How many of the four stations before t are.
-fn inside_of_four(lx: &[i32; 512], ly: &[u32; 512], t: usize, i: usize, r2: u32) -> usize
-    requires { ⌜ (4 ≤ t) × (t ≤ mostStations) × (i < mostSide) × ((k : ℕ) → k < t → Placed (now lx) (now ly) k) ⌝ }
-    ensures { λ r. ⌜ Counted (insideIn (now (lx .entry)) (now (ly .entry)) r2 i) t (t - 4) r ⌝ }
-{
-    one_if_inside(lx, ly, t - 1, i, r2)
-        + one_if_inside(lx, ly, t - 2, i, r2)
-        + one_if_inside(lx, ly, t - 3, i, r2)
-        + one_if_inside(lx, ly, t - 4, i, r2)
-}
-
-// How many of n are, from how many of all but the first t.
-fn inside_of_rest(
-    inside: usize,
-    lx: &[i32; 512],
-    ly: &[u32; 512],
-    n: usize,
-    t: usize,
-    i: usize,
-    r2: u32,
-) -> usize
-    requires { ⌜ (n ≤ mostStations) × (i < mostSide) × ((k : ℕ) → k < n → Placed (now lx) (now ly) k) × Counted (insideIn (now lx) (now ly) r2 i) n t inside ⌝ }
-    ensures { λ r. ⌜ r ≡ upTo 0 _+_ n (insideIn (now (lx .entry)) (now (ly .entry)) r2 i) ⌝ }
-{
-    let mut all = inside;
-    let mut k = t;
-    while 0 < k {
-        all += one_if_inside(lx, ly, k - 1, i, r2);
-        k -= 1;
-    }
-    all
-}
-
-// How many of the n stations near a grid row are inside the radius at its column i, whatever their weight: from the last to the first, four in a turn.
-fn how_many(lx: &[i32; 512], ly: &[u32; 512], n: usize, i: usize, r2: u32) -> usize
-    requires { ⌜ (n ≤ mostStations) × (i < mostSide) × ((k : ℕ) → k < n → Placed (now lx) (now ly) k) ⌝ }
-    ensures { λ r. ⌜ r ≡ upTo 0 _+_ n (insideIn (now (lx .entry)) (now (ly .entry)) r2 i) ⌝ }
-{
-    let mut inside: usize = 0;
-    let mut t = n;
-    while 3 < t {
-        inside += inside_of_four(lx, ly, t, i, r2);
-        t -= 4;
-    }
-    inside_of_rest(inside, lx, ly, n, t, i, r2)
-}
-
-// What the sum of weight·D is divided by under rule 2 at column i of a grid row, w the sum of weights there; 0 where that is 0. It can be the scale only
-// where w is no more than one station's weight: elsewhere none are counted.
-pub fn divisor(w: u64, lx: &[i32; 512], ly: &[u32; 512], n: usize, i: usize, r2: u32) -> u64
-    requires { ⌜ (w ≤ mostWeights) × (n ≤ mostStations) × (i < mostSide) × ((t : ℕ) → t < n → Placed (now lx) (now ly) t)
-        × (w ≤ scale * upTo 0 _+_ n (insideIn (now lx) (now ly) r2 i)) ⌝ }
-    ensures { λ over. ⌜ Divides listingRule w (upTo 0 _+_ n (insideIn (now (lx .entry)) (now (ly .entry)) r2 i)) over ⌝ }
-{
-    if (w == 0) | (scan_weight::SCALE < w) {
-        return w;
-    }
-    if how_many(lx, ly, n, i, r2) == 1 {
-        scan_weight::SCALE
-    } else {
-        w
-    }
-}
-
 // A point's value after its correction, the sum of weight·D divided by w; 0 if that is 0.
 fn moved(z: i32, w: u64, wd: i64) -> i32
     requires { ⌜ (natAbs z ≤ mostField) × (w ≤ mostWeights) × (natAbs wd ≤ mostLimit * w) ⌝ }
@@ -225,13 +152,6 @@ pub fn row_gap(verdict: u8, y: i32, j: usize, r2: u32) -> u32
     }
 }
 
-// 1 for a station that is near by its squared distance to the row, and else 0: what it adds to the number of those gathered.
-pub fn one_if_below(gap: u32, r2: u32) -> usize
-    ensures { λ r. ⌜ r ≡ cond (ltb gap r2) 1 0 ⌝ }
-{
-    if gap < r2 { 1 } else { 0 }
-}
-
 // Gathers the stations near grid row j, once for all its points: each turn stores at the next free place, which only a near one takes.
 fn near_row(
     lx: &mut [i32; 512],
@@ -256,7 +176,7 @@ fn near_row(
         lx[n] = row[request::X];
         ly[n] = gap;
         ld[n] = d[k];
-        n += one_if_below(gap, r2);
+        n += scan_weight::one_if_below(gap, r2);
         k += 1;
     }
     n
@@ -317,7 +237,7 @@ fn correct_row_by_listings(
     let mut i: usize = 0;
     while i < nx {
         let s = point_sums(lx, ly, ld, n, i, r2);
-        let w = divisor(s.w, lx, ly, n, i, r2);
+        let w = scan_lone::divisor(s.w, lx, ly, n, i, r2);
         set_point(z, support, base + i, w, s.wd, bit);
         i += 1;
     }

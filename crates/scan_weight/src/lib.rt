@@ -1,6 +1,8 @@
 // The weight of a station at a point (document 01, "One scan", Weight; document 02, 3): the round one, and the one stretched along a wind
 // (document 02, 5).
 ghost use mathlib.Core.Path.{_≡_};
+ghost use mathlib.Core.Bool.{cond};
+ghost use lib.Dec.{ltb};
 ghost use Prim.Native.Nat.{_+_, _*_, _≤_, _<_};
 ghost use lib.IntN.{natAbs, _-ℤ_};
 ghost use Rattle.scheme.specs.Weight.{square, weight};
@@ -25,6 +27,13 @@ pub fn squared_distance(x: i32, px: i32, gap: u32) -> u32
     ensures { λ r. ⌜ r ≡ square (x -ℤ px) + gap ⌝ }
 {
     square_apart(x, px) + gap
+}
+
+// 1 for what is nearer than R by its squared distance, and else 0: what it adds to a count.
+pub fn one_if_below(gap: u32, r2: u32) -> usize
+    ensures { λ r. ⌜ r ≡ cond (ltb gap r2) 1 0 ⌝ }
+{
+    if gap < r2 { 1 } else { 0 }
 }
 
 // The weight at squared distance d2 for squared radius r2. A station beyond the radius costs a compare and no division. The quotient's

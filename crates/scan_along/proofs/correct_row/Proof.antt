@@ -12,7 +12,7 @@ use Rattle.scheme.specs.Units.{mostLimit, equationRule}
 use Rattle.scheme.specs.Weight.{scale}
 use Rattle.scheme.specs.Most.{mostWeights}
 use Rattle.scan_point.specs.Near.{inside-counted}
-use Rattle.scan_point.specs.Round.{insideIn}
+use Rattle.scan_lone.specs.Inside.{insideIn}
 use Rattle.scan_point.specs.Pass.{rowSums, rowZ, rowS, PointReady, point-ready, by-weights, sums-small, next-value, next-support}
 use Rattle.scan_along.specs.Streak.{alongShare, along-inside}
 use Rattle.scan_along.proofs.correct_row.Statement.{statement}

@@ -12,7 +12,8 @@ use Rattle.scheme.specs.Units.{mostLimit, listingRule}
 use Rattle.scheme.specs.Weight.{scale}
 use Rattle.scheme.specs.Most.{mostWeights}
 use Rattle.scan_point.specs.Near.{inside-counted}
-use Rattle.scan_point.specs.Round.{insideIn, sized-placed}
+use Rattle.scan_lone.specs.Inside.{insideIn}
+use Rattle.scan_point.specs.Round.{sized-placed}
 use Rattle.scan_point.specs.Pass.{rowSums, rowZ, rowS, PointReady, point-ready, sums-small, pulls-small, next-value, next-support}
 use Rattle.scan_along.specs.Streak.{alongShare, along-inside}
 use Rattle.scan_along.proofs.correct_row_by_listings.Statement.{statement}

@@ -12,7 +12,8 @@ use Rattle.scheme.specs.Units.{mostLimit, equationRule}
 use Rattle.scheme.specs.Weight.{scale}
 use Rattle.scheme.specs.Most.{mostWeights}
 use Rattle.scan_point.specs.Near.{inside-counted}
-use Rattle.scan_point.specs.Round.{nearShare, insideIn, round-inside}
+use Rattle.scan_lone.specs.Inside.{insideIn}
+use Rattle.scan_point.specs.Round.{nearShare, round-inside}
 use Rattle.scan_point.specs.Pass.{rowSums, rowZ, rowS, PointReady, point-ready, by-weights, sums-small, next-value, next-support}
 use Rattle.scan_point.proofs.correct_row.Statement.{statement}
 use Rattle.scan_point.proofs.correct_row.Tie as tie

@@ -1,7 +1,7 @@
--- `scan_point::one_if_below` meets its contract. Assumes nothing.
+-- `scan_weight::one_if_below` meets its contract. Assumes nothing.
 use borrow.Author.Tests.{lt-ltb, le-ltb}
-use Rattle.scan_point.proofs.one_if_below.Statement.{statement}
-use Rattle.scan_point.proofs.one_if_below.Tie as tie
+use Rattle.scan_weight.proofs.one_if_below.Statement.{statement}
+use Rattle.scan_weight.proofs.one_if_below.Tie as tie
 
 returns : tie.Need-returns
 returns c = rw (lt-ltb _ _ (c .if1 .taken))

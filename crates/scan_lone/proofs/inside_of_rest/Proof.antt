@@ -1,10 +1,10 @@
--- `scan_point::inside_of_rest` meets its contract. The loop's invariant: those behind are counted. Assumes nothing.
+-- `scan_lone::inside_of_rest` meets its contract. The loop's invariant: those behind are counted. Assumes nothing.
 use Prim.Native.Nat.{ℕ, _+_, _-_, _≤_, _<_}
 use native.Mathlib.Omega.{arith}
 use mathlib.Core.Path.{_≡_}
-use Rattle.scan_point.specs.Round.{insideIn, inside-once, Counted, counted-next, counted-all}
-use Rattle.scan_point.proofs.inside_of_rest.Statement.{statement}
-use Rattle.scan_point.proofs.inside_of_rest.Tie as tie
+use Rattle.scan_lone.specs.Inside.{insideIn, inside-once, Counted, counted-next, counted-all}
+use Rattle.scan_lone.proofs.inside_of_rest.Statement.{statement}
+use Rattle.scan_lone.proofs.inside_of_rest.Tie as tie
 
 abbrev Inv-loop : tie.InvT-loop
 Inv-loop inside lx ly n t i r2 all₀ k₀ all k = Counted (insideIn lx ly r2 i) n k all

@@ -1,10 +1,10 @@
--- `scan_point::inside_of_four` meets its contract: each of the four is one or none. Assumes nothing.
+-- `scan_lone::inside_of_four` meets its contract: each of the four is one or none. Assumes nothing.
 use Prim.Native.Nat.{ℕ, _+_, _-_, _≤_, _<_}
 use native.Mathlib.Omega.{arith}
 use borrow.Author.Needs.{needs}
-use Rattle.scan_point.specs.Round.{insideIn, inside-once, Counted, counted-one, counted-next}
-use Rattle.scan_point.proofs.inside_of_four.Statement.{statement}
-use Rattle.scan_point.proofs.inside_of_four.Tie as tie
+use Rattle.scan_lone.specs.Inside.{insideIn, inside-once, Counted, counted-one, counted-next}
+use Rattle.scan_lone.proofs.inside_of_four.Statement.{statement}
+use Rattle.scan_lone.proofs.inside_of_four.Tie as tie
 
 module _ (s : tie.Start) where
   abbrev f : ℕ → ℕ

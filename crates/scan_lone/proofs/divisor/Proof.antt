@@ -1,4 +1,4 @@
--- `scan_point::divisor` meets its contract: where it counts nothing, no count could matter. Assumes nothing.
+-- `scan_lone::divisor` meets its contract: where it counts nothing, no count could matter. Assumes nothing.
 use Prim.Native.Nat.{ℕ, _*_, _≤_, _<_}
 use native.Mathlib.Omega.{arith}
 use borrow.Author.Needs.{needs}
@@ -10,9 +10,9 @@ use Rattle.lists.specs.Tests.{or-false}
 use Rattle.scheme.specs.Units.{listingRule}
 use Rattle.scheme.specs.Weight.{scale}
 use Rattle.scheme.specs.Most.{mostWeights}
-use Rattle.scan_point.specs.Pass.{Divides}
-use Rattle.scan_point.proofs.divisor.Statement.{statement}
-use Rattle.scan_point.proofs.divisor.Tie as tie
+use Rattle.scan_lone.specs.Divides.{Divides}
+use Rattle.scan_lone.proofs.divisor.Statement.{statement}
+use Rattle.scan_lone.proofs.divisor.Tie as tie
 
 -- ---- of the numbers alone: w the sum of weights, and so many inside
 

@@ -1,10 +1,10 @@
--- `scan_point::how_many` meets its contract. The loop's invariant: those behind are counted. Assumes nothing.
+-- `scan_lone::how_many` meets its contract. The loop's invariant: those behind are counted. Assumes nothing.
 use Prim.Native.Nat.{ℕ, _+_, _-_, _≤_, _<_}
 use native.Mathlib.Omega.{arith}
 use borrow.Author.Needs.{needs}
-use Rattle.scan_point.specs.Round.{insideIn, Counted, counted-none, counted-join}
-use Rattle.scan_point.proofs.how_many.Statement.{statement}
-use Rattle.scan_point.proofs.how_many.Tie as tie
+use Rattle.scan_lone.specs.Inside.{insideIn, Counted, counted-none, counted-join}
+use Rattle.scan_lone.proofs.how_many.Statement.{statement}
+use Rattle.scan_lone.proofs.how_many.Tie as tie
 
 abbrev Inv-loop : tie.InvT-loop
 Inv-loop lx ly n i r2 inside₀ t₀ inside t = Counted (insideIn lx ly r2 i) n t inside

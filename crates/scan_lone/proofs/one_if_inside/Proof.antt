@@ -1,4 +1,4 @@
--- `scan_point::one_if_inside` meets its contract: position and distance come back from their bits as they were. Assumes nothing.
+-- `scan_lone::one_if_inside` meets its contract: position and distance come back from their bits as they were. Assumes nothing.
 use Prim.Native.Nat.{_*_}
 use native.Mathlib.Omega.{arith}
 use borrow.Author.Needs.{needs}
@@ -10,12 +10,12 @@ use mir.Val.{toZ, ofZ}
 use mir.Facts.{toZ-pos}
 use Rattle.integers.specs.Words.{bits-back}
 use Rattle.scheme.specs.Units.{step}
-use Rattle.scan_point.specs.Round.{insideIn}
-use Rattle.scan_point.proofs.one_if_inside.Statement.{statement}
-use Rattle.scan_point.proofs.one_if_inside.Tie as tie
-use Rattle.scan_point.proofs.one_if_inside.Reads as reads
-use Rattle.scan_point.proofs.one_if_inside.Lts as lts
-use Rattle.scan_point.proofs.one_if_below.Reads as one-if-below-reads
+use Rattle.scan_lone.specs.Inside.{insideIn}
+use Rattle.scan_lone.proofs.one_if_inside.Statement.{statement}
+use Rattle.scan_lone.proofs.one_if_inside.Tie as tie
+use Rattle.scan_lone.proofs.one_if_inside.Reads as reads
+use Rattle.scan_lone.proofs.one_if_inside.Lts as lts
+use Rattle.scan_weight.proofs.one_if_below.Reads as one-if-below-reads
 use Rattle.scan_weight.proofs.squared_distance.Reads as squared-distance-reads
 
 module _ (s : lts.Start (squared-distance-reads.Asked, squared-distance-reads.Learnt, one-if-below-reads.Asked, one-if-below-reads.Learnt) reads.Pre reads.Post) where
