@@ -2,10 +2,10 @@
 //! that are just too far out to be one.
 
 use crate::call::{Call, Window};
-use crate::generate::guess_at;
+use crate::generate::{guess_at, push_station};
 use crate::post_sorts::DISTANCES;
 use crate::rng::Rng;
-use crate::units::VALUE;
+use crate::units::{MOST_STATIONS, VALUE};
 use crate::window::{reach, widened};
 
 /// Out of the grid along x and along y: the four sides and the four corners.
@@ -40,6 +40,22 @@ pub fn distance(rng: &mut Rng) -> i32 {
         10 => any,
         _ => far,
     }
+}
+
+/// Adds a station beyond a corner, by two of the distances, to an eighth of the
+/// requests. Screens have few stations, and seldom one at each of these places.
+pub fn add_beyond_a_corner(rng: &Rng, call: &mut Call) {
+    // The sources before it are those of the rims and of the points.
+    let rng = &mut rng.beside().beside().beside();
+    if call.x.len() >= MOST_STATIONS || !rng.one_in(8) {
+        return;
+    }
+    let mut past = |points: u32| {
+        let (out, last) = (rng.pick(&DISTANCES), 64 * points as i32 - 64);
+        rng.pick(&[-out, last + out])
+    };
+    let (x, y) = (past(call.nx), past(call.ny));
+    push_station(call, x, y, guess_at(call, x, y));
 }
 
 /// Moves some stations beyond the sides that the cut of a window shares with

@@ -7,11 +7,13 @@ use crate::damage::set_rows;
 use crate::generate::{guess_at, push_station};
 use crate::generate_rims::{offset, placed, radius_with, Rim};
 use crate::rng::Rng;
-use crate::scan::weight;
+use crate::scan::{difference, weight};
+use crate::scheme::run;
 use crate::units::{
     BORDER, EQUATIONS, HUNDREDTHS, LIMIT, LISTINGS, MISSING, MOST_STATIONS, RADIUS, VALUE,
     WEIGHT_SCALE,
 };
+use crate::weight_sorts::is_small;
 
 /// The rule of a request: left out in a third, and rule 2 in nearly half.
 pub fn any_rule(rng: &mut Rng) -> Option<u32> {
@@ -112,6 +114,8 @@ const TIGHT: i32 = 300;
 const FOR_A_TIE: i32 = WEIGHT_SCALE as i32;
 /// Radii with stations inside that have no weight.
 const WITH_SILENT: [i32; 6] = [71, 75, 90, 99, 100, 128];
+/// The scans from the third on, counted from 0.
+const LATE: [usize; 4] = [2, 3, 4, 5];
 /// Past the border of posts, and inside this radius.
 const FAR: i32 = 320;
 
@@ -124,12 +128,16 @@ pub fn add_round_a_point(rng: &Rng, call: &mut Call, part: &Window) {
     let rng = &mut rng.beside().beside();
     let room = MOST_STATIONS.saturating_sub(call.x.len());
     let is_grid = call.nx >= 2 && call.ny >= 2;
-    if call.rule() != LISTINGS || !is_grid || room < 4 || rng.one_in(3) {
+    if call.rule() != LISTINGS || !is_grid || room < 4 {
+        return;
+    }
+    if rng.one_in(3) {
+        add_rejected_late(rng, call, part);
         return;
     }
     let beside = rng.pick(&ALL);
     if matches!(beside, Beside::RejectedBefore) && rng.one_in(2) {
-        lengthen(rng, call);
+        lengthen(call, rng.pick(&[5, 6, 6]));
     }
     let scan = rng.up_to(call.scans - 1) as usize;
     let scan = match beside {
@@ -178,9 +186,47 @@ pub fn add_round_a_point(rng: &Rng, call: &mut Call, part: &Window) {
     put_beside(rng, call, point, radius, scan, beside);
 }
 
-/// Five scans or six, the last of them like the last there was.
-fn lengthen(rng: &mut Rng, call: &mut Call) {
-    let (scans, all) = (call.scans as usize, rng.pick(&[5, 6, 6]));
+/// Gives a third of the small requests that are left two stations inside at a point, of
+/// which a scan from the third on rejects one. Few do by chance.
+fn add_rejected_late(rng: &mut Rng, call: &mut Call, part: &Window) {
+    if !is_small(call) || !rng.one_in(3) {
+        return;
+    }
+    let scan = rng.pick(&LATE);
+    lengthen(call, scan + 1);
+    let radius = call.radius[scan];
+    let Some(point) = quiet_point(rng, call, part, radius, Beside::RejectedBefore) else {
+        return;
+    };
+    let (one, post) = (within(rng, call, point, radius), beyond(rng, call, point, radius, 1));
+    let another = post.or_else(|| within(rng, call, point, radius));
+    let (Some(one), Some(another)) = (one, another) else {
+        return;
+    };
+    let size = rng.pick(&[TIGHT, 10 * TIGHT, 100 * TIGHT]);
+    for place in [one, another] {
+        let d = rng.between(-size, size);
+        push(call, place, d);
+    }
+    // What is left of a D may grow before it falls.
+    call.limit[..scan].iter_mut().for_each(|limit| *limit = (*limit).max(2 * size));
+    reject_one_of_two(rng, call, scan);
+}
+
+/// Sets the limit of a scan between what the last two rows differ by there.
+fn reject_one_of_two(rng: &mut Rng, call: &mut Call, scan: usize) {
+    let before = run(&Call { scans: scan as u32, ..call.clone() });
+    let rows = call.x.len();
+    let size = |row| difference(call, &before.grid, row).abs().min((*LIMIT.end()).into()) as i32;
+    let (one, another) = (size(rows - 2), size(rows - 1));
+    if one != another {
+        call.limit[scan] = rng.between(one.min(another), one.max(another) - 1);
+    }
+}
+
+/// At least so many scans, the last of them like the last there was.
+fn lengthen(call: &mut Call, all: usize) {
+    let scans = call.scans as usize;
     if scans < all {
         let (radius, limit) = (call.radius[scans - 1], call.limit[scans - 1]);
         call.radius.truncate(scans);

@@ -8,7 +8,7 @@ use crate::generate::{
     big_call, edge_call, flavour, order_limits, small_call, tune_limits, untuned_call, whole_grid,
     Flavour, BIG_EVERY, TURNS,
 };
-use crate::generate_posts::move_beyond_the_cut;
+use crate::generate_posts::{add_beyond_a_corner, move_beyond_the_cut};
 use crate::generate_rims::add_on_a_rim;
 use crate::generate_rules::add_round_a_point;
 use crate::generate_window::{
@@ -95,6 +95,7 @@ fn with_screen(rng: &mut Rng, make: Make, lay: Lay) -> (Call, Screen) {
         tune_limits(rng, &mut call);
         order_limits(rng, &mut call);
     }
+    add_beyond_a_corner(rng, &mut call);
     let whole = whole_grid(&call);
     let part = windows.first().unwrap_or(&whole);
     add_round_a_point(rng, &mut call, part);
