@@ -483,7 +483,9 @@ uint32_t sosnyavik_analyse(
     uint32_t scans,
     const int32_t *radius, size_t radius_len,
     const int32_t *limit, size_t limit_len,
-    bool smooth, uint32_t mode, uint32_t rule, uint32_t time, uint32_t age,
+    bool smooth, uint32_t mode, uint32_t rule,
+    bool buddy, int32_t buddy_radius, int32_t buddy_limit,
+    uint32_t time, uint32_t age,
     int32_t *grid, size_t grid_len,
     uint8_t *support, size_t support_len,
     uint8_t *verdict, size_t verdict_len);
@@ -529,7 +531,9 @@ uint32_t sosnyavik_window(
     uint32_t scans,
     const int32_t *radius, size_t radius_len,
     const int32_t *limit, size_t limit_len,
-    bool smooth, uint32_t mode, uint32_t rule, uint32_t time, uint32_t age,
+    bool smooth, uint32_t mode, uint32_t rule,
+    bool buddy, int32_t buddy_radius, int32_t buddy_limit,
+    uint32_t time, uint32_t age,
     int32_t *grid, size_t grid_len,
     uint8_t *support, size_t support_len);
 /* clang-format on */
@@ -588,7 +592,9 @@ uint32_t sosnyavik_windows(
     uint32_t scans,
     const int32_t *radius, size_t radius_len,
     const int32_t *limit, size_t limit_len,
-    bool smooth, uint32_t mode, uint32_t rule, uint32_t time, uint32_t age,
+    bool smooth, uint32_t mode, uint32_t rule,
+    bool buddy, int32_t buddy_radius, int32_t buddy_limit,
+    uint32_t time, uint32_t age,
     int32_t *grid, size_t grid_len,
     uint8_t *support, size_t support_len);
 /* clang-format on */
@@ -786,6 +792,8 @@ struct sosnyavik_request {
     struct sosnyavik_i32_column radius SOSNYAVIK_OR({}), limit SOSNYAVIK_OR({});
     bool smooth SOSNYAVIK_OR(false);
     uint32_t mode SOSNYAVIK_OR(SOSNYAVIK_ROUND), rule SOSNYAVIK_OR(SOSNYAVIK_DEFAULT_RULE);
+    bool buddy SOSNYAVIK_OR(false);
+    int32_t buddy_radius SOSNYAVIK_OR(0), buddy_limit SOSNYAVIK_OR(0);
     uint32_t time SOSNYAVIK_OR(0), age SOSNYAVIK_OR(SOSNYAVIK_DEFAULT_AGE);
 };
 
@@ -806,7 +814,8 @@ struct sosnyavik_results {
     SOSNYAVIK_SLICE(sosnyavik_wind_or_none((of), (of)->wind_u)), \
     SOSNYAVIK_SLICE(sosnyavik_wind_or_none((of), (of)->wind_v)), \
     (of)->scans, SOSNYAVIK_SLICE((of)->radius), SOSNYAVIK_SLICE((of)->limit), \
-    (of)->smooth, (of)->mode, (of)->rule, (of)->time, (of)->age
+    (of)->smooth, (of)->mode, (of)->rule, (of)->buddy, (of)->buddy_radius, (of)->buddy_limit, \
+    (of)->time, (of)->age
 
 /* A wind column of a request; where both are left out, one of marks. More rows than there are marks are refused either way. */
 static inline struct sosnyavik_i32_column sosnyavik_wind_or_none(

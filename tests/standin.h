@@ -16,7 +16,8 @@ static uint32_t answer_windows(const struct sosnyavik_request *request, struct s
 #define GATHERED { \
     .nx = nx, .ny = ny, SLICE(first_guess), SLICE(x), SLICE(y), SLICE(value), SLICE(observed), SLICE(from), \
     SLICE(until), SLICE(wind_u), SLICE(wind_v), .scans = scans, SLICE(radius), SLICE(limit), .smooth = smooth, \
-    .mode = mode, .rule = rule, .time = time, .age = age}
+    .mode = mode, .rule = rule, .buddy = buddy, .buddy_radius = buddy_radius, .buddy_limit = buddy_limit, \
+    .time = time, .age = age}
 
 uint32_t sosnyavik_analyse(
     uint32_t nx, uint32_t ny, const int32_t *first_guess, size_t first_guess_len,
@@ -25,7 +26,8 @@ uint32_t sosnyavik_analyse(
     const uint32_t *until, size_t until_len,
     const int32_t *wind_u, size_t wind_u_len, const int32_t *wind_v, size_t wind_v_len,
     uint32_t scans, const int32_t *radius, size_t radius_len, const int32_t *limit, size_t limit_len,
-    bool smooth, uint32_t mode, uint32_t rule, uint32_t time, uint32_t age,
+    bool smooth, uint32_t mode, uint32_t rule, bool buddy, int32_t buddy_radius, int32_t buddy_limit,
+    uint32_t time, uint32_t age,
     int32_t *grid, size_t grid_len, uint8_t *support, size_t support_len, uint8_t *verdict, size_t verdict_len) {
     struct sosnyavik_request request = GATHERED;
     struct sosnyavik_results results = {SLICE(grid), SLICE(support), SLICE(verdict)};
@@ -40,7 +42,8 @@ uint32_t sosnyavik_window(
     const uint32_t *until, size_t until_len,
     const int32_t *wind_u, size_t wind_u_len, const int32_t *wind_v, size_t wind_v_len,
     uint32_t scans, const int32_t *radius, size_t radius_len, const int32_t *limit, size_t limit_len,
-    bool smooth, uint32_t mode, uint32_t rule, uint32_t time, uint32_t age,
+    bool smooth, uint32_t mode, uint32_t rule, bool buddy, int32_t buddy_radius, int32_t buddy_limit,
+    uint32_t time, uint32_t age,
     int32_t *grid, size_t grid_len, uint8_t *support, size_t support_len) {
     struct sosnyavik_request request = GATHERED;
     struct sosnyavik_ends ends = {.left = left, .right = right, .top = top, .bottom = bottom};
@@ -57,7 +60,8 @@ uint32_t sosnyavik_windows(
     const uint32_t *until, size_t until_len,
     const int32_t *wind_u, size_t wind_u_len, const int32_t *wind_v, size_t wind_v_len,
     uint32_t scans, const int32_t *radius, size_t radius_len, const int32_t *limit, size_t limit_len,
-    bool smooth, uint32_t mode, uint32_t rule, uint32_t time, uint32_t age,
+    bool smooth, uint32_t mode, uint32_t rule, bool buddy, int32_t buddy_radius, int32_t buddy_limit,
+    uint32_t time, uint32_t age,
     int32_t *grid, size_t grid_len, uint8_t *support, size_t support_len) {
     struct sosnyavik_request request = GATHERED;
     struct sosnyavik_screen screen = {SLICE(left), SLICE(right), SLICE(top), SLICE(bottom)};
