@@ -22,5 +22,5 @@ unfoldable pub afterTest : (scan limit : ℕ) → ℤ → ℕ → ℕ
 afterTest scan limit D verdict = cond (isAccepted verdict) (cond (ltb limit (natAbs D)) (10 + scan) 0) verdict
 
 -- in a scan of that number and limit E, by its differences
-unfoldable pub judged : (scan limit : ℕ) (D : Station → ℤ) → Row → Row
-judged scan limit D r = record { station = r .station; verdict = afterTest scan limit (D (r .station)) (r .verdict) }
+unfoldable pub tested : (scan limit : ℕ) (D : Station → ℤ) → Row → Row
+tested scan limit D r = record { station = r .station; verdict = afterTest scan limit (D (r .station)) (r .verdict) }

@@ -1,4 +1,4 @@
--- Document 01, "The scope and its exact rules", and of document 02 the requests that have landed: 1, posts beyond the border; 2, sixteen blocks per screen; 3, weights in ten-thousandths; 5, stretch along the wind; 6, the lone-station rule. (4, smoothing with less memory, changed no definition.)
+-- Document 01, "The scope and its exact rules", and of document 02 the requests that have landed: 1, posts beyond the border; 2, sixteen blocks per screen; 3, weights in ten-thousandths; 5, stretch along the wind; 6, the lone-station rule; 7, the buddy check. (4, smoothing with less memory, changed no definition.)
 --
 -- MUST BE BELIEVED, a file for each section, in the paper's order and words. Read them beside the paper.
 pub mod Units
@@ -8,6 +8,7 @@ pub mod Rounding
 pub mod Value
 pub mod Difference
 pub mod Weight
+pub mod Buddies
 pub mod Correction
 pub mod Smoothing
 pub mod Scan

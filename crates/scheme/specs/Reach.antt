@@ -5,14 +5,14 @@ use mathlib.Core.List.{List, [], _++_, map}
 use lib.IntN.{ℤ, pos, _-ℤ_}
 use Rattle.lists.specs.Sums.{total, upTo}
 use Rattle.lists.specs.Keep.{keep}
-use Rattle.scheme.specs.Units.{among, Field, stored, step, Station, Plan, R, Request, guess}
+use Rattle.scheme.specs.Units.{among, Field, stored, step, Station, Plan, R, B, Request, guess}
 use Rattle.scheme.specs.Refusals.{Span, Window, pointsAlong}
 use Rattle.scheme.specs.Value.{place}
 use Rattle.scheme.specs.Scan.{atEnd}
 
--- For each scan count R/64 rounded up, plus 1 if smoothing is on
+-- For each scan count R/64 rounded up, plus 1 if smoothing is on. R + B stands for R (document 02, 7)
 unfoldable pub steps : Plan → ℕ → ℕ
-steps p m = (R p m + (step - 1)) / step + cond (p .smooth) 1 0
+steps p m = (R p m + B p + (step - 1)) / step + cond (p .smooth) 1 0
 
 -- the reach is the total, in grid steps
 unfoldable pub reach : Plan → ℕ

@@ -10,7 +10,7 @@ use lib.Signed.{ltZ}
 use Rattle.lists.specs.Tab.{tab}
 use Rattle.lists.specs.Sums.{total}
 use Rattle.lists.specs.First.{Found, nowhere, at, first, firstIn}
-use Rattle.scheme.specs.Units.{among, amongℤ, within, mostValue, isMissing, leastSide, mostSide, mostStations, Wind, mostWind, isNoWind, Station, mostPosition, Columns, mostScans, mostRadius, mostLimit, windMode, equationRule, listingRule, Plan, Request, Call, asked}
+use Rattle.scheme.specs.Units.{among, amongℤ, within, mostValue, isMissing, leastSide, mostSide, mostStations, Wind, mostWind, isNoWind, Station, mostPosition, Columns, mostScans, mostRadius, mostLimit, mostBuddyRadius, mostBuddyLimit, windMode, equationRule, listingRule, Plan, Request, Call, asked}
 
 pub data Refusal : Type 0 where
   accepted : Refusal
@@ -140,6 +140,12 @@ badScan p m =
     not (amongℤ (pos 1) (pos mostRadius) (getD (p .radius) m (pos 0))) || rising p m
     || not (amongℤ (pos 0) (pos mostLimit) (getD (p .limit) m (pos 0)))
 
+-- 6 after the scans, with place 6: B or L out of range, if the check is on (document 02, 7)
+unfoldable pub badBuddies : Plan → Bool
+badBuddies p =
+    p .buddies .on
+    && (not (amongℤ (pos 1) (pos mostBuddyRadius) (p .buddies .radius)) || not (amongℤ (pos 0) (pos mostBuddyLimit) (p .buddies .limit)))
+
 -- 7: first-guess value out of range
 unfoldable pub badGuess : ℤ → Bool
 badGuess v = not (within mostValue v)
@@ -162,6 +168,7 @@ unfoldable pub fromFive : Request → List Refusal
 fromFive q =
     refusedIf 5 (badScans (q .plan))
     ∷ refusedAt 6 (first (q .plan .scans) (badScan (q .plan)))
+    ∷ refusedWith 6 mostScans (badBuddies (q .plan))
     ∷ refusedAt 7 (firstIn badGuess (q .firstGuess))
     ∷ refusedAt 8 (firstIn badStation (q .stations))
     ∷ []

@@ -4,9 +4,11 @@ use mathlib.Core.Bool.{cond}
 use mathlib.Core.List.{List, map}
 use lib.IntN.{ℤ, _+ℤ_}
 use Rattle.lists.specs.Sums.{total}
-use Rattle.scheme.specs.Units.{Station, mostBeyond, Field, stored, R, E, Request, guess}
+use Rattle.lists.specs.Parted.{each}
+use Rattle.scheme.specs.Units.{Station, mostBeyond, Field, stored, R, E, B, L, Request, guess}
 use Rattle.scheme.specs.Verdicts.{beforeScans}
-use Rattle.scheme.specs.Difference.{Row, difference, judged}
+use Rattle.scheme.specs.Difference.{Row, difference, tested}
+use Rattle.scheme.specs.Buddies.{besideOthers}
 use Rattle.scheme.specs.Correction.{Sums, nothing, plus, share, correction, backedBy}
 use Rattle.scheme.specs.Smoothing.{smoothed}
 
@@ -30,9 +32,13 @@ abbrev pub differences : Request → State → Station → ℤ
 differences q found = difference (q .nx) (q .ny) (guess q) (found .field)
 
 module _ (q : Request) (m : ℕ) (found : State) where
-  -- All stations are judged before any point changes
+  -- All stations are judged before any point changes: each by the E test
+  unfoldable pub rowsTested : List Row
+  rowsTested = map (tested (m + 1) (E (q .plan) m) (differences q found)) (found .rows)
+
+  -- and after it beside the others, against the same survivors, at once (document 02, 7)
   unfoldable pub rowsJudged : List Row
-  rowsJudged = map (judged (m + 1) (E (q .plan) m) (differences q found)) (found .rows)
+  rowsJudged = each (besideOthers (m + 1) (B (q .plan)) (L (q .plan)) (differences q found)) rowsTested
 
   unfoldable pub sumsAt : Field Sums
   sumsAt i j = total nothing plus (share (q .plan .mode) (R (q .plan) m) (differences q found) i j) rowsJudged

@@ -11,10 +11,10 @@ use lib.Dec.{ltb, eqb}
 use lib.ListN.{length}
 use Reader.{Result, fails, reads, _>>=_, _>>_, gives, _or_}
 use Pieces.{ascii, count, unsigned}
-use Lines.{number, gridLine, scanLine, rowLine, stationLine}
+use Lines.{number, gridLine, scanLine, buddyLine, rowLine, stationLine}
 use Order.{Text, line, lines, rows, nothingAfter}
 use Printed.{decimal, integer, keyed, gridLines}
-use Rattle.scheme.specs.Units.{mostScans, mostStations, roundMode, equationRule, listingRule, asking, Request}
+use Rattle.scheme.specs.Units.{mostScans, mostStations, roundMode, equationRule, listingRule, noBuddies, asking, Request}
 use Rattle.scheme.specs.Refusals.{numberOf, placeOf, unlessRefused, inOrder, fromFive}
 use Rattle.scheme.specs.Scan.{Analysis, analysis}
 
@@ -29,7 +29,8 @@ defaultRule = equationRule
 abbrev pub mostBytes : ℕ
 mostBytes = 65536
 
--- ---- the request: its lines, in this order, and nothing after. The text program stays with the round mode (document 02, 5)
+-- ---- the request: its lines, in this order, and nothing after. The text program stays with the round mode (document 02, 5). `buddy` may be left out,
+-- which means that the check is off (document 02, 7)
 
 unfoldable pub requestLines : Text Request
 requestLines = do
@@ -40,11 +41,12 @@ requestLines = do
   rule ← line (number (ascii "rule=") (count equationRule listingRule)) or gives defaultRule
   scans ← line (number (ascii "scans=") (count 1 mostScans))
   plan ← lines scans scanLine
+  buddies ← line buddyLine or gives noBuddies
   guess ← rows (size .ny) (rowLine (size .nx))
   many ← line (number (ascii "stations=") (count 0 mostStations))
   stations ← lines many stationLine
   nothingAfter
-  gives (asking (size .nx) (size .ny) guess stations scans (map (λ t. t .radius) plan) (map (λ t. t .limit) plan) (eqb smooth 1) roundMode rule time age)
+  gives (asking (size .nx) (size .ny) guess stations scans (map (λ t. t .radius) plan) (map (λ t. t .limit) plan) (eqb smooth 1) roundMode rule buddies time age)
 
 -- ---- the answer
 

@@ -1,6 +1,6 @@
 -- "Units and sizes": the numbers of the paper, each under a name, the grid, the station list, the plan, and a request.
 use Prim.Native.Nat.{ℕ, _+_, _*_, _/_, _%_}
-use mathlib.Core.Bool.{Bool, _&&_}
+use mathlib.Core.Bool.{Bool, false, cond, _&&_}
 use mathlib.Core.List.{List}
 use lib.Dec.{leb}
 use lib.ListN.{length, getD}
@@ -150,6 +150,21 @@ equationRule = 1
 abbrev pub listingRule : ℕ
 listingRule = 2
 
+-- B is 1..512, L is 0..2,000,000, one pair for the plan; the buddy check may be off, and then neither is read (document 02, 7)
+abbrev pub mostBuddyRadius : ℕ
+mostBuddyRadius = 512
+
+abbrev pub mostBuddyLimit : ℕ
+mostBuddyLimit = 2000000
+
+pub record Buddies : Type 0 where
+  pub on : Bool
+  pub radius : ℤ
+  pub limit : ℤ
+
+abbrev pub noBuddies : Buddies
+noBuddies = record { on = false; radius = pos 0; limit = pos 0 }
+
 pub record Plan : Type 0 where
   pub scans : ℕ
   pub radius : List ℤ
@@ -157,6 +172,7 @@ pub record Plan : Type 0 where
   pub smooth : Bool
   pub mode : ℕ
   pub rule : ℕ
+  pub buddies : Buddies
 
 -- R and E of scan m, counted from 0. In an accepted plan neither is negative
 unfoldable pub R : Plan → ℕ → ℕ
@@ -164,6 +180,13 @@ R p m = natAbs (getD (p .radius) m (pos 0))
 
 unfoldable pub E : Plan → ℕ → ℕ
 E p m = natAbs (getD (p .limit) m (pos 0))
+
+-- B and L. With the check off B is 0: no station is nearer than that to another, so that none is judged by others
+unfoldable pub B : Plan → ℕ
+B p = cond (p .buddies .on) (natAbs (p .buddies .radius)) 0
+
+unfoldable pub L : Plan → ℕ
+L p = natAbs (p .buddies .limit)
 
 -- ---- What is asked: grid and first guess, stations, plan, analysis minute T, greatest age A
 
@@ -184,9 +207,9 @@ abbrev pub Call : Type 0
 Call = Asking Columns
 
 -- what is asked, from its parts: as a text says them, or a call is handed them
-abbrev pub asking : {S : Type 0} (nx ny : ℕ) (firstGuess : List ℤ) → S → (scans : ℕ) (radius limit : List ℤ) → Bool → (mode rule T A : ℕ) → Asking S
-asking nx ny firstGuess stations scans radius limit smooth mode rule T A =
-    let plan : Plan = record { scans = scans; radius = radius; limit = limit; smooth = smooth; mode = mode; rule = rule } in
+abbrev pub asking : {S : Type 0} (nx ny : ℕ) (firstGuess : List ℤ) → S → (scans : ℕ) (radius limit : List ℤ) → Bool → (mode rule : ℕ) → Buddies → (T A : ℕ) → Asking S
+asking nx ny firstGuess stations scans radius limit smooth mode rule buddies T A =
+    let plan : Plan = record { scans = scans; radius = radius; limit = limit; smooth = smooth; mode = mode; rule = rule; buddies = buddies } in
     record { nx = nx; ny = ny; firstGuess = firstGuess; stations = stations; plan = plan; T = T; A = A }
 
 -- the same, of other stations

@@ -1,8 +1,9 @@
 -- The lines of a request: one number, and a definition for each key that says more. Each is key=value, ended by a line feed.
 use Prim.Native.Nat.{ℕ}
+use mathlib.Core.Bool.{true}
 use mathlib.Core.List.{List}
 use lib.IntN.{ℤ}
-use Rattle.scheme.specs.Units.{leastSide, mostSide, noWind, Station, missingMark, noEnd}
+use Rattle.scheme.specs.Units.{leastSide, mostSide, noWind, Buddies, Station, missingMark, noEnd}
 use Rattle.scheme.specs.Text.Reader.{_>>=_, _>>_, gives, _or_, _before_}
 use Rattle.scheme.specs.Text.Pieces.{ascii, Piece, word, comma, lineFeed, count, unsigned, signed, values}
 
@@ -33,6 +34,14 @@ scanLine = do
   radius ← signed before comma
   limit ← signed before lineFeed
   gives (record { radius = radius; limit = limit })
+
+-- `buddy` is B,L, and means that the check is on (document 02, 7)
+unfoldable pub buddyLine : Piece Buddies
+buddyLine = do
+  word (ascii "buddy=")
+  radius ← signed before comma
+  limit ← signed before lineFeed
+  gives (record { on = true; radius = radius; limit = limit })
 
 -- `row` is one grid row
 unfoldable pub rowLine : ℕ → Piece (List ℤ)
