@@ -60,6 +60,9 @@ pub struct Terms {
     pub smooth: bool,
     pub mode: u32,
     pub rule: u32,
+    pub buddy: bool,
+    pub buddy_radius: i32,
+    pub buddy_limit: i32,
     pub time: u32,
     pub age: u32,
 }
@@ -105,11 +108,14 @@ pub fn terms_of(
     smooth: bool,
     mode: u32,
     rule: u32,
+    buddy: bool,
+    buddy_radius: i32,
+    buddy_limit: i32,
     time: u32,
     age: u32,
 ) -> Terms
     requires { ⌜ (scans ≤ mostScans) × (scans ≤ length (now radius)) × (scans ≤ length (now limit)) ⌝ }
-    ensures { λ t. ⌜ Termed t nx ny stations (record { scans = scans; radius = now (radius .entry); limit = now (limit .entry); smooth = smooth; mode = mode; rule = rule }) time age ⌝ }
+    ensures { λ t. ⌜ Termed t nx ny stations (record { scans = scans; radius = now (radius .entry); limit = now (limit .entry); smooth = smooth; mode = mode; rule = rule; buddies = record { on = buddy; radius = «buddy_radius»; limit = «buddy_limit» } }) time age ⌝ }
 {
     let radii = first_entries(radius, scans as usize);
     let limits = first_entries(limit, scans as usize);
@@ -123,6 +129,9 @@ pub fn terms_of(
         smooth,
         mode,
         rule,
+        buddy,
+        buddy_radius,
+        buddy_limit,
         time,
         age,
     }
