@@ -32,6 +32,8 @@ static const struct cluster CLUSTERS[] = {
      {{100, 100, 0}, {150, 100, 0}, {100, 150, 0}, {130, 130, 100}}, {0, 0, 0, 21}},
     {"an odd mast on a frosty spot", 128, 60, 4,
      {{130, 130, -100}, {150, 100, 0}, {100, 150, 0}, {100, 100, 0}}, {21, 0, 0, 0}},
+    {"an odd mast before one that is far off, and its neighbours after that", 128, 60, 5,
+     {{130, 130, 100}, {100, 400, 0}, {150, 100, 0}, {400, 130, 0}, {100, 150, 0}}, {21, 0, 0, 0, 0}},
     {"a mast as far from two neighbours as it may be", 64, 90, 3,
      {{100, 100, 0}, {160, 100, 90}, {220, 100, 0}}, {0, 0, 0}},
     {"a mast one too far from two neighbours", 64, 89, 3,

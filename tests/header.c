@@ -729,11 +729,14 @@ static void judges(Call *call, Request q, const uint8_t *verdict, const char *wh
 // radius of 90 nobody has any. At one place two of the three are set aside, each with the other for a neighbour.
 static void buddies(Call *call) {
     static const uint8_t none[ROWS] = {0, 0, 0}, middle[ROWS] = {21, 0, 0}, two[ROWS] = {21, 21, 0};
+    static const uint8_t rejected[ROWS] = {0, 11, 0};
     Request q = in_service(91, 130);
     judges(call, q, none, "a mast as far from two buddies as it may be");
     judges(call, in_service(91, 129), middle, "a mast one too far from two buddies");
     judges(call, in_service(91, 0), middle, "masts with one neighbour each");
     judges(call, in_service(90, 0), none, "masts with no neighbour");
+    q = in_service(91, 0), q.value[1] = 640 - 201, judges(call, q, rejected, "a neighbour that the limit takes before");
+    q = in_service(91, 130);
     q.rule = SOSNYAVIK_LISTINGS, q.buddy_limit = 129, judges(call, q, middle, "buddies by the listings");
     q = in_service(1, 129), q.x[1] = q.x[2] = q.y[1] = q.y[2] = 64, judges(call, q, two, "buddies at one place");
     q = in_service(64, 0), q.x[1] = 0, q.y[1] = 64, q.x[2] = 128, q.y[2] = 64;
@@ -756,6 +759,8 @@ static void buddies_in_two_scans(Call *call) {
          "buddies in the second scan");
     must(r.grid[0] == 700 && r.support[0] == 3, "the grid after buddies in the second scan");
     q.scans = 1, must(call(&q, &r) == 0 && r.verdict[0] == 0 && r.grid[0] == 700, "buddies in the first scan");
+    q = in_service(91, 129), q.scans = q.plan_len = 2, q.radius[1] = 96;
+    must(call(&q, &r) == 0 && r.verdict[0] == 21 && r.grid[4] == 638, "a mast that is set aside for good");
 }
 
 // By its true position, 200 units off, and not by the place on the border that it is held to.
