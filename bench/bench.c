@@ -62,10 +62,10 @@ struct evening {
 
 static const struct evening EVENINGS[] = {
     {"a", 64, 64, 512, 6, SIX(1024), SIX(ANY), true, ON_GRID, 512, 640},
-    {"b", 48, 48, 60, 4, {512, 320, 192, 128}, {640, 512, 384, 320}, true, ON_GRID, 512, 96},
-    {"c", 16, 16, 12, 2, {320, 192}, {640, 384}, false, ON_GRID, 320, 96},
-    {"p", 64, 64, 64, 4, {512, 320, 192, 128}, {640, 512, 384, 320}, true, POSTS, 512, 96},
-    {"w", 64, 64, 512, 2, {128, 64}, {640, 512}, true, ON_GRID, 128, 96},
+    {"b", 48, 48, 60, 4, {512, 320, 192, 128}, {640, 512, 384, 320}, true, ON_GRID, 512, 160},
+    {"c", 16, 16, 12, 2, {320, 192}, {640, 384}, false, ON_GRID, 320, 144},
+    {"p", 64, 64, 64, 4, {512, 320, 192, 128}, {640, 512, 384, 320}, true, POSTS, 512, 160},
+    {"w", 64, 64, 512, 2, {128, 64}, {640, 512}, true, ON_GRID, 128, 160},
     /* A sparse night: most points that hear a station hear one. */
     {"l", 64, 64, 48, 2, {256, 192}, {ANY, ANY}, true, ON_GRID, 512, 640},
     /* Buddies near each other among stations that are spread. All are judged, and nobody is set aside: so with buddies
