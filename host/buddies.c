@@ -140,16 +140,23 @@ static void must_show(const struct evening *evening, const struct answer *whole,
     free_screen(&screen);
 }
 
-/* Point by point, and each row by screens of up to sixteen points. */
+/* All points by screens of so many of a row. */
+static void must_show_all(const struct evening *evening, const struct answer *whole, uint32_t at_a_time,
+                          const char *what) {
+    for (uint32_t row = 0; row < evening->ny; row++) {
+        for (uint32_t column = 0; column < evening->nx; column += at_a_time) {
+            uint32_t left = evening->nx - column;
+            must_show(evening, whole, row, column, left < at_a_time ? left : at_a_time, what);
+        }
+    }
+}
+
+/* Point by point, and by screens: of three windows, which their cuts serve where these are small, and of sixteen. */
 static void must_read_in_parts(const struct evening *evening, const struct answer *whole, const char *what) {
     for (uint32_t point = 0; point < evening->nx * evening->ny; point++)
         must_read_alone(evening, whole, point, what);
-    for (uint32_t row = 0; row < evening->ny; row++) {
-        for (uint32_t column = 0; column < evening->nx; column += SOSNYAVIK_MOST_WINDOWS) {
-            uint32_t left = evening->nx - column;
-            must_show(evening, whole, row, column, left < SOSNYAVIK_MOST_WINDOWS ? left : SOSNYAVIK_MOST_WINDOWS, what);
-        }
-    }
+    must_show_all(evening, whole, 3, what);
+    must_show_all(evening, whole, SOSNYAVIK_MOST_WINDOWS, what);
 }
 
 /* Of one scan: as if those that are set aside had said nothing, and nobody had been held to anyone. */
