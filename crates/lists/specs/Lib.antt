@@ -9,3 +9,4 @@ pub mod Members
 pub mod Keep
 pub mod Parted
 pub mod Turns
+pub mod Chains
