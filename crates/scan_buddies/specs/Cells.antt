@@ -9,8 +9,8 @@ use mathlib.Core.List.{List, []}
 use borrow.Author.Tests.{ltb-true, ltb-false}
 use lib.Dec.{ltb}
 use lib.ListN.{getD}
-use lib.IntN.{ℤ, pos, natAbs, _-ℤ_}
-use Rattle.integers.specs.Parts.{up, dn, minus-parts, size-parts}
+use lib.IntN.{ℤ, pos, natAbs, _+ℤ_, _-ℤ_}
+use Rattle.integers.specs.Parts.{up, dn, eq-parts, add-parts, size-parts}
 use Rattle.integers.specs.Sizes.{apart}
 use Rattle.integers.specs.Fractions.{whole-part-order}
 use Rattle.lists.specs.Tests.{lt-or-le, cond-both}
@@ -76,6 +76,13 @@ module _ (radius : ℕ) where
   pub side-wide : radius ≤ sideOf radius
   unfolding sideOf
   side-wide = cond-both (λ (s : ℕ). radius ≤ s) (ltb radius leastSide) leastSide radius (λ e. omega (arith, ltb-true radius leastSide e)) (λ e. omega arith)
+
+-- positions are small, and none is below -256
+pub axis-small : (x : ℤ) → OnAxis x → natAbs x ≤ 4544
+axis-small x on = omega (arith, size-parts x, on .low, on .high)
+
+pub from-least : (x : ℤ) → OnAxis x → x +ℤ pos mostBeyond ≡ pos (offset x)
+from-least x on = eq-parts (x +ℤ pos mostBeyond) (pos (offset x)) (omega (arith, add-parts x (pos mostBeyond), on .low))
 
 -- a cell's place along an axis has one before it and one after
 pub record InRow (c : ℕ) : Type 0 where

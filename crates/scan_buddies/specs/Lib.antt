@@ -3,3 +3,4 @@ pub mod Aside
 pub mod Voices
 pub mod Cells
 pub mod Nine
+pub mod Walks

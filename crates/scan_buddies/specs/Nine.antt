@@ -5,18 +5,18 @@ use mathlib.Core.Path.{_≡_, refl, sym, ap, _∙_}
 use mathlib.Core.Logic.{_⊎_, inl, inr}
 use mathlib.Core.Bool.{Bool, true, false, cond, _&&_}
 use mathlib.Core.List.{List, []}
-use borrow.Author.Tests.{eqb-true, eqb-false, eq-eqb, ne-eqb}
+use borrow.Author.Tests.{eqb-true, eqb-false, eq-eqb, ne-eqb, lt-ltb, le-ltb}
 use lib.Dec.{eqb}
 use lib.ListN.{getD}
 use lib.IntN.{ℤ, pos, natAbs, _-ℤ_}
 use Rattle.lists.specs.Tests.{lt-or-le, true-or-false, cond-same, cond-both}
 use Rattle.lists.specs.Sums.{upTo, upTo-same, upTo-both}
 use Rattle.scheme.specs.Verdicts.{isAccepted}
-use Rattle.scheme.specs.Weight.{inside}
+use Rattle.scheme.specs.Weight.{squares, inside}
 use Rattle.scheme.specs.Buddies.{Heard, silence, both}
-use Rattle.scan_buddies.specs.Aside.{xOf, yOf, said, heardAt, Standing}
+use Rattle.scan_buddies.specs.Aside.{xOf, yOf, said, heardAt, OnAxis, Standing}
 use Rattle.scan_buddies.specs.Voices.{told, silence-both, both-silence, both-assoc, both-comm, OfAtMost, of-none, of-one, between, fromCells, among-them, below-them, beyond-them}
-use Rattle.scan_buddies.specs.Cells.{across, cells, sideOf, cellAlong, cellOf, cellFor, cellAt, Survivors, side-least, side-wide, InRow, along-in-row, along-near, inside-axes}
+use Rattle.scan_buddies.specs.Cells.{across, cells, kinds, sideOf, cellAlong, cellOf, cellFor, cellAt, Survivors, side-least, side-wide, InRow, along-in-row, along-near, inside-axes}
 
 -- row j is at distance below B from row k
 abbrev pub near : (radius : ℕ) (numbers : List (List ℤ)) (k j : ℕ) → Bool
@@ -42,6 +42,20 @@ module _ (radius : ℕ) (numbers : List (List ℤ)) (ds : List ℤ) (k : ℕ) wh
   voice-small j s =
       cond-both (OfAtMost 1) (eqb j k) silence _ (λ e. of-none 1)
       (λ e. cond-both (OfAtMost 1) (near radius numbers k j) (told 1 (getD ds j (pos 0))) silence (λ e. of-one (getD ds j (pos 0)) (s .d-small)) (λ e. of-none 1))
+
+  pub voice-itself : (j : ℕ) → j ≡ k → voice radius numbers ds k j ≡ silence
+  unfolding voice
+  voice-itself j e = rw (eq-eqb j k e)
+
+  -- by the squared distance
+  module _ (j d2 : ℕ) (other : j ≡ k → ⊥) (is : d2 ≡ squares (xOf (getD numbers j []) -ℤ xOf (getD numbers k [])) (yOf (getD numbers j []) -ℤ yOf (getD numbers k []))) where
+    pub voice-far : radius * radius ≤ d2 → voice radius numbers ds k j ≡ silence
+    unfolding voice
+    voice-far h = rw (ne-eqb j k other, ← is, le-ltb d2 (radius * radius) h)
+
+    pub voice-near : d2 < radius * radius → voice radius numbers ds k j ≡ told 1 (getD ds j (pos 0))
+    unfolding voice
+    voice-near h = rw (ne-eqb j k other, ← is, lt-ltb d2 (radius * radius) h)
 
   survivor-says : (st : List ℕ) (j : ℕ) → isAccepted (getD st j 0) ≡ true → said radius numbers st ds k j ≡ voice radius numbers ds k j
   unfolding said voice
@@ -105,12 +119,19 @@ pub record Framed (c : ℕ) : Type 0 where
   pub least : across + 1 ≤ c
   pub most : c + across + 2 ≤ cells
 
-pub cell-framed : (radius : ℕ) {d : ℤ} (row : List ℤ) → Standing row d → Framed (cellOf radius row)
+pub cell-framed : (radius : ℕ) (row : List ℤ) → OnAxis (xOf row) → OnAxis (yOf row) → Framed (cellOf radius row)
 unfolding cellOf
-cell-framed radius row s =
-    let x = along-in-row (sideOf radius) (side-least radius) (xOf row) (s .x) in
-    let y = along-in-row (sideOf radius) (side-least radius) (yOf row) (s .y) in
+cell-framed radius row on on' =
+    let x = along-in-row (sideOf radius) (side-least radius) (xOf row) on in
+    let y = along-in-row (sideOf radius) (side-least radius) (yOf row) on' in
     record { least = omega (arith, x .some, y .some); most = omega (arith, x .most, y .most) }
+
+-- every row's chain is one of the chains
+pub cell-of-kinds : (radius verdict : ℕ) (row : List ℤ) → (verdict ≡ 0 → OnAxis (xOf row) × OnAxis (yOf row)) → cellFor radius verdict row < kinds
+unfolding cellFor
+cell-of-kinds radius verdict row h =
+    cond-both (λ (c : ℕ). c < kinds) (isAccepted verdict) (cellOf radius row) cells
+    (λ e. let (on, on') = h (eqb-true verdict 0 e) in omega (arith, cell-framed radius row on on' .most)) (λ e. omega arith)
 
 -- the cell of row j, by its verdict
 module _ (radius : ℕ) (numbers : List (List ℤ)) (st : List ℕ) (j : ℕ) where
@@ -159,7 +180,7 @@ module _ (radius : ℕ) (numbers : List (List ℤ)) (ds : List ℤ) (heads next 
       cell-is = unfold cellOf in refl
 
       first-is : b + across + 1 ≡ cellAlong (sideOf radius) (yOf row) * across + cellAlong (sideOf radius) (xOf row)
-      first-is = omega (arith, cell-is, cell-framed radius row here .least)
+      first-is = omega (arith, cell-is, cell-framed radius row (here .x) (here .y) .least)
 
   survivor-heard : (j : ℕ) → Standing (getD numbers j []) (getD ds j (pos 0)) → inRows b (cellOf radius (getD numbers j [])) (v j) ≡ v j
   survivor-heard j there = go (true-or-false (eqb j k)) (true-or-false (near radius numbers k j))
@@ -184,7 +205,7 @@ module _ (radius : ℕ) (numbers : List (List ℤ)) (ds : List ℤ) (heads next 
           (survivor-heard j (s .standing j l (eqb-true (getD st j 0) 0 e)))
       go (inr e) =
           rw (other-cell radius numbers st j e, other-says radius numbers ds k st j e)
-          (past-rows b cells (v j) (omega (arith, cell-framed radius row here .least, cell-framed radius row here .most)))
+          (past-rows b cells (v j) (omega (arith, cell-framed radius row (here .x) (here .y) .least, cell-framed radius row (here .x) (here .y) .most)))
 
   pub nine-are-all : nine (cellAt radius numbers st) n b v ≡ heardAt radius numbers st ds n k
   unfolding fromCells heardAt

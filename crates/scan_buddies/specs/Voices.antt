@@ -44,6 +44,13 @@ of-none n = record { few = omega arith; small = omega arith }
 pub of-one : (d : ℤ) → natAbs d ≤ mostLimit → OfAtMost 1 (told 1 d)
 of-one d h = record { few = omega arith; small = omega arith }
 
+pub of-more : (n m : ℕ) (h : Heard) → n ≤ m → OfAtMost n h → OfAtMost m h
+of-more n m h l p = record { few = omega (arith, p .few); small = omega (arith, p .small) }
+
+pub of-both : (n : ℕ) (a b : Heard) → OfAtMost n a → OfAtMost n b → OfAtMost (2 * n) (both a b)
+of-both n a b p q =
+    record { few = omega (arith, p .few, q .few); small = omega (arith, size-add (a .sum) (b .sum), p .small, q .small) }
+
 pub sum-of-most : (n : ℕ) (f : ℕ → Heard) → ((j : ℕ) → j < n → OfAtMost 1 (f j)) → OfAtMost n (upTo silence both n f)
 unfolding upTo
 sum-of-most zero f h = of-none 0

@@ -153,7 +153,7 @@ fn from_cell(
 
 // What is heard of some, and of others.
 fn joined(a: Told, b: Told) -> Told
-    requires { ⌜ OfAtMost mostStations (told (a .count) (a .sum)) × OfAtMost mostStations (told (b .count) (b .sum)) ⌝ }
+    requires { ⌜ OfAtMost (2 * mostStations) (told (a .count) (a .sum)) × OfAtMost (2 * mostStations) (told (b .count) (b .sum)) ⌝ }
     ensures { λ r. ⌜ told (r .count) (r .sum) ≡ both (told (a .count) (a .sum)) (told (b .count) (b .sum)) ⌝ }
 {
     let more = a.count + b.count;
@@ -161,5 +161,119 @@ fn joined(a: Told, b: Told) -> Told
     Told {
         count: more,
         sum: all,
+    }
+}
+
+// What station k hears of those in three cells of a row of cells.
+fn from_three(
+    first: usize,
+    k: usize,
+    radius: u32,
+    heads: &[u16; 1445],
+    next: &[u16; 512],
+    d: &[i64; 512],
+    numbers: &[[i32; 5]; 512],
+) -> Told
+    requires { ⌜ (first + 3 ≤ cells) × (k < mostStations) × (radius ≤ mostBuddyRadius) × Standing (getD (now numbers) k []) (getD (now d) k (pos 0))
+        × Chains radius (now numbers) (now d) (now heads) (now next) ⌝ }
+    ensures { λ r. ⌜ ((n : ℕ) (st : List ℕ) → Survivors radius (now (numbers .entry)) (now (d .entry)) (now (heads .entry)) (now (next .entry)) n st
+        → told (r .count) (r .sum) ≡ three (cellAt radius (now (numbers .entry)) st) n first (voice radius (now (numbers .entry)) (now (d .entry)) k)) ⌝ }
+{
+    let left = from_cell(first, k, radius, heads, next, d, numbers);
+    let mid = from_cell(first + 1, k, radius, heads, next, d, numbers);
+    let right = from_cell(first + 2, k, radius, heads, next, d, numbers);
+    joined(joined(left, mid), right)
+}
+
+// What station k hears of all: of those in its own cell and the eight around it, since the others are no nearer than B.
+fn hears(
+    k: usize,
+    radius: u32,
+    heads: &[u16; 1445],
+    next: &[u16; 512],
+    d: &[i64; 512],
+    numbers: &[[i32; 5]; 512],
+) -> Told
+    requires { ⌜ (k < mostStations) × (radius ≤ mostBuddyRadius) × Standing (getD (now numbers) k []) (getD (now d) k (pos 0))
+        × Chains radius (now numbers) (now d) (now heads) (now next) ⌝ }
+    ensures { λ r. ⌜ ((n : ℕ) (st : List ℕ) → Survivors radius (now (numbers .entry)) (now (d .entry)) (now (heads .entry)) (now (next .entry)) n st
+        → told (r .count) (r .sum) ≡ heardAt radius (now (numbers .entry)) st (now (d .entry)) n k) ⌝ }
+{
+    let first = cell_of(radius, numbers[k]) - ACROSS - 1;
+    let above = from_three(first, k, radius, heads, next, d, numbers);
+    let level = from_three(first + ACROSS, k, radius, heads, next, d, numbers);
+    let below = from_three(first + 2 * ACROSS, k, radius, heads, next, d, numbers);
+    joined(joined(above, level), below)
+}
+
+// |z|.
+fn size_of(z: i64) -> u64
+    requires { ⌜ natAbs z ≤ 2 * mostStations * mostLimit ⌝ }
+    ensures { λ r. ⌜ r ≡ natAbs z ⌝ }
+{
+    if z < 0 { (-z) as u64 } else { z as u64 }
+}
+
+// Whether a station of difference d is odd beside the neighbours that it hears.
+fn is_odd(limit: u32, d: i64, count: u32, sum: i64) -> bool
+    requires { ⌜ (natAbs d ≤ mostLimit) × OfAtMost mostStations (told count sum) ⌝ }
+    ensures { λ r. ⌜ r ≡ isOdd limit d (told count sum) ⌝ }
+{
+    if count < 2 {
+        return false;
+    }
+    let gap = (count as i64) * d - sum;
+    (count as u64) * (limit as u64) < size_of(gap)
+}
+
+// The verdict of row k after the buddy check of a scan.
+fn verdict_beside(
+    verdict: u8,
+    k: usize,
+    radius: u32,
+    limit: u32,
+    scan: u8,
+    heads: &[u16; 1445],
+    next: &[u16; 512],
+    d: &[i64; 512],
+    numbers: &[[i32; 5]; 512],
+) -> u8
+    requires { ⌜ (k < mostStations) × (radius ≤ mostBuddyRadius) × (scan ≤ mostScans) × (verdict ≡ 0 → Standing (getD (now numbers) k []) (getD (now d) k (pos 0)))
+        × Chains radius (now numbers) (now d) (now heads) (now next) ⌝ }
+    ensures { λ r. ⌜ ((n : ℕ) (st : List ℕ) → Survivors radius (now (numbers .entry)) (now (d .entry)) (now (heads .entry)) (now (next .entry)) n st
+        → r ≡ afterBuddies scan limit (getD (now (d .entry)) k (pos 0)) (heardAt radius (now (numbers .entry)) st (now (d .entry)) n k) verdict) ⌝ }
+{
+    if verdict != 0 {
+        return verdict;
+    }
+    let s = hears(k, radius, heads, next, d, numbers);
+    if is_odd(limit, d[k], s.count, s.sum) {
+        20 + scan
+    } else {
+        0
+    }
+}
+
+// Each survivor that is odd beside its neighbours is set aside. A verdict may change at once, since all hear those that the chains held before any
+// did.
+pub fn set_aside(
+    verdict: &mut [u8],
+    d: &[i64; 512],
+    numbers: &[[i32; 5]; 512],
+    stations: usize,
+    radius: u32,
+    limit: u32,
+    scan: u8,
+)
+    requires { ⌜ AsideReady (now verdict) (now d) (now numbers) stations radius scan ⌝ }
+    ensures { λ u. ⌜ Filled 0 (asideAt scan radius limit (now (numbers .entry)) (now (verdict .entry)) (now (d .entry)) stations) 0 stations (now (verdict .entry)) (now (verdict .exit)) ⌝ }
+{
+    let mut heads = [0u16; 1445];
+    let mut next = [0u16; 512];
+    chain(&mut heads, &mut next, verdict, stations, radius, numbers);
+    let mut k: usize = 0;
+    while k < stations {
+        verdict[k] = verdict_beside(verdict[k], k, radius, limit, scan, &heads, &next, d, numbers);
+        k += 1;
     }
 }
