@@ -14,8 +14,8 @@ use Rattle.lists.specs.Sums.{upTo, upTo-same, upTo-both}
 use Rattle.scheme.specs.Verdicts.{isAccepted}
 use Rattle.scheme.specs.Weight.{squares, inside}
 use Rattle.scheme.specs.Buddies.{Heard, silence, both}
-use Rattle.scan_buddies.specs.Aside.{xOf, yOf, said, heardAt, OnAxis, Standing}
-use Rattle.scan_buddies.specs.Voices.{told, silence-both, both-silence, both-assoc, both-comm, OfAtMost, of-none, of-one, between, fromCells, among-them, below-them, beyond-them}
+use Rattle.scan_buddies.specs.Aside.{xOf, yOf, said, heardAt, OnAxis, Standing, AllStanding}
+use Rattle.scan_buddies.specs.Voices.{told, silence-both, both-silence, both-assoc, both-comm, OfAtMost, of-none, of-one, sum-of-most, between, fromCells, among-them, below-them, beyond-them}
 use Rattle.scan_buddies.specs.Cells.{across, cells, kinds, sideOf, cellAlong, cellOf, cellFor, cellAt, Survivors, side-least, side-wide, InRow, along-in-row, along-near, inside-axes}
 
 -- row j is at distance below B from row k
@@ -64,6 +64,17 @@ module _ (radius : ℕ) (numbers : List (List ℤ)) (ds : List ℤ) (k : ℕ) wh
   other-says : (st : List ℕ) (j : ℕ) → isAccepted (getD st j 0) ≡ false → said radius numbers st ds k j ≡ silence
   unfolding said
   other-says st j e = rw e (cond-same (eqb j k) silence silence silence (λ e. refl) (λ e. refl))
+
+  said-small : (st : List ℕ) (j : ℕ) → (getD st j 0 ≡ 0 → Standing (getD numbers j []) (getD ds j (pos 0))) → OfAtMost 1 (said radius numbers st ds k j)
+  said-small st j h = go (true-or-false (isAccepted (getD st j 0)))
+    where
+      go : (isAccepted (getD st j 0) ≡ true) ⊎ (isAccepted (getD st j 0) ≡ false) → OfAtMost 1 (said radius numbers st ds k j)
+      go (inl e) = rw (survivor-says st j e) (voice-small j (h (eqb-true (getD st j 0) 0 e)))
+      go (inr e) = rw (other-says st j e) (of-none 1)
+
+  pub heard-few : (st : List ℕ) (n : ℕ) → AllStanding numbers ds n st → OfAtMost n (heardAt radius numbers st ds n k)
+  unfolding heardAt
+  heard-few st n h = sum-of-most n (said radius numbers st ds k) (λ j l. said-small st j (h j l))
 
 -- in one of three rows of cells, from b on
 abbrev inRows : (b a : ℕ) → Heard → Heard
@@ -151,12 +162,9 @@ module _ (radius : ℕ) (numbers : List (List ℤ)) (st : List ℕ) (j : ℕ) wh
       go (inr e) = absurd (omega (arith, other-cell e))
 
 module _ (radius : ℕ) (numbers : List (List ℤ)) (ds : List ℤ) (heads next : List ℕ) (n : ℕ) (st : List ℕ) (s : Survivors radius numbers ds heads next n st)
-    (k : ℕ) (here : Standing (getD numbers k []) (getD ds k (pos 0))) where
+    (k : ℕ) (here : Standing (getD numbers k []) (getD ds k (pos 0))) (b : ℕ) (first : b + across + 1 ≡ cellOf radius (getD numbers k [])) where
   abbrev row : List ℤ
   row = getD numbers k []
-
-  abbrev b : ℕ
-  b = cellOf radius row - (across + 1)
 
   abbrev v : ℕ → Heard
   v = voice radius numbers ds k
@@ -176,11 +184,8 @@ module _ (radius : ℕ) (numbers : List (List ℤ)) (ds : List ℤ) (heads next 
       (along-near side wide (xOf other) (xOf row) (there .x) (here .x) (omega (arith, side-wide radius)))
       (along-near side wide (yOf other) (yOf row) (there .y) (here .y) (omega (arith, side-wide radius)))
     where
-      cell-is : cellOf radius row ≡ cellAlong (sideOf radius) (yOf row) * across + cellAlong (sideOf radius) (xOf row)
-      cell-is = unfold cellOf in refl
-
       first-is : b + across + 1 ≡ cellAlong (sideOf radius) (yOf row) * across + cellAlong (sideOf radius) (xOf row)
-      first-is = omega (arith, cell-is, cell-framed radius row (here .x) (here .y) .least)
+      first-is = unfold cellOf in first
 
   survivor-heard : (j : ℕ) → Standing (getD numbers j []) (getD ds j (pos 0)) → inRows b (cellOf radius (getD numbers j [])) (v j) ≡ v j
   survivor-heard j there = go (true-or-false (eqb j k)) (true-or-false (near radius numbers k j))
@@ -205,7 +210,7 @@ module _ (radius : ℕ) (numbers : List (List ℤ)) (ds : List ℤ) (heads next 
           (survivor-heard j (s .standing j l (eqb-true (getD st j 0) 0 e)))
       go (inr e) =
           rw (other-cell radius numbers st j e, other-says radius numbers ds k st j e)
-          (past-rows b cells (v j) (omega (arith, cell-framed radius row (here .x) (here .y) .least, cell-framed radius row (here .x) (here .y) .most)))
+          (past-rows b cells (v j) (omega (arith, first, cell-framed radius row (here .x) (here .y) .most)))
 
   pub nine-are-all : nine (cellAt radius numbers st) n b v ≡ heardAt radius numbers st ds n k
   unfolding fromCells heardAt

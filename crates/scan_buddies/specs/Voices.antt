@@ -98,6 +98,19 @@ from-join cell n low mid high f h l =
     here a v (inr p) q (inl r) = rw (beyond-them low mid a p, among-them mid high a p r, among-them low high a (omega arith) r) (silence-both v)
     here a v (inr p) q (inr r) = rw (beyond-them low mid a p, beyond-them mid high a r, beyond-them low high a r) (silence-both silence)
 
+pub from-three : (cell : ℕ → ℕ) (n a : ℕ) (f : ℕ → Heard)
+    → both (both (fromCells cell n a (a + 1) f) (fromCells cell n (a + 1) (a + 1 + 1) f)) (fromCells cell n (a + 2) (a + 2 + 1) f) ≡ fromCells cell n a (a + 3) f
+from-three cell n a f =
+    ap₂ both (ap (λ (m : ℕ). both (fromCells cell n a (a + 1) f) (fromCells cell n (a + 1) m f)) two ∙ from-join cell n a (a + 1) (a + 2) f (omega arith) (omega arith))
+    (ap (λ (m : ℕ). fromCells cell n (a + 2) m f) three)
+    ∙ from-join cell n a (a + 2) (a + 3) f (omega arith) (omega arith)
+  where
+    two : a + 1 + 1 ≡ a + 2
+    two = omega arith
+
+    three : a + 2 + 1 ≡ a + 3
+    three = omega arith
+
 -- one cell, whose chain is walked
 pub from-one : (cell : ℕ → ℕ) (n c : ℕ) (f : ℕ → Heard) → sumOf silence both cell c f n ≡ fromCells cell n c (c + 1) f
 unfolding sumOf fromCells

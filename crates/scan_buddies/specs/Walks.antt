@@ -34,6 +34,10 @@ module _ (radius : ℕ) (numbers : List (List ℤ)) (ds : List ℤ) (heads next 
       let h = from-few (cellAt radius numbers st) n low high (voice radius numbers ds k) (voices-small high most) in
       record { few = omega (arith, h .few, s .few); small = omega (arith, h .small, s .few) }
 
+  -- of what is heard there
+  pub heard-small : (h : Heard) (low high : ℕ) → high ≤ cells → h ≡ fromCells (cellAt radius numbers st) n low high (voice radius numbers ds k) → OfAtMost mostStations h
+  heard-small h low high most e = rw e (cells-small low high most)
+
   pub walking-start : c < kinds → Walking radius numbers ds k c n st (getD heads c 0) silence
   walking-start l =
       rw (s .chained .head c l)

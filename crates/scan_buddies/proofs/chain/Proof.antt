@@ -1,7 +1,7 @@
 -- `scan_buddies::chain` meets its contract. The loop's invariant: the rows passed are in their chains. Assumes nothing.
 use Prim.Native.Nat.{ℕ, _+_, _-_, _≤_, _<_}
 use native.Mathlib.Omega.{arith}
-use mathlib.Core.Path.{_≡_, refl, sym, _∙_}
+use mathlib.Core.Path.{_≡_, refl}
 use lib.ListN.{length, getD, length-set}
 use Rattle.lists.specs.Chains.{Chained, chained-none, chained-more}
 use Rattle.scheme.specs.Units.{mostStations}
@@ -92,8 +92,8 @@ loop-again c =
     let s = start t in
     let l = t .before .loop in (
       omega (arith, t .loop-test .taken),
-      length-set _ _ _ ∙ l .inv .1,
-      length-set _ _ _ ∙ l .inv .2,
+      simp length-set (l .inv .1),
+      simp length-set (l .inv .2),
       chained-more (cellAt (s .args .radius) (s .args .numbers .now) (s .args .verdict .now)) kinds (k t) (k t + 1) (g .cell-for .result) _ (l .heads) (l .next) refl
           (g .cell-for .ensures) (small g) (omega (arith, small g, l .inv .1)) (omega (arith, few t, l .inv .2)) refl (l .inv .3),
     )

@@ -71,7 +71,12 @@ element-copy-out-t : tie.Need-element-copy-out-t Inv-loop μ-loop
 element-copy-out-t c = omega (arith, c .pre .0)
 
 cast-t : tie.Need-cast-t Inv-loop μ-loop
-cast-t c = search needs
+cast-t c =
+    let s = c .before in
+    let w = s .pre .4 in
+    let first = walking-start (s .args .radius) (s .args .numbers .now) (s .args .d .now) (s .args .heads .now) (s .args .next .now) (w .n) (w .st) (w .survivors) (s .args .k) (s .args .cell)
+        (omega (arith, s .pre .0)) in
+    record { fits = omega (arith, first .no-more, w .survivors .few) }
 
 loop-holds : tie.Need-loop-holds Inv-loop μ-loop
 loop-holds c n st survivors =
@@ -98,7 +103,7 @@ element-copy-out-t-2 : tie.Need-element-copy-out-t-2 Inv-loop μ-loop
 element-copy-out-t-2 c = inside (turned c)
 
 cast-t-2 : tie.Need-cast-t-2 Inv-loop μ-loop
-cast-t-2 c = search needs
+cast-t-2 c = let k = turned (c .before) in record { fits = omega (arith, less k, inside k) }
 
 loop-less : tie.Need-loop-less Inv-loop μ-loop
 loop-less c = less (turned (c .before))
