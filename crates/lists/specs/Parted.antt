@@ -70,6 +70,17 @@ module _ {A B : Type 0} {K : A → B → Type 0} {G : A → Type 0} where
   total-parted nil plus f g unit same away (gone {a = a} {xs = xs} h r) =
       cc (away a h, unit (total nil plus f xs), total-parted nil plus f g unit same away r)
 
+  -- what is made of the elements that are kept
+  pub keep-parted : {C : Type 0} (p : C → Bool) (f : C → A) (g : C → B) → ((c : C) → p c ≡ true → K (f c) (g c)) → ((c : C) → p c ≡ false → G (f c))
+      → (xs : List C) → Parted K G (map f xs) (map g (keep p xs))
+  unfolding keep
+  keep-parted p f g here away [] = end
+  keep-parted {C = C} p f g here away (c ∷ xs) = go (p c) refl (keep-parted p f g here away xs)
+    where
+      go : (b : Bool) → p c ≡ b → Parted K G (map f xs) (map g (keep p xs)) → Parted K G (f c ∷ map f xs) (map g (cond b (c ∷ keep p xs) (keep p xs)))
+      go true e r = kept (here c e) r
+      go false e r = gone (away c e) r
+
   append-parted : {xs xs' : List A} {ys ys' : List B} → Parted K G xs ys → Parted K G xs' ys' → Parted K G (xs ++ xs') (ys ++ ys')
   append-parted end s = s
   append-parted (kept h r) s = kept h (append-parted r s)

@@ -23,7 +23,7 @@ upTo nil plus (suc n) f = plus (upTo nil plus n f) (f n)
 -- the sum over a table of records is the sum over its index
 module _ {S : Type 0} (nil : S) (plus : S → S → S) (nil-plus : (t : S) → plus nil t ≡ t) (plus-nil : (t : S) → plus t nil ≡ t)
     (assoc : (a b c : S) → plus (plus a b) c ≡ plus a (plus b c)) where
-  front : (n : ℕ) (f : ℕ → S) → upTo nil plus (suc n) f ≡ plus (f 0) (upTo nil plus n (λ k. f (suc k)))
+  pub front : (n : ℕ) (f : ℕ → S) → upTo nil plus (suc n) f ≡ plus (f 0) (upTo nil plus n (λ k. f (suc k)))
   unfolding upTo
   front zero f = nil-plus (f 0) ∙ sym (plus-nil (f 0))
   front (suc n) f =

@@ -7,7 +7,7 @@ use lib.IntN.{ℤ, pos}
 use Rattle.lists.specs.Tab.{tab}
 use Rattle.lists.specs.Sums.{upTo-same}
 use Rattle.lists.specs.Turns.{join-tab}
-use Rattle.scheme.specs.Units.{Station, Plan, Request}
+use Rattle.scheme.specs.Units.{Station, Buddies, Plan, Request}
 use Rattle.scheme.specs.Refusals.{Window, mostWindows, windowAt}
 use Rattle.scheme.specs.Reach.{Tile, inTurn}
 use Rattle.scheme.specs.Accepted.{OnGrid}
@@ -32,8 +32,11 @@ stationOf numbers minutes =
 abbrev pub stationIn : List (List ℤ) → List (List ℕ) → ℕ → Station
 stationIn numbers minutes k = stationOf (getD numbers k []) (getD minutes k [])
 
+abbrev pub buddiesIn : Terms → Buddies
+buddiesIn t = record { on = t .buddy; radius = t .«buddy_radius»; limit = t .«buddy_limit» }
+
 abbrev pub planIn : Terms → Plan
-planIn t = record { scans = t .scans; radius = t .radius; limit = t .limit; smooth = t .smooth; mode = t .mode; rule = t .rule }
+planIn t = record { scans = t .scans; radius = t .radius; limit = t .limit; smooth = t .smooth; mode = t .mode; rule = t .rule; buddies = buddiesIn t }
 
 -- the request
 abbrev pub requestIn : Terms → List ℤ → List (List ℤ) → List (List ℕ) → Request

@@ -49,6 +49,9 @@ pub const LISTINGS: u32 = 2;
 // The most windows of a screen, and the place of a refusal for its columns.
 pub const MOST_WINDOWS: usize = 16;
 
+// The most scans of a plan, and the place of a refusal for its buddy check.
+pub const MOST_SCANS: usize = 6;
+
 // All of a request but its first guess and its stations' rows. Entries of radius and limit past the count of scans are not read.
 pub struct Terms {
     pub nx: usize,
@@ -60,6 +63,9 @@ pub struct Terms {
     pub smooth: bool,
     pub mode: u32,
     pub rule: u32,
+    pub buddy: bool,
+    pub buddy_radius: i32,
+    pub buddy_limit: i32,
     pub time: u32,
     pub age: u32,
 }
@@ -105,11 +111,14 @@ pub fn terms_of(
     smooth: bool,
     mode: u32,
     rule: u32,
+    buddy: bool,
+    buddy_radius: i32,
+    buddy_limit: i32,
     time: u32,
     age: u32,
 ) -> Terms
     requires { ⌜ (scans ≤ mostScans) × (scans ≤ length (now radius)) × (scans ≤ length (now limit)) ⌝ }
-    ensures { λ t. ⌜ Termed t nx ny stations (record { scans = scans; radius = now (radius .entry); limit = now (limit .entry); smooth = smooth; mode = mode; rule = rule }) time age ⌝ }
+    ensures { λ t. ⌜ Termed t nx ny stations (record { scans = scans; radius = now (radius .entry); limit = now (limit .entry); smooth = smooth; mode = mode; rule = rule; buddies = record { on = buddy; radius = «buddy_radius»; limit = «buddy_limit» } }) time age ⌝ }
 {
     let radii = first_entries(radius, scans as usize);
     let limits = first_entries(limit, scans as usize);
@@ -123,6 +132,9 @@ pub fn terms_of(
         smooth,
         mode,
         rule,
+        buddy,
+        buddy_radius,
+        buddy_limit,
         time,
         age,
     }

@@ -3,6 +3,7 @@ use Prim.Native.Nat.{ℕ, suc, _*_, _≤_, _<_}
 use native.Mathlib.Omega.{arith}
 use native.Mathlib.Nat.{mul-le-mul}
 use mathlib.Core.Path.{_≡_, refl}
+use mathlib.Core.Logic.{_⊎_, inl, inr}
 use mathlib.Core.Bool.{Bool, true, false, not, _&&_, _||_}
 use mathlib.Core.List.{List, [], _∷_}
 use borrow.Author.Tests.{ltb-false, leb-true, leb-false, eqb-true, not-false, le-leb, lt-leb, le-ltb, eq-eqb}
@@ -10,13 +11,13 @@ use lib.Dec.{leb, ltb, eqb}
 use lib.ListN.{length, getD}
 use lib.IntN.{ℤ, pos, negsuc, natAbs}
 use lib.Signed.{leZ, ltZ}
-use Rattle.lists.specs.Tests.{and-true, or-false, not-both}
+use Rattle.lists.specs.Tests.{true-or-false, and-true, or-false, not-both}
 use Rattle.lists.specs.First.{Found, nowhere, at, first, firstIn, first-good, good-first, none-bad, all-fine}
 use Rattle.lists.specs.Members.{All, none, more}
 use Rattle.lists.specs.Tab.{length-tab}
-use Rattle.scheme.specs.Units.{among, within, mostValue, isMissing, leastSide, mostSide, mostStations, mostWind, isNoWind, Wind, Station, mostPosition, Columns, stationAt, stationsOf, mostScans, mostRadius, mostLimit, windMode, equationRule, listingRule, Plan, R, E, Request, Call, asked}
+use Rattle.scheme.specs.Units.{among, within, mostValue, isMissing, leastSide, mostSide, mostStations, mostWind, isNoWind, Wind, Station, mostPosition, Columns, stationAt, stationsOf, mostScans, mostRadius, mostLimit, mostBuddyRadius, mostBuddyLimit, windMode, equationRule, listingRule, Plan, R, E, B, L, Request, Call, asked}
 use Rattle.scheme.specs.Streaks.{Fair}
-use Rattle.scheme.specs.Refusals.{Refusal, accepted, refused, inOrder, refusedIf, refusedWith, refusedAt, badShape, Span, Window, badSpan, badWindow, mostWindows, Screen, badScreen, pointsAlong, pointsOf, pointsOfAll, badLengths, badColumns, badScans, rising, badScan, badGuess, badWind, badStation, fromFive, analysisRefusal}
+use Rattle.scheme.specs.Refusals.{Refusal, accepted, refused, inOrder, refusedIf, refusedWith, refusedAt, badShape, Span, Window, badSpan, badWindow, mostWindows, Screen, badScreen, pointsAlong, pointsOf, pointsOfAll, badLengths, badColumns, badScans, rising, badScan, badBuddies, badGuess, badWind, badStation, fromFive, analysisRefusal}
 
 -- ---- lists of tests
 
@@ -151,6 +152,30 @@ fallen p m e f = go (scanned p m e .radius-is) (scanned p (suc m) f .radius-is) 
     go : {a b : ℤ} {r s : ℕ} → a ≡ pos r → b ≡ pos s → ltZ a b ≡ false → s ≤ r
     go {r = r} {s = s} u t h = ltb-false r s (rw (u, t) at h)
 
+-- the buddy check, if it is on: B and L in range
+pub record Checked (p : Plan) : Type 0 where
+  pub radius-is : p .buddies .radius ≡ pos (B p)
+  pub radius-some : 1 ≤ B p
+  pub radius-most : B p ≤ mostBuddyRadius
+  pub limit-is : p .buddies .limit ≡ pos (L p)
+  pub limit-most : L p ≤ mostBuddyLimit
+
+pub checked : (p : Plan) → badBuddies p ≡ false → p .buddies .on ≡ true → Checked p
+unfolding badBuddies B L
+checked p e on =
+    let (a, c) = or-false _ _ (rw on at e) in
+    let (r, r1, r2) = natural 1 mostBuddyRadius (p .buddies .radius) a in
+    let (l, l1, l2) = natural 0 mostBuddyLimit (p .buddies .limit) c in
+    record { radius-is = rw on r; radius-some = rw on r1; radius-most = rw on r2; limit-is = l; limit-most = l2 }
+
+-- on or off, B is small
+pub few-B : (p : Plan) → (p .buddies .on ≡ true → Checked p) → B p ≤ mostBuddyRadius
+few-B p c = go (true-or-false (p .buddies .on))
+  where
+    go : (p .buddies .on ≡ true) ⊎ (p .buddies .on ≡ false) → B p ≤ mostBuddyRadius
+    go (inl on) = c on .radius-most
+    go (inr off) = unfold B in rw off (omega arith)
+
 -- ---- 8: a station
 
 -- both parts in range, where it is not missing
@@ -205,6 +230,7 @@ pub record Planned (p : Plan) : Type 0 where
   pub ruled : Ruled (p .rule)
   pub scan : (m : ℕ) → m < p .scans → Scanned p m
   pub falls : (m : ℕ) → suc m < p .scans → R p (suc m) ≤ R p m
+  pub checks : p .buddies .on ≡ true → Checked p
 
 -- where there is no row
 abbrev pub noStation : Station
@@ -228,6 +254,7 @@ rows-of c = length-tab (length (c .x)) (stationAt c)
 abbrev pub fromSix : Request → List Refusal
 fromSix q =
     refusedAt 6 (first (q .plan .scans) (badScan (q .plan)))
+    ∷ refusedWith 6 mostScans (badBuddies (q .plan))
     ∷ refusedAt 7 (firstIn badGuess (q .firstGuess))
     ∷ refusedAt 8 (firstIn badStation (q .stations))
     ∷ []
@@ -244,7 +271,7 @@ pub record Formed (q : Request) : Type 0 where
 
 formed-all : (q : Request) → Formed q → All (λ r. r ≡ accepted) (fromSix q) → Sound q
 unfolding badGuess
-formed-all q f (more six (more seven (more eight none))) =
+formed-all q f (more six (more buddies (more seven (more eight none)))) =
     let scan = first-good (q .plan .scans) (badScan (q .plan)) (nowhere-refused 6 _ six) in
     record {
       shape = f .shape;
@@ -259,6 +286,7 @@ formed-all q f (more six (more seven (more eight none))) =
             ruled = f .ruled;
             scan = λ m h. scanned (q .plan) m (scan m h);
             falls = λ m h. fallen (q .plan) m (scan m (omega arith)) (scan (suc m) h);
+            checks = checked (q .plan) (not-refused 6 mostScans _ buddies);
           };
       first-guess = λ k h. leb-true _ _ (not-false _ (none-bad badGuess (pos 0) (q .firstGuess) (nowhere-refused 7 _ seven) k h));
       stations = λ k h. stationed _ (none-bad badStation noStation (q .stations) (nowhere-refused 8 _ eight) k h);
@@ -397,6 +425,17 @@ unfolding badScan
 scan-good p m s =
     rw (s .radius-is, s .limit-is, s .not-rising, le-leb 0 (E p m) (omega arith), le-leb 1 (R p m) (s .radius-some), le-leb (R p m) mostRadius (s .radius-most), le-leb (E p m) mostLimit (s .limit-most))
 
+buddies-good : (p : Plan) → (p .buddies .on ≡ true → Checked p) → badBuddies p ≡ false
+unfolding badBuddies B
+buddies-good p c = go (true-or-false (p .buddies .on))
+  where
+    go : (p .buddies .on ≡ true) ⊎ (p .buddies .on ≡ false) → badBuddies p ≡ false
+    go (inl on) =
+        let s = c on in
+        unfold badBuddies in
+        rw (s .radius-is, s .limit-is, le-leb 0 (L p) (omega arith), le-leb 1 (B p) (s .radius-some), le-leb (B p) mostBuddyRadius (s .radius-most), le-leb (L p) mostBuddyLimit (s .limit-most), on)
+    go (inr off) = unfold badBuddies in rw off
+
 station-good : (s : Station) → Stationed s → badStation s ≡ false
 unfolding badStation
 station-good s t =
@@ -417,6 +456,7 @@ request-good q s =
       le-ltb windMode (q .plan .mode) (s .plan .known),
       in-count equationRule listingRule (q .plan .rule) (s .plan .ruled .0) (s .plan .ruled .1),
       good-first (q .plan .scans) (badScan (q .plan)) (λ m h. scan-good (q .plan) m (s .plan .scan m h)),
+      buddies-good (q .plan) (s .plan .checks),
       all-fine badGuess (pos 0) (q .firstGuess) (λ k h. unfold badGuess in rw (le-leb _ mostValue (s .first-guess k h))),
       all-fine badStation noStation (q .stations) (λ k h. station-good _ (s .stations k h)),
     )

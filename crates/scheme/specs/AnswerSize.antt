@@ -3,54 +3,66 @@ use Prim.Native.Nat.{ℕ, zero, suc, _+_, _*_, _/_, _%_, _≤_, _<_}
 use native.Mathlib.Omega.{arith}
 use native.Mathlib.Nat.{mul-le-mul, mul-le-mul-right, suc-mul, pow-le-pow-right}
 use mathlib.Core.Path.{_≡_, refl}
-use mathlib.Core.Bool.{Bool}
+use mathlib.Core.Bool.{Bool, _&&_}
 use mathlib.Core.List.{List, [], _∷_, _++_}
 use lib.Dec.{ltb}
 use lib.ListN.{length, take, drop, length-append, length-take}
 use lib.IntN.{ℤ, natAbs}
 use Rattle.lists.specs.Tests.{cond-both}
 use Rattle.lists.specs.Members.{All, none, more, all-map, all-of, all-take, all-drop, all-tab}
-use Rattle.scheme.specs.Units.{Station, mostBeyond, stored, E, Request, Call, asked}
+use Rattle.scheme.specs.Units.{Station, mostBeyond, stored, E, L, Request, Call, asked}
 use Rattle.scheme.specs.Refusals.{accepted, analysisRefusal}
 use Rattle.scheme.specs.Verdicts.{isAccepted, firstThatFits, beforeScans}
-use Rattle.scheme.specs.Difference.{Row, afterTest, judged}
-use Rattle.scheme.specs.Scan.{State, start, rowsJudged, scan, afterWithin, after, analysis}
+use Rattle.scheme.specs.Difference.{Row, afterTest, tested}
+use Rattle.scheme.specs.Buddies.{Heard, isOdd, afterBuddies, besideOthers}
+use Rattle.scheme.specs.Scan.{State, differences, start, rowsJudged, scan, afterWithin, after, analysis}
 use Rattle.scheme.specs.Text.{firstTwo, analysisText}
 use Rattle.scheme.specs.Text.Pieces.{ascii, mark}
 use Rattle.scheme.specs.Text.Printed.{spelled, decimal, integer, cells, keyed, gridLines}
 use Rattle.scheme.specs.Accepted.{Sound, analysis-sound}
+use Rattle.scheme.specs.Judging.{judgedBeside, all-judged}
 use Rattle.scheme.specs.Lengths.{verdict-long}
 use Rattle.scheme.specs.Bounds.{fields-stay-within}
 use Rattle.scheme.specs.Support.{support-small}
 use Rattle.scheme.specs.Decimals.{decimal-length, integer-length}
 
--- ---- verdicts are at most 16
+-- ---- verdicts are at most 26
 
 fits-small : (most : ℕ) {fs : List (Bool × ℕ)} → All (λ f. f .1 ≤ most) fs → firstThatFits fs ≤ most
 unfolding firstThatFits
 fits-small most none = omega arith
 fits-small most (more {a = f} h r) = cond-both (λ n. n ≤ most) (f .0) _ _ (λ e. h) (λ e. fits-small most r)
 
-test-small : (scan limit : ℕ) (D : ℤ) (verdict : ℕ) → scan ≤ 6 → verdict ≤ 16 → afterTest scan limit D verdict ≤ 16
+test-small : (scan limit : ℕ) (D : ℤ) (verdict : ℕ) → scan ≤ 6 → verdict ≤ 26 → afterTest scan limit D verdict ≤ 26
 unfolding afterTest
 test-small scan limit D verdict h k =
-    cond-both (λ n. n ≤ 16) (isAccepted verdict) _ verdict (λ e. cond-both (λ n. n ≤ 16) (ltb limit (natAbs D)) (10 + scan) 0 (λ f. omega arith) (λ f. omega arith)) (λ e. k)
+    cond-both (λ n. n ≤ 26) (isAccepted verdict) _ verdict (λ e. cond-both (λ n. n ≤ 26) (ltb limit (natAbs D)) (10 + scan) 0 (λ f. omega arith) (λ f. omega arith)) (λ e. k)
+
+buddies-small : (scan limit : ℕ) (D : ℤ) (h : Heard) (verdict : ℕ) → scan ≤ 6 → verdict ≤ 26 → afterBuddies scan limit D h verdict ≤ 26
+unfolding afterBuddies
+buddies-small scan limit D h verdict few small =
+    cond-both (λ n. n ≤ 26) (isAccepted verdict && isOdd limit D h) (20 + scan) verdict (λ e. omega arith) (λ e. small)
 
 abbrev Small : Row → Type 0
-Small r = r .verdict ≤ 16
+Small r = r .verdict ≤ 26
 
 module _ (q : Request) where
-  before-small : (s : Station) → beforeScans mostBeyond (q .nx) (q .ny) (q .T) (q .A) s ≤ 16
+  before-small : (s : Station) → beforeScans mostBeyond (q .nx) (q .ny) (q .T) (q .A) s ≤ 26
   unfolding beforeScans
-  before-small s = fits-small 16 (more (omega arith) (more (omega arith) (more (omega arith) (more (omega arith) (more (omega arith) none)))))
+  before-small s = fits-small 26 (more (omega arith) (more (omega arith) (more (omega arith) (more (omega arith) (more (omega arith) none)))))
 
   first-small : All Small (start mostBeyond q .rows)
   unfolding start
-  first-small = all-map (λ s. beforeScans mostBeyond (q .nx) (q .ny) (q .T) (q .A) s ≤ 16) Small _ (λ s h. h) (all-of _ before-small (q .stations))
+  first-small = all-map (λ s. beforeScans mostBeyond (q .nx) (q .ny) (q .T) (q .A) s ≤ 26) Small _ (λ s h. h) (all-of _ before-small (q .stations))
 
   scan-small : (m : ℕ) (found : State) → m < 6 → All Small (found .rows) → All Small (scan q m found .rows)
-  unfolding scan rowsJudged judged
-  scan-small m found h r = all-map Small Small _ (λ o k. test-small (m + 1) (E (q .plan) m) _ (o .verdict) (omega arith) k) r
+  unfolding scan rowsJudged
+  scan-small m found h r = all-judged (q .plan) m (differences q found) Small Small one r
+    where
+      one : (o : Row) (survivors : List Row) → Small o → Small (judgedBeside (q .plan) m (differences q found) o survivors)
+      one o survivors k =
+          unfold besideOthers tested in
+          buddies-small (m + 1) (L (q .plan)) _ _ _ (omega arith) (test-small (m + 1) (E (q .plan) m) _ (o .verdict) (omega arith) k)
 
   verdicts-small : (m : ℕ) → m ≤ 6 → All Small (after q m .rows)
   unfolding afterWithin

@@ -6,19 +6,19 @@ use mathlib.Core.Path.{_≡_, sym, _∙_}
 use mathlib.Core.Logic.{_⊎_, inl, inr}
 use mathlib.Core.Bool.{true, false, cond, _&&_}
 use mathlib.Core.List.{List}
-use borrow.Author.Tests.{ltb-false, eqb-true}
-use lib.Dec.{ltb, eqb}
+use borrow.Author.Tests.{eqb-true}
+use lib.Dec.{eqb}
 use lib.ListN.{length, getD, List·getD-eq-default}
 use lib.IntN.{ℤ, pos, natAbs, _*ℤ_}
 use Rattle.integers.specs.Sizes.{size-add, size-mul}
-use Rattle.lists.specs.Tests.{lt-or-le, true-or-false, not-both, and-true, cond-both}
+use Rattle.lists.specs.Tests.{lt-or-le, and-true, cond-both}
 use Rattle.lists.specs.Sums.{total, upTo, upTo-size}
-use Rattle.lists.specs.Members.{All, none, more, all-map, all-of}
+use Rattle.lists.specs.Members.{All, none, more, all-of}
 use Rattle.scheme.specs.Units.{Field, fieldOf, Station, mostValue, mostLimit, listingRule, R, E, Request, guess, Call, asked}
 use Rattle.scheme.specs.Refusals.{accepted, analysisRefusal}
 use Rattle.scheme.specs.Verdicts.{isAccepted}
 use Rattle.scheme.specs.Rounding.{rounded}
-use Rattle.scheme.specs.Difference.{Row, afterTest, judged}
+use Rattle.scheme.specs.Difference.{Row}
 use Rattle.scheme.specs.Weight.{scale}
 use Rattle.scheme.specs.Correction.{Sums, nothing, share, isLone, divisor, correction}
 use Rattle.scheme.specs.Smoothing.{patternAt, patternRow, patternSum, inner, smoothed}
@@ -27,6 +27,7 @@ use Rattle.scheme.specs.Most.{mostField}
 use Rattle.scheme.specs.Nearest.{rounded-size}
 use Rattle.scheme.specs.Gifts.{sums, Modest, modest-nothing, modest-plus, gift-modest}
 use Rattle.scheme.specs.Accepted.{Sound, analysis-sound}
+use Rattle.scheme.specs.Judging.{judgedBeside, all-judged, judged-station, accepted-passed}
 
 -- a field whose values are all of that size at most
 abbrev pub Within : ℕ → Field ℤ → Type 0
@@ -41,31 +42,14 @@ Small l = (k : ℕ) → natAbs (getD l k (pos 0)) ≤ mostField
 abbrev Passed : ℕ → (Station → ℤ) → Row → Type 0
 Passed limit D r = isAccepted (r .verdict) ≡ true → natAbs (D (r .station)) ≤ limit
 
-pub passed : (scan limit : ℕ) (D : ℤ) (verdict : ℕ) → isAccepted (afterTest scan limit D verdict) ≡ true → natAbs D ≤ limit
-unfolding afterTest
-passed scan limit D verdict = go (true-or-false (isAccepted verdict)) (true-or-false (ltb limit (natAbs D)))
-  where
-    go : (isAccepted verdict ≡ true) ⊎ (isAccepted verdict ≡ false) → (ltb limit (natAbs D) ≡ true) ⊎ (ltb limit (natAbs D) ≡ false)
-        → isAccepted (cond (isAccepted verdict) (cond (ltb limit (natAbs D)) (10 + scan) 0) verdict) ≡ true → natAbs D ≤ limit
-    go (inr v) t e = absurd (not-both (sym (rw (v) at e) ∙ v))
-    go (inl v) (inr t) e = ltb-false limit (natAbs D) t
-    go (inl v) (inl t) e = absurd (let n : 10 + scan ≡ 0 = eqb-true (10 + scan) 0 (rw (v, t) at e) in omega arith)
-
--- and was accepted before it
-pub was-accepted : (scan limit : ℕ) (D : ℤ) (verdict : ℕ) → isAccepted (afterTest scan limit D verdict) ≡ true → isAccepted verdict ≡ true
-unfolding afterTest
-was-accepted scan limit D verdict e = go (true-or-false (isAccepted verdict))
-  where
-    go : (isAccepted verdict ≡ true) ⊎ (isAccepted verdict ≡ false) → isAccepted verdict ≡ true
-    go (inl v) = v
-    go (inr v) = absurd (not-both (sym (rw v at e) ∙ v))
-
 all-passed : (q : Request) (m : ℕ) (found : State) → All (Passed (E (q .plan) m) (differences q found)) (rowsJudged q m found)
-unfolding rowsJudged judged
+unfolding rowsJudged
 all-passed q m found =
-    all-map (λ r. Unit {0}) (Passed (E (q .plan) m) (differences q found)) (judged (m + 1) (E (q .plan) m) (differences q found))
-    (λ r u. passed (m + 1) (E (q .plan) m) (differences q found (r .station)) (r .verdict))
+    all-judged (q .plan) m (differences q found) (λ r. Unit {0}) (Passed (E (q .plan) m) (differences q found)) (λ r survivors u. one r survivors)
     (all-of (λ r. Unit {0}) (λ r. tt) (found .rows))
+  where
+    one : (r : Row) (survivors : List Row) → Passed (E (q .plan) m) (differences q found) (judgedBeside (q .plan) m (differences q found) r survivors)
+    one r survivors e = rw (judged-station (q .plan) m (differences q found) r survivors) (accepted-passed (q .plan) m (differences q found) r survivors e)
 
 -- ---- so the sum of weight·D is at most E times the sum of weights, and the quotient by that or by more at most E
 

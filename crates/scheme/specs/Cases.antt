@@ -10,23 +10,25 @@ use lib.ListN.{length, length-map}
 use lib.IntN.{ℤ, pos, negsuc}
 use Rattle.lists.specs.Tab.{tab}
 use Rattle.lists.specs.Sums.{total}
+use Rattle.lists.specs.Parted.{eachFrom, each}
 use Rattle.lists.specs.First.{first, firstFrom, orNext}
 use Rattle.scheme.specs.declared.Reading.the-variants.{Backed, FirstGuess, OffGrid, Refused}
-use Rattle.scheme.specs.Units.{isMissing, missingMark, Field, stored, fieldOf, mostStations, Wind, noWind, isNoWind, Station, noEnd, Columns, stationAt, stationsOf, mostBeyond, roundMode, windMode, equationRule, listingRule, R, E, Request, Call, guess, asking}
-use Rattle.scheme.specs.Refusals.{Refusal, accepted, refused, asOne, inOrder, refusedWith, refusedAt, badShape, Span, Window, badWindow, windowAt, Screen, windowsOf, badScreen, badLengths, badColumns, badScans, rising, badScan, badGuess, badWind, badStation, fromFive, analysisRefusal, windowRefusal, screenRefusal, summaryRefusal, readingRefusal}
+use Rattle.scheme.specs.Units.{isMissing, missingMark, Field, stored, fieldOf, mostStations, Wind, noWind, isNoWind, Station, noEnd, Columns, stationAt, stationsOf, mostBeyond, roundMode, windMode, equationRule, listingRule, noBuddies, R, E, B, L, Request, Call, guess, asking}
+use Rattle.scheme.specs.Refusals.{Refusal, accepted, refused, asOne, inOrder, refusedWith, refusedAt, badShape, Span, Window, badWindow, windowAt, Screen, windowsOf, badScreen, badLengths, badColumns, badScans, rising, badScan, badBuddies, badGuess, badWind, badStation, fromFive, analysisRefusal, windowRefusal, screenRefusal, summaryRefusal, readingRefusal}
 use Rattle.scheme.specs.Verdicts.{serves, outOfService, nearAxis, offGrid, firstThatFits, beforeScans}
 use Rattle.scheme.specs.Rounding.{rounded}
 use Rattle.scheme.specs.Value.{place, cell, corners, sumAt, valueAt}
-use Rattle.scheme.specs.Difference.{difference, afterTest, judged}
+use Rattle.scheme.specs.Difference.{difference, afterTest, tested}
+use Rattle.scheme.specs.Buddies.{says, heard, isOdd, afterBuddies, besideOthers}
 use Rattle.scheme.specs.Weight.{weight, stretched, blows, weightAt}
 use Rattle.scheme.specs.Correction.{gift, share, divisor, correction, backedBy}
 use Rattle.scheme.specs.Smoothing.{inner, smoothed}
-use Rattle.scheme.specs.Scan.{start, rowsJudged, sumsAt, corrected, scan, afterWithin, Analysis, analysis}
+use Rattle.scheme.specs.Scan.{start, allJudged, rowsJudged, sumsAt, corrected, scan, afterWithin, Analysis, analysis}
 use Rattle.scheme.specs.Reach.{onSpan}
 use Rattle.scheme.specs.Readings.{double, positiveZero, isBacked, readingIn, reading, numbersOf, lowest, highest, unitsOf, summary}
 use Rattle.scheme.specs.Text.{requestLines, firstTwo, analysisText, replyText, inForm, answerText}
 use Rattle.scheme.specs.Text.Pieces.{ascii, word, digits, positive, natural, between, count, unsigned, negative, signed, values}
-use Rattle.scheme.specs.Text.Lines.{number, gridLine, scanLine, rowLine, observation, end, stationLine}
+use Rattle.scheme.specs.Text.Lines.{number, gridLine, entryLine, rowLine, observation, end, stationLine}
 use Rattle.scheme.specs.Text.Order.{lines, rows, nothingAfter}
 use Rattle.scheme.specs.Text.Printed.{spelled, decimal, integer, cells, keyed, gridLines}
 use Rattle.scheme.specs.Accepted.{columns-good}
@@ -60,19 +62,19 @@ at0 = pos 0 ∷ pos 0 ∷ []
 
 -- of that shape and first guess, with these stations, and with this plan
 abbrev shapedSo : (nx ny : ℕ) → List ℤ → Call
-shapedSo nx ny z = asking nx ny z (two good) 2 at64 at0 false roundMode equationRule 1000 60
+shapedSo nx ny z = asking nx ny z (two good) 2 at64 at0 false roundMode equationRule noBuddies 1000 60
 
 abbrev stationedIn : (mode : ℕ) → Columns → Call
-stationedIn mode c = asking 2 2 level c 2 at64 at0 false mode equationRule 1000 60
+stationedIn mode c = asking 2 2 level c 2 at64 at0 false mode equationRule noBuddies 1000 60
 
 abbrev stationed : Columns → Call
 stationed = stationedIn roundMode
 
 abbrev ruledBy : (rule : ℕ) → Columns → (radius : List ℤ) → Call
-ruledBy rule c radius = asking 2 2 level c 2 radius at0 false roundMode rule 1000 60
+ruledBy rule c radius = asking 2 2 level c 2 radius at0 false roundMode rule noBuddies 1000 60
 
 abbrev planned : ℕ → (radius limit : List ℤ) → Call
-planned scans radius limit = asking 2 2 level (two good) scans radius limit false roundMode equationRule 1000 60
+planned scans radius limit = asking 2 2 level (two good) scans radius limit false roundMode equationRule noBuddies 1000 60
 
 -- the whole window
 abbrev all : Window
@@ -149,7 +151,7 @@ pub record Refusals : Type 0 where
   pub short-limits : EachRefuses (planned 3 (pos 64 ∷ at64) at0) (refused 5 0)
   -- and another mode, before 6 and 8
   pub third-mode : EachRefuses (stationedIn 2 (two good)) (refused 5 0)
-  pub mode-before-radius : EachRefuses (asking 2 2 level (two good) 2 at0 at0 false 2 equationRule 1000 60) (refused 5 0)
+  pub mode-before-radius : EachRefuses (asking 2 2 level (two good) 2 at0 at0 false 2 equationRule noBuddies 1000 60) (refused 5 0)
   pub mode-before-wind : EachRefuses (stationedIn 2 (two (blowing (pos 101) (pos 0)))) (refused 5 0)
   pub columns-before-mode : EachRefuses (stationedIn 2 (record { x = at0; y = at0; value = at0; observed = 0 ∷ 0 ∷ []; from = 0 ∷ 0 ∷ []; until = 1 ∷ 1 ∷ []; windU = []; windV = [] })) (refused 4 0)
   -- and after it another rule
@@ -208,7 +210,7 @@ too-many ss h =
     )
 
 refusals : Refusals
-unfolding analysisRefusal windowRefusal screenRefusal fromFive inOrder refusedWith refusedAt first firstFrom orNext badShape badWindow windowsOf badScreen total badLengths badColumns badScans badScan rising badGuess badStation badWind isNoWind stationsOf stationAt isMissing tab
+unfolding analysisRefusal windowRefusal screenRefusal fromFive inOrder refusedWith refusedAt first firstFrom orNext badShape badWindow windowsOf badScreen total badLengths badColumns badScans badScan rising badBuddies badGuess badStation badWind isNoWind stationsOf stationAt isMissing tab
 refusals =
     record {
       not-refused = (refl, refl, refl, refl);
@@ -472,7 +474,7 @@ pub record Texts : Type 0 where
   pub rule-left-out : answerText (loneText []) ≡ answerText (loneText (ascii "rule=1\n"))
 
 texts : Texts
-unfolding answerText replyText requestLines lines rows flatten nothingAfter gridLine scanLine rowLine stationLine number observation end word digits positive natural between count unsigned negative signed values fromFive inOrder refusedWith refusedAt first firstFrom orNext badScans badScan rising badGuess badStation badWind isNoWind isMissing analysisText firstTwo gridLines keyed cells integer decimal spelled analysis stored tab afterWithin scan start rowsJudged sumsAt corrected guess fieldOf R E beforeScans firstThatFits outOfService serves offGrid nearAxis judged afterTest difference valueAt place sumAt cell corners rounded total share gift weightAt blows weight divisor correction backedBy
+unfolding answerText replyText requestLines lines rows flatten nothingAfter gridLine entryLine rowLine stationLine number observation end word digits positive natural between count unsigned negative signed values fromFive inOrder refusedWith refusedAt first firstFrom orNext badScans badScan rising badBuddies badGuess badStation badWind isNoWind isMissing analysisText firstTwo gridLines keyed cells integer decimal spelled analysis stored tab afterWithin scan start rowsJudged allJudged each eachFrom besideOthers heard says isOdd afterBuddies B L sumsAt corrected guess fieldOf R E beforeScans firstThatFits outOfService serves offGrid nearAxis tested afterTest difference valueAt place sumAt cell corners rounded total share gift weightAt blows weight divisor correction backedBy
 texts =
     record {
       longest = λ text e. rw (le-ltb 65536 (length text) (omega arith));
@@ -520,7 +522,7 @@ borders = record { border-keeps = λ z. (refl, refl, refl, refl) }
 -- a grid of two by two, level at 640, so many scans of one radius and limit 64, and one mast, at (x, y), that reads 704
 abbrev asksOf : (scans radius : ℕ) (x y : ℤ) → Request
 asksOf scans radius x y =
-    asking 2 2 (tab 4 (λ p. pos 640)) (mast x y (pos 704) 1000 0 noEnd ∷ []) scans (tab scans (λ m. pos radius)) (tab scans (λ m. pos 64)) false roundMode equationRule 1000 60
+    asking 2 2 (tab 4 (λ p. pos 640)) (mast x y (pos 704) 1000 0 noEnd ∷ []) scans (tab scans (λ m. pos radius)) (tab scans (λ m. pos 64)) false roundMode equationRule noBuddies 1000 60
 
 abbrev fromTo : ℕ → ℕ → Span
 fromTo first last = record { first = first; last = last }
@@ -542,7 +544,7 @@ pub record Posts : Type 0 where
   pub not-past-the-other-border : (onSpan 3 (fromTo 0 1) (pos 384) ≡ false) × (onSpan 3 (fromTo 1 2) (negsuc 255) ≡ false)
 
 posts : Posts
-unfolding analysis stored tab afterWithin scan start rowsJudged sumsAt corrected guess fieldOf R E beforeScans firstThatFits isMissing outOfService serves offGrid nearAxis judged afterTest difference valueAt place sumAt cell corners rounded total share gift weightAt blows weight divisor correction backedBy onSpan
+unfolding analysis stored tab afterWithin scan start rowsJudged allJudged each eachFrom besideOthers heard says isOdd afterBuddies B L sumsAt corrected guess fieldOf R E beforeScans firstThatFits isMissing outOfService serves offGrid nearAxis tested afterTest difference valueAt place sumAt cell corners rounded total share gift weightAt blows weight divisor correction backedBy onSpan
 posts =
     record {
       west-of-the-grid = refl;
@@ -566,7 +568,7 @@ pub record Rims : Type 0 where
       ≡ record { grid = pos 640 ∷ pos 640 ∷ pos 704 ∷ pos 704 ∷ []; support = 0 ∷ 0 ∷ 1 ∷ 1 ∷ []; verdict = 0 ∷ [] }
 
 rims : Rims
-unfolding analysis stored tab afterWithin scan start rowsJudged sumsAt corrected guess fieldOf R E beforeScans firstThatFits isMissing outOfService serves offGrid nearAxis judged afterTest difference valueAt place sumAt cell corners rounded total share gift weightAt blows weight divisor correction backedBy
+unfolding analysis stored tab afterWithin scan start rowsJudged allJudged each eachFrom besideOthers heard says isOdd afterBuddies B L sumsAt corrected guess fieldOf R E beforeScans firstThatFits isMissing outOfService serves offGrid nearAxis tested afterTest difference valueAt place sumAt cell corners rounded total share gift weightAt blows weight divisor correction backedBy
 rims = record { weighed-by-ten-thousandths = refl; inside-without-weight = refl }
 
 -- ---- streaks along the wind
@@ -580,7 +582,7 @@ windMast w x y value = record { x = x; y = y; value = value; observed = 1000; fr
 
 -- a grid of two by two, level at 640, one scan, limit 64
 abbrev breezy : (mode radius : ℕ) → List Station → Request
-breezy mode radius masts = asking 2 2 (tab 4 (λ p. pos 640)) masts 1 (pos radius ∷ []) (pos 64 ∷ []) false mode equationRule 1000 60
+breezy mode radius masts = asking 2 2 (tab 4 (λ p. pos 640)) masts 1 (pos radius ∷ []) (pos 64 ∷ []) false mode equationRule noBuddies 1000 60
 
 -- two masts, on the first point and on the last, in a wind along the rows
 abbrev twoMasts : List Station
@@ -608,7 +610,7 @@ pub record Streaks : Type 0 where
       ≡ levelled (pos 704 ∷ pos 640 ∷ pos 704 ∷ pos 704 ∷ []) (1 ∷ 0 ∷ 1 ∷ 1 ∷ []) (0 ∷ [])
 
 streaks : Streaks
-unfolding analysis stored tab afterWithin scan start rowsJudged sumsAt corrected guess fieldOf R E beforeScans firstThatFits isMissing isNoWind outOfService serves offGrid nearAxis judged afterTest difference valueAt place sumAt cell corners rounded total share gift weightAt blows stretched weight divisor correction backedBy
+unfolding analysis stored tab afterWithin scan start rowsJudged allJudged each eachFrom besideOthers heard says isOdd afterBuddies B L sumsAt corrected guess fieldOf R E beforeScans firstThatFits isMissing isNoWind outOfService serves offGrid nearAxis tested afterTest difference valueAt place sumAt cell corners rounded total share gift weightAt blows stretched weight divisor correction backedBy
 streaks =
     record {
       along-the-rows = (refl, refl, refl, refl, refl, refl);
@@ -622,7 +624,7 @@ streaks =
 
 -- a grid of two by two, level at 640, one scan, limit 64
 abbrev ruled : (mode rule radius : ℕ) → List Station → Request
-ruled mode rule radius masts = asking 2 2 (tab 4 (λ p. pos 640)) masts 1 (pos radius ∷ []) (pos 64 ∷ []) false mode rule 1000 60
+ruled mode rule radius masts = asking 2 2 (tab 4 (λ p. pos 640)) masts 1 (pos radius ∷ []) (pos 64 ∷ []) false mode rule noBuddies 1000 60
 
 -- on the first point, and 20 off it
 abbrev onPoint : Station
@@ -655,7 +657,7 @@ pub record LoneStations : Type 0 where
       ≡ levelled (pos 661 ∷ pos 640 ∷ pos 701 ∷ pos 660 ∷ []) (1 ∷ 0 ∷ 1 ∷ 1 ∷ []) (0 ∷ [])
 
 loneStations : LoneStations
-unfolding analysis stored tab afterWithin scan start rowsJudged sumsAt corrected guess fieldOf R E beforeScans firstThatFits isMissing isNoWind outOfService serves offGrid nearAxis judged afterTest difference valueAt place sumAt cell corners rounded total share gift weightAt blows stretched weight divisor correction backedBy
+unfolding analysis stored tab afterWithin scan start rowsJudged allJudged each eachFrom besideOthers heard says isOdd afterBuddies B L sumsAt corrected guess fieldOf R E beforeScans firstThatFits isMissing isNoWind outOfService serves offGrid nearAxis tested afterTest difference valueAt place sumAt cell corners rounded total share gift weightAt blows stretched weight divisor correction backedBy
 loneStations =
     record {
       by-both-rules = (refl, refl);
@@ -674,7 +676,7 @@ pub record Numbers : Type 0 where
   pub most-difference : mostDifference ≡ 14000000
   pub most-weights : mostWeights ≡ 5120000
   pub most-pulls : mostPulls ≡ 10240000000000
-  pub most-reach : mostReach ≡ 102
+  pub most-reach : mostReach ≡ 150
 
 -- ---- the table
 

@@ -1,27 +1,31 @@
 -- Documents 01 and 02 as a scheme: its pieces keep the laws, and its run goes by them.
 use Prim.Native.Nat.{ℕ, _+_, _-_, _*_, _≤_, _<_, min}
 use native.Mathlib.Omega.{arith}
-use mathlib.Core.Path.{_≡_, refl, sym, ap}
-use mathlib.Core.Bool.{Bool, true, false, cond}
-use borrow.Author.Tests.{leb-true, le-leb}
-use lib.Dec.{leb}
-use lib.IntN.{ℤ, pos, negsuc, _+ℤ_, _*ℤ_}
+use mathlib.Core.Path.{_≡_, refl, sym, ap, fun-ext, _∙_}
+use mathlib.Core.Bool.{Bool, true, false, not, cond, _&&_}
+use mathlib.Core.List.{List}
+use borrow.Author.Tests.{leb-true, le-leb, ne-eqb}
+use lib.Dec.{leb, ltb}
+use lib.IntN.{ℤ, pos, negsuc, natAbs, _+ℤ_, _-ℤ_, _*ℤ_}
 use Rattle.integers.specs.Parts.{up, dn}
 use Rattle.lists.specs.Tests.{and-true, leb-same}
-use Rattle.lists.specs.Sums.{upTo-same}
-use Rattle.lists.specs.Parted.{each-map}
-use Rattle.scheme.specs.Units.{Field, step, Station, mostBeyond, R, E, Request, guess}
+use Rattle.lists.specs.Sums.{total, total-map, upTo-same}
+use Rattle.lists.specs.Each.{each-of-map}
+use Rattle.scheme.specs.Units.{Field, step, Station, mostBeyond, R, E, B, L, Request, guess}
 use Rattle.scheme.specs.Refusals.{Window}
 use Rattle.scheme.specs.Verdicts.{isAccepted, serves, outOfService, nearAxis, onGrid, offGrid, beforeScans}
 use Rattle.scheme.specs.Rounding.{rounded}
 use Rattle.scheme.specs.Value.{place, valueAt}
-use Rattle.scheme.specs.Difference.{Row, difference, afterTest, judged}
+use Rattle.scheme.specs.Difference.{Row, difference, afterTest, tested}
+use Rattle.scheme.specs.Weight.{inside}
+use Rattle.scheme.specs.Buddies.{Heard, silence, both, says, heard, afterBuddies, besideOthers}
 use Rattle.scheme.specs.Correction.{Sums, nothing, plus, gift, share, correction, backedBy}
 use Rattle.scheme.specs.Smoothing.{patternAt, patternRow, patternSum, smoothed}
-use Rattle.scheme.specs.Scan.{begins, start, differences, rowsJudged, sumsAt, corrected, scan, afterWithin, after}
+use Rattle.scheme.specs.Scan.{begins, start, differences, allTested, allJudged, rowsJudged, sumsAt, corrected, scan, afterWithin, after}
 use Rattle.scheme.specs.Reach.{onSpan, onWindow, counted}
-use Rattle.scheme.specs.Adding.{nothing-plus}
-use Rattle.scheme.specs.Gifts.{gift-far}
+use Rattle.scheme.specs.Judging.{judgedBeside, judged-station}
+use Rattle.scheme.specs.Adding.{nothing-plus, silence-both}
+use Rattle.scheme.specs.Gifts.{outside, gift-far}
 use Rattle.scheme.specs.Axes.{Axis, off, len, fromFirst, On, SameBeside, place-up, counted-parts, place-counted}
 use Rattle.scheme.specs.Laws.{Influence, Scheme, States, Run, given, gathered, smoothedIf, Ranged, Laws}
 use Rattle.scheme.specs.Shares.{sum-local}
@@ -32,11 +36,18 @@ use Rattle.scheme.specs.Shares.{sum-local}
 abbrev pub part : Axis → Axis → Window
 part a b = record { columns = a .span; rows = b .span }
 
--- no station is judged by another
-abbrev alone : Influence Station ℤ
-alone = record { Sum = Unit; nil = tt; plus = λ a b. b; range = λ m. 0; give = λ m s d dx dy. tt }
-
 module _ (q : Request) where
+  -- what a station says to another that it is dx and dy off: its difference, if that passes the E test and it is nearer than B
+  abbrev neighbours : Influence Station ℤ
+  neighbours =
+      record {
+        Sum = Heard;
+        nil = silence;
+        plus = both;
+        range = λ m. B (q .plan);
+        give = λ m s D dx dy. cond (not (ltb (E (q .plan) m) (natAbs D)) && inside (B (q .plan) * B (q .plan)) dx dy) (record { count = 1; sum = D }) silence;
+      }
+
   abbrev pull : Influence Station ℤ
   pull =
       record {
@@ -63,9 +74,9 @@ module _ (q : Request) where
         counted = λ a b. counted (part a b);
         begins = λ nx ny. begins mostBeyond nx ny (q .T) (q .A);
         difference = difference;
-        buddies = alone;
-        judge = λ m d h v. afterTest (m + 1) (E (q .plan) m) d v;
-        judged = λ m D r others. judged (m + 1) (E (q .plan) m) D r;
+        buddies = neighbours;
+        judge = λ m D h v. afterBuddies (m + 1) (L (q .plan)) D h (afterTest (m + 1) (E (q .plan) m) D v);
+        judged = λ m D r others. judgedBeside (q .plan) m D r (allTested (q .plan) m D others);
         pull = pull;
         correct = λ m s z. z +ℤ correction (q .plan .rule) s;
         unmarked = 0;
@@ -97,7 +108,9 @@ module _ (q : Request) where
         field-first = λ i j. refl;
         support-first = λ i j. refl;
         rows-first = refl;
-        rows-next = λ m. unfold afterWithin scan rowsJudged in sym (each-map (judged (m + 1) (E (q .plan) m) (differences q (after q m))) (after q m .rows));
+        rows-next =
+            λ m. unfold afterWithin scan rowsJudged allJudged in
+            each-of-map (besideOthers (m + 1) (B (q .plan)) (L (q .plan)) (differences q (after q m))) (tested (m + 1) (E (q .plan) m) (differences q (after q m))) (after q m .rows);
         sums-are = λ m i j. unfold sumsAt share gathered given afterWithin scan in refl;
         field-next =
             λ m i j. unfold afterWithin scan corrected smoothed smoothedIf in
@@ -138,8 +151,37 @@ module _ (q : Request) where
         give-counted = λ a b m s d dx dy. unfold counted in refl;
       }
 
-  alone-ranged : Ranged (cressman q) alone
-  alone-ranged = record { nil-plus = λ t. refl; far = λ m s d dx dy h. refl; give-counted = λ a b m s d dx dy. refl }
+  nobody : (b : Bool) (D : ℤ) → cond (b && false) (record { count = 1; sum = D }) silence ≡ silence
+  nobody true D = refl
+  nobody false D = refl
+
+  neighbours-ranged : Ranged (cressman q) (neighbours q)
+  neighbours-ranged =
+      record {
+        nil-plus = silence-both;
+        far = λ m s D dx dy h. rw (outside (B (q .plan)) dx dy h) (nobody (not (ltb (E (q .plan) m) (natAbs D))) D);
+        give-counted = λ a b m s d dx dy. refl;
+      }
+
+  -- an accepted row says, after the E test, what it gives by its difference
+  said-is : (m : ℕ) (D : Station → ℤ) (s : Station) (r : Row)
+      → says (B (q .plan)) D s (tested (m + 1) (E (q .plan) m) D r) ≡ given (cressman q) (neighbours q) m D (s .x) (s .y) r
+  unfolding says tested afterTest given
+  said-is m D s r = go (isAccepted (r .verdict)) (ltb (E (q .plan) m) (natAbs (D (r .station)))) refl
+    where
+      go : (v t : Bool) → isAccepted (r .verdict) ≡ v
+          → cond (isAccepted (cond v (cond t (10 + (m + 1)) 0) (r .verdict)) && inside (B (q .plan) * B (q .plan)) (r .station .x -ℤ s .x) (r .station .y -ℤ s .y)) (record { count = 1; sum = D (r .station) }) silence
+          ≡ cond v (cond (not t && inside (B (q .plan) * B (q .plan)) (r .station .x -ℤ s .x) (r .station .y -ℤ s .y)) (record { count = 1; sum = D (r .station) }) silence) silence
+      go false t e = rw e
+      go true false e = refl
+      go true true e = rw (ne-eqb (10 + (m + 1)) 0 (λ n. omega arith))
+
+  heard-is : (m : ℕ) (D : Station → ℤ) (s : Station) (others : List Row)
+      → heard (B (q .plan)) D s (allTested (q .plan) m D others) ≡ gathered (cressman q) (neighbours q) m D (s .x) (s .y) others
+  unfolding heard gathered
+  heard-is m D s others =
+      total-map silence both (says (B (q .plan)) D s) (tested (m + 1) (E (q .plan) m) D) others
+      ∙ ap (λ (f : Row → Heard). total silence both f others) (fun-ext (said-is m D s))
 
   module _ (a b : Axis) (s : Station) (e : onWindow (a .n) (b .n) (part a b) s ≡ true) where
     on-x : On a (place (a .n) (s .x))
@@ -170,9 +212,9 @@ module _ (q : Request) where
         value-both true = value-local z z' ag
         value-both false = value-local guess guess' g
 
-  rejected-stays : (m : ℕ) (d : ℤ) (v : ℕ) → isAccepted v ≡ false → isAccepted (afterTest (m + 1) (E (q .plan) m) d v) ≡ false
-  unfolding afterTest
-  rejected-stays m d v e = rw e e
+  rejected-stays : (m : ℕ) (D : ℤ) (h : Heard) (v : ℕ) → isAccepted v ≡ false → isAccepted (afterBuddies (m + 1) (L (q .plan)) D h (afterTest (m + 1) (E (q .plan) m) D v)) ≡ false
+  unfolding afterBuddies afterTest
+  rejected-stays m D h v e = rw (e, e) e
 
   around-local : (z z' : Field ℤ) (i j right down : ℕ) → 0 < i → 0 < j
       → ((a b : ℕ) → a < 3 → b < 3 → z (i + a - 1 + right) (j + b - 1 + down) ≡ z' (i + a - 1) (j + b - 1))
@@ -192,15 +234,17 @@ module _ (q : Request) where
   cressman-laws =
       record {
         pull-ranged = pull-ranged;
-        buddies-ranged = alone-ranged;
+        buddies-ranged = neighbours-ranged;
         counted-x = λ a b s. unfold counted in refl;
         counted-y = λ a b s. unfold counted in refl;
         begins-station = λ nx ny s. refl;
         begins-counted = begins-counted;
         placed-kept = λ a b s e p. rw (span-on a (s .x) (p .along-x), span-on b (s .y) (p .along-y));
         difference-local = difference-local;
-        judged-station = λ m D r others. unfold judged in refl;
-        judged-verdict = λ m D r others. unfold judged in refl;
-        rejected-stays = λ m d h v e. rejected-stays m d v e;
+        judged-station = λ m D r others. judged-station (q .plan) m D r (allTested (q .plan) m D others);
+        judged-verdict =
+            λ m D r others. unfold besideOthers tested in
+            ap (λ (h : Heard). afterBuddies (m + 1) (L (q .plan)) (D (r .station)) h (afterTest (m + 1) (E (q .plan) m) (D (r .station)) (r .verdict))) (heard-is m D (r .station) others);
+        rejected-stays = rejected-stays;
         around-local = around-local;
       }

@@ -4,32 +4,25 @@ use native.Mathlib.Omega.{arith}
 use native.Mathlib.Nat.{zero-add, add-zero}
 use mathlib.Core.Path.{_≡_, refl, sym, ap, fun-ext, _∙_}
 use mathlib.Core.Bool.{Bool, false, cond, _&&_}
-use mathlib.Core.List.{List, map}
-use lib.ListN.{getD, List·getD-map}
+use mathlib.Core.List.{List}
+use lib.ListN.{getD}
 use lib.IntN.{ℤ, _+ℤ_}
-use Rattle.lists.specs.Members.{All, all-map, all-also, all-of}
-use Rattle.lists.specs.Keep.{keep, total-keep, keep-map}
-use Rattle.scheme.specs.Units.{isMissing, Field, stored, Station, mostBeyond, R, E, Request, guess, withStations}
+use Rattle.lists.specs.Sums.{total, total-map}
+use Rattle.lists.specs.Keep.{keep}
+use Rattle.lists.specs.Parted.{Parted, keep-parted, total-parted, each-parted}
+use Rattle.lists.specs.Each.{without, each-of-map}
+use Rattle.scheme.specs.Units.{isMissing, Field, stored, Station, mostBeyond, R, E, B, L, Request, guess, withStations}
 use Rattle.scheme.specs.Verdicts.{isAccepted, serves, outOfService, firstThatFits, beforeScans}
-use Rattle.scheme.specs.Difference.{Row, difference, afterTest, judged}
+use Rattle.scheme.specs.Difference.{Row, difference, tested}
+use Rattle.scheme.specs.Buddies.{Heard, silence, both, says, heard, afterBuddies, besideOthers}
 use Rattle.scheme.specs.Correction.{Sums, nothing, plus, share, correction, backedBy}
 use Rattle.scheme.specs.Smoothing.{smoothed}
-use Rattle.scheme.specs.Scan.{begins, start, differences, rowsJudged, sumsAt, corrected, scan, afterWithin, after, analysis}
-use Rattle.scheme.specs.Accepted.{noStation}
-use Rattle.scheme.specs.Adding.{nothing-plus}
+use Rattle.scheme.specs.Scan.{begins, start, differences, allTested, allJudged, rowsJudged, sumsAt, corrected, scan, afterWithin, after, analysis}
+use Rattle.scheme.specs.Judging.{noRow, judgedBeside, rejected-passes-test, rejected-stays, judged-row, judged-station}
+use Rattle.scheme.specs.Adding.{nothing-plus, silence-both}
 use Rattle.scheme.specs.Gifts.{sums, rejected-gives-nothing}
 
--- ---- a row that is not accepted stays as it is, whatever it is judged by
-
-rejected-stays : (scan limit : ℕ) (D : Station → ℤ) (r : Row) → isAccepted (r .verdict) ≡ false → judged scan limit D r ≡ r
-unfolding judged afterTest
-rejected-stays scan limit D r e = rw e
-
 -- ---- row n of a run
-
--- where there is no row n, there is no accepted one
-abbrev pub noRow : Row
-noRow = record { station = noStation; verdict = 1 }
 
 abbrev pub rowAfter : Request → ℕ → ℕ → Row
 rowAfter q m n = getD (after q m .rows) n noRow
@@ -38,18 +31,29 @@ rowAfter q m n = getD (after q m .rows) n noRow
 abbrev pub weightIn : Request → (m n i j : ℕ) → ℕ
 weightIn q m n i j = share (q .plan .mode) (R (q .plan) m) (differences q (after q m)) i j (getD (rowsJudged q m (after q m)) n noRow) .weights
 
--- how scan number m + 1 judges a row
-abbrev pub judgedIn : Request → ℕ → Row → Row
-judgedIn q m = judged (m + 1) (E (q .plan) m) (differences q (after q m))
+-- how scan number m + 1 judges row n: beside the others, as its E test leaves them
+abbrev pub survivors : Request → (m n : ℕ) → List Row
+survivors q m n = without n (allTested (q .plan) m (differences q (after q m)) (after q m .rows))
 
-stays-in : (q : Request) (m : ℕ) (r : Row) → isAccepted (r .verdict) ≡ false → judgedIn q m r ≡ r
-stays-in q m = rejected-stays (m + 1) (E (q .plan) m) (differences q (after q m))
+abbrev pub judgedIn : Request → (m n : ℕ) → Row → Row
+judgedIn q m n r = judgedBeside (q .plan) m (differences q (after q m)) r (survivors q m n)
 
-pub row-next : (q : Request) (m n : ℕ) → rowAfter q (suc m) n ≡ judgedIn q m (rowAfter q m n)
+stays-in : (q : Request) (m n : ℕ) (r : Row) → isAccepted (r .verdict) ≡ false → judgedIn q m n r ≡ r
+stays-in q m n r = rejected-stays (q .plan) m (differences q (after q m)) r (survivors q m n)
+
+pub row-next : (q : Request) (m n : ℕ) → rowAfter q (suc m) n ≡ judgedIn q m n (rowAfter q m n)
 unfolding afterWithin scan rowsJudged
-row-next q m n =
-    ap (λ (o : Row). getD (map (judgedIn q m) (after q m .rows)) n o) (sym (stays-in q m noRow refl))
-    ∙ List·getD-map (judgedIn q m) (after q m .rows) n noRow
+row-next q m n = judged-row (q .plan) m (differences q (after q m)) (after q m .rows) n
+
+-- no scan moves a station
+pub station-stays : (q : Request) (m n t : ℕ) → rowAfter q (m + t) n .station ≡ rowAfter q m n .station
+station-stays q m n zero = ap (λ (k : ℕ). rowAfter q k n .station) (add-zero m)
+station-stays q m n (suc t) =
+    let s : m + suc t ≡ suc (m + t) = omega arith in
+    ap (λ (k : ℕ). rowAfter q k n .station) s
+    ∙ ap (λ (r : Row). r .station) (row-next q (m + t) n)
+    ∙ judged-station (q .plan) (m + t) (differences q (after q (m + t))) (rowAfter q (m + t) n) (survivors q (m + t) n)
+    ∙ station-stays q m n t
 
 row-judged : (q : Request) (m n : ℕ) → getD (rowsJudged q m (after q m)) n noRow ≡ rowAfter q (suc m) n
 unfolding afterWithin scan
@@ -63,8 +67,8 @@ rejected-for-good q m n (suc t) e =
     let same = rejected-for-good q m n t e in
     ap (λ (k : ℕ). rowAfter q k n) s
     ∙ row-next q (m + t) n
-    ∙ ap (judgedIn q (m + t)) same
-    ∙ stays-in q (m + t) (rowAfter q m n) e
+    ∙ ap (judgedIn q (m + t) n) same
+    ∙ stays-in q (m + t) n (rowAfter q m n) e
 
 -- so a row that is not accepted after the judging of scan number k + 1 has no weight in that scan and in every later one
 pub rejected-has-no-weight : (q : Request) (k n t i j : ℕ) → isAccepted (rowAfter q (suc k) n .verdict) ≡ false → weightIn q (k + t) n i j ≡ 0
@@ -103,64 +107,67 @@ module _ (q : Request) where
   abbrev pub withoutDeadMasts : Request
   withoutDeadMasts = withStations q (keep alive (q .stations))
 
-  abbrev aliveRow : Row → Bool
-  aliveRow r = alive (r .station)
-
-  -- no dead mast is accepted
+  -- a row that is left out is not accepted
   abbrev Dead : Row → Type 0
-  Dead r = aliveRow r ≡ false → isAccepted (r .verdict) ≡ false
+  Dead r = isAccepted (r .verdict) ≡ false
 
   -- what the two runs have in common after m scans
   record Alike (m : ℕ) : Type 0 where
     field : after withoutDeadMasts m .field ≡ after q m .field
     support : after withoutDeadMasts m .support ≡ after q m .support
-    rows : after withoutDeadMasts m .rows ≡ keep aliveRow (after q m .rows)
-    dead : All Dead (after q m .rows)
+    rows : Parted _≡_ Dead (after q m .rows) (after withoutDeadMasts m .rows)
 
   abbrev begun : Station → Row
   begun = begins mostBeyond (q .nx) (q .ny) (q .T) (q .A)
 
   alike-start : Alike 0
   unfolding afterWithin start guess
-  alike-start =
-      record {
-        field = refl;
-        support = refl;
-        rows = sym (keep-map alive aliveRow begun (λ s. refl) (q .stations));
-        dead = all-map (λ s. Unit {0}) Dead begun (λ s u e. e) (all-of (λ s. Unit {0}) (λ s. tt) (q .stations));
-      }
+  alike-start = record { field = refl; support = refl; rows = keep-parted alive begun begun (λ s e. refl) (λ s e. e) (q .stations) }
 
   module _ (m : ℕ) (h : Alike m) where
-    -- the differences of the scan
-    same-D : differences withoutDeadMasts (after withoutDeadMasts m) ≡ differences q (after q m)
+    abbrev D : Station → ℤ
+    D = differences q (after q m)
+
+    same-D : differences withoutDeadMasts (after withoutDeadMasts m) ≡ D
     unfolding guess
     same-D = ap (difference (q .nx) (q .ny) (guess q)) (h .field)
 
-    judged-rows : rowsJudged withoutDeadMasts m (after withoutDeadMasts m) ≡ keep aliveRow (rowsJudged q m (after q m))
-    unfolding rowsJudged judged
-    judged-rows =
-        ap (λ (D : Station → ℤ). map (judged (m + 1) (E (q .plan) m) D) (after withoutDeadMasts m .rows)) same-D
-        ∙ ap (map (judgedIn q m)) (h .rows)
-        ∙ sym (keep-map aliveRow aliveRow (judgedIn q m) (λ r. refl) (after q m .rows))
+    -- the judging of a row beside others as the scan finds them
+    abbrev judging : Row → List Row → Row
+    judging r others = judgedBeside (q .plan) m D r (allTested (q .plan) m D others)
 
-    judged-dead : All Dead (rowsJudged q m (after q m))
-    unfolding rowsJudged
-    judged-dead = all-map Dead Dead (judgedIn q m) stays (h .dead)
+    -- a dead mast says nothing to another
+    same-judging : (r c : Row) (rs cs : List Row) → r ≡ c → Parted _≡_ Dead rs cs → judging r rs ≡ judging c cs
+    unfolding besideOthers heard
+    same-judging r c rs cs e p = rw e (ap (λ (x : Heard). record { station = tested (m + 1) (E (q .plan) m) D c .station; verdict = afterBuddies (m + 1) (L (q .plan)) (D (tested (m + 1) (E (q .plan) m) D c .station)) x (tested (m + 1) (E (q .plan) m) D c .verdict) }) same-heard)
       where
-        stays : (r : Row) → Dead r → Dead (judgedIn q m r)
-        stays r d = unfold judged in (λ e. ap (λ (s : Row). isAccepted (s .verdict)) (stays-in q m r (d e)) ∙ d e)
+        s : Station
+        s = tested (m + 1) (E (q .plan) m) D c .station
 
-    gone : (i j : ℕ) → All (λ r. aliveRow r ≡ false → share (q .plan .mode) (R (q .plan) m) (differences q (after q m)) i j r ≡ nothing) (rowsJudged q m (after q m))
-    gone i j =
-        all-also Dead (λ r. aliveRow r ≡ false → share (q .plan .mode) (R (q .plan) m) (differences q (after q m)) i j r ≡ nothing)
-        (λ r d e. rejected-gives-nothing (q .plan .mode) (R (q .plan) m) (differences q (after q m)) i j r (d e)) judged-dead
+        said : Row → Heard
+        said r = says (B (q .plan)) D s (tested (m + 1) (E (q .plan) m) D r)
+
+        silent : (r : Row) → Dead r → said r ≡ silence
+        silent r e = rw (rejected-passes-test (m + 1) (E (q .plan) m) D r e) (unfold says in rw e)
+
+        same-heard : total silence both (says (B (q .plan)) D s) (allTested (q .plan) m D rs) ≡ total silence both (says (B (q .plan)) D s) (allTested (q .plan) m D cs)
+        same-heard =
+            total-map silence both (says (B (q .plan)) D s) (tested (m + 1) (E (q .plan) m) D) rs
+            ∙ total-parted silence both said said silence-both (λ a b e. ap said e) silent p
+            ∙ sym (total-map silence both (says (B (q .plan)) D s) (tested (m + 1) (E (q .plan) m) D) cs)
+
+    judged-rows : Parted _≡_ Dead (rowsJudged q m (after q m)) (rowsJudged withoutDeadMasts m (after withoutDeadMasts m))
+    unfolding rowsJudged allJudged
+    judged-rows =
+        rw (same-D, each-of-map (besideOthers (m + 1) (B (q .plan)) (L (q .plan)) D) (tested (m + 1) (E (q .plan) m) D) (after q m .rows), each-of-map (besideOthers (m + 1) (B (q .plan)) (L (q .plan)) D) (tested (m + 1) (E (q .plan) m) D) (after withoutDeadMasts m .rows))
+        (each-parted _≡_ Dead judging judging same-judging (λ r rs e. ap (λ (o : Row). isAccepted (o .verdict)) (rejected-stays (q .plan) m D r (allTested (q .plan) m D rs) e) ∙ e) (h .rows))
 
     same-sums-at : (i j : ℕ) → sumsAt withoutDeadMasts m (after withoutDeadMasts m) i j ≡ sumsAt q m (after q m) i j
     unfolding sumsAt
     same-sums-at i j =
-        ap (λ (D : Station → ℤ). sums (q .plan .mode) (R (q .plan) m) D (rowsJudged withoutDeadMasts m (after withoutDeadMasts m)) i j) same-D
-        ∙ ap (λ (rows : List Row). sums (q .plan .mode) (R (q .plan) m) (differences q (after q m)) rows i j) judged-rows
-        ∙ total-keep nothing plus nothing-plus (share (q .plan .mode) (R (q .plan) m) (differences q (after q m)) i j) aliveRow (gone i j)
+        ap (λ (F : Station → ℤ). sums (q .plan .mode) (R (q .plan) m) F (rowsJudged withoutDeadMasts m (after withoutDeadMasts m)) i j) same-D
+        ∙ sym (total-parted nothing plus _ _ nothing-plus (λ r c e. ap (share (q .plan .mode) (R (q .plan) m) D i j) e)
+        (rejected-gives-nothing (q .plan .mode) (R (q .plan) m) D i j) judged-rows)
 
     same-sums : sumsAt withoutDeadMasts m (after withoutDeadMasts m) ≡ sumsAt q m (after q m)
     same-sums = fun-ext (λ i. fun-ext (same-sums-at i))
@@ -174,7 +181,6 @@ module _ (q : Request) where
               ap (λ (f : Field Sums). λ i j. backedBy m (f i j) (after withoutDeadMasts m .support i j)) same-sums
               ∙ ap (λ (f : Field ℕ). λ i j. backedBy m (sumsAt q m (after q m) i j) (f i j)) (h .support);
           rows = judged-rows;
-          dead = judged-dead;
         }
       where
         same-corrected : corrected withoutDeadMasts m (after withoutDeadMasts m) ≡ corrected q m (after q m)

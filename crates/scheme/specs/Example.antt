@@ -8,24 +8,26 @@ use lib.Dec.{eqb}
 use lib.IntN.{ℤ, pos}
 use Rattle.lists.specs.Tab.{tab}
 use Rattle.lists.specs.Sums.{total, upTo}
+use Rattle.lists.specs.Parted.{eachFrom, each}
 use Rattle.lists.specs.First.{first, firstFrom, orNext}
-use Rattle.scheme.specs.Units.{isMissing, Field, stored, fieldOf, noWind, isNoWind, Station, stationAt, stationsOf, roundMode, equationRule, listingRule, R, E, Request, guess, asking}
-use Rattle.scheme.specs.Refusals.{accepted, inOrder, refusedWith, refusedAt, badShape, Window, badWindow, windowAt, Screen, windowsOf, badScreen, badLengths, badColumns, badScans, rising, badScan, badGuess, badWind, badStation, fromFive, analysisRefusal, windowRefusal, screenRefusal}
+use Rattle.scheme.specs.Units.{isMissing, Field, stored, fieldOf, noWind, isNoWind, Station, stationAt, stationsOf, roundMode, equationRule, listingRule, noBuddies, R, E, B, L, Request, guess, asking}
+use Rattle.scheme.specs.Refusals.{accepted, inOrder, refusedWith, refusedAt, badShape, Window, badWindow, windowAt, Screen, windowsOf, badScreen, badLengths, badColumns, badScans, rising, badScan, badBuddies, badGuess, badWind, badStation, fromFive, analysisRefusal, windowRefusal, screenRefusal}
 use Rattle.scheme.specs.Verdicts.{serves, outOfService, nearAxis, offGrid, firstThatFits, beforeScans}
 use Rattle.scheme.specs.Rounding.{rounded}
 use Rattle.scheme.specs.Value.{place, cell, corners, sumAt, valueAt}
-use Rattle.scheme.specs.Difference.{difference, afterTest, judged}
+use Rattle.scheme.specs.Difference.{difference, afterTest, tested}
+use Rattle.scheme.specs.Buddies.{says, heard, isOdd, afterBuddies, besideOthers}
 use Rattle.scheme.specs.Weight.{weight, blows, weightAt}
 use Rattle.scheme.specs.Correction.{gift, share, divisor, correction, backedBy}
 use Rattle.scheme.specs.Smoothing.{patternRow, patternSum, inner, smoothed}
-use Rattle.scheme.specs.Scan.{start, rowsJudged, sumsAt, corrected, scan, afterWithin, after, atEnd, Analysis, analysis}
+use Rattle.scheme.specs.Scan.{start, allJudged, rowsJudged, sumsAt, corrected, scan, afterWithin, after, atEnd, Analysis, analysis}
 use Rattle.scheme.specs.Reach.{Tile, windowOf, wholeAt, wholeAtEach}
 use Rattle.scheme.specs.Accepted.{Ruled}
 use Rattle.scheme.specs.Calls.{callFor}
 use Rattle.scheme.specs.Promises.{slices, tile, fourColumns}
 use Rattle.scheme.specs.Text.{requestLines, firstTwo, analysisText, replyText, answerText}
 use Rattle.scheme.specs.Text.Pieces.{ascii, word, digits, positive, natural, between, count, unsigned, negative, signed, values}
-use Rattle.scheme.specs.Text.Lines.{number, gridLine, scanLine, rowLine, observation, end, stationLine}
+use Rattle.scheme.specs.Text.Lines.{number, gridLine, entryLine, rowLine, observation, end, stationLine}
 use Rattle.scheme.specs.Text.Order.{lines, rows, nothingAfter}
 use Rattle.scheme.specs.Text.Printed.{spelled, decimal, integer, cells, keyed, gridLines}
 
@@ -50,7 +52,7 @@ level = tab 9 (λ p. pos 640)
 
 abbrev asked-of : (rule : ℕ) → List Station → (scans radius : ℕ) → Bool → Request
 asked-of rule stations scans radius smooth =
-    asking 3 3 level stations scans (tab scans (λ m. pos radius)) (tab scans (λ m. pos 200)) smooth roundMode rule 1000 60
+    asking 3 3 level stations scans (tab scans (λ m. pos radius)) (tab scans (λ m. pos 200)) smooth roundMode rule noBuddies 1000 60
 
 abbrev pub example : (rule scans : ℕ) → Bool → Request
 example rule scans smooth = asked-of rule masts scans 96 smooth
@@ -160,14 +162,14 @@ abbrev Accepts : (rule : ℕ) → Type 0
 Accepts rule = BothAccept (example rule 1 false) × BothAccept (example rule 2 false) × BothAccept (example rule 2 true)
 
 pub example-accepted : (rule : ℕ) → Ruled rule → Accepts rule
-unfolding analysisRefusal windowRefusal fromFive inOrder refusedWith refusedAt first firstFrom orNext badShape badWindow badLengths badColumns badScans badScan rising badGuess badStation badWind isNoWind stationsOf stationAt isMissing tab
+unfolding analysisRefusal windowRefusal fromFive inOrder refusedWith refusedAt first firstFrom orNext badShape badWindow badLengths badColumns badScans badScan rising badBuddies badGuess badStation badWind isNoWind stationsOf stationAt isMissing tab
 example-accepted = under-both Accepts ((refl, refl), (refl, refl), (refl, refl)) ((refl, refl), (refl, refl), (refl, refl))
 
 abbrev Analysed : (rule : ℕ) → Type 0
 Analysed rule = (analysis (example rule 1 false) ≡ once rule) × (analysis (example rule 2 false) ≡ twice rule) × (analysis (example rule 2 true) ≡ smooth rule)
 
 pub example-analysis : (rule : ℕ) → Ruled rule → Analysed rule
-unfolding analysis stored tab afterWithin scan start rowsJudged sumsAt corrected smoothed patternSum patternRow inner upTo guess fieldOf R E beforeScans firstThatFits isMissing outOfService serves offGrid nearAxis judged afterTest difference valueAt place sumAt cell corners rounded total share gift weightAt blows weight divisor correction backedBy
+unfolding analysis stored tab afterWithin scan start rowsJudged allJudged each eachFrom besideOthers heard says isOdd afterBuddies B L sumsAt corrected smoothed patternSum patternRow inner upTo guess fieldOf R E beforeScans firstThatFits isMissing outOfService serves offGrid nearAxis tested afterTest difference valueAt place sumAt cell corners rounded total share gift weightAt blows weight divisor correction backedBy
 example-analysis = under-both Analysed (refl, refl, refl) (refl, refl, refl)
 
 abbrev Tiled : (rule : ℕ) → Type 0
@@ -176,14 +178,14 @@ Tiled rule =
     × (wholeAt (example rule 2 true) corner ≡ cornerSmooth rule)
 
 pub example-window : (rule : ℕ) → Ruled rule → Tiled rule
-unfolding wholeAt windowOf stored tab afterWithin scan start rowsJudged sumsAt corrected smoothed patternSum patternRow inner upTo guess fieldOf R E beforeScans firstThatFits isMissing outOfService serves offGrid nearAxis judged afterTest difference valueAt place sumAt cell corners rounded total share gift weightAt blows weight divisor correction backedBy
+unfolding wholeAt windowOf stored tab afterWithin scan start rowsJudged allJudged each eachFrom besideOthers heard says isOdd afterBuddies B L sumsAt corrected smoothed patternSum patternRow inner upTo guess fieldOf R E beforeScans firstThatFits isMissing outOfService serves offGrid nearAxis tested afterTest difference valueAt place sumAt cell corners rounded total share gift weightAt blows weight divisor correction backedBy
 example-window = under-both Tiled (refl, refl, refl) (refl, refl, refl)
 
 abbrev Screened : (rule : ℕ) → Type 0
 Screened rule = (screenRefusal (callFor (example rule 1 false)) blocks 7 7 ≡ accepted) × (wholeAtEach (example rule 1 false) (windowsOf blocks) ≡ blocksOnce rule)
 
 pub example-screen : (rule : ℕ) → Ruled rule → Screened rule
-unfolding screenRefusal fromFive inOrder refusedWith refusedAt first firstFrom orNext badShape badWindow badScreen badLengths badColumns badScans badScan rising badGuess badStation badWind isNoWind stationsOf stationAt windowsOf total wholeAt windowOf stored tab afterWithin scan start rowsJudged sumsAt corrected smoothed patternSum patternRow inner upTo guess fieldOf R E beforeScans firstThatFits isMissing outOfService serves offGrid nearAxis judged afterTest difference valueAt place sumAt cell corners rounded share gift weightAt blows weight divisor correction backedBy
+unfolding screenRefusal fromFive inOrder refusedWith refusedAt first firstFrom orNext badShape badWindow badScreen badLengths badColumns badScans badScan rising badBuddies badGuess badStation badWind isNoWind stationsOf stationAt windowsOf total wholeAt windowOf stored tab afterWithin scan start rowsJudged allJudged each eachFrom besideOthers heard says isOdd afterBuddies B L sumsAt corrected smoothed patternSum patternRow inner upTo guess fieldOf R E beforeScans firstThatFits isMissing outOfService serves offGrid nearAxis tested afterTest difference valueAt place sumAt cell corners rounded share gift weightAt blows weight divisor correction backedBy
 example-screen = under-both Screened (refl, refl) (refl, refl)
 
 -- what the cheats would leave
@@ -195,14 +197,14 @@ Cheated rule =
     × (windowOf corner (onlySmoothed rule) ≡ pos 587 ∷ pos 672 ∷ pos 672 ∷ pos (byRule rule 723 670) ∷ [])
 
 pub example-cheated : (rule : ℕ) → Ruled rule → Cheated rule
-unfolding windowOf stored tab afterWithin scan start rowsJudged sumsAt corrected smoothed patternSum patternRow inner upTo guess fieldOf R E beforeScans firstThatFits isMissing outOfService serves offGrid nearAxis judged afterTest difference valueAt place sumAt cell corners rounded total share gift weightAt blows weight divisor correction backedBy
+unfolding windowOf stored tab afterWithin scan start rowsJudged allJudged each eachFrom besideOthers heard says isOdd afterBuddies B L sumsAt corrected smoothed patternSum patternRow inner upTo guess fieldOf R E beforeScans firstThatFits isMissing outOfService serves offGrid nearAxis tested afterTest difference valueAt place sumAt cell corners rounded total share gift weightAt blows weight divisor correction backedBy
 example-cheated = under-both Cheated (refl, refl, refl, refl) (refl, refl, refl, refl)
 
 abbrev Answered : (rule : ℕ) → Type 0
 Answered rule = (answerText (onceText rule) ≡ onceAnswer rule) × (answerText (twiceText rule) ≡ twiceAnswer rule) × (answerText (smoothText rule) ≡ smoothAnswer rule)
 
 pub example-text : (rule : ℕ) → Ruled rule → Answered rule
-unfolding answerText replyText requestLines lines rows flatten nothingAfter gridLine scanLine rowLine stationLine number observation end word digits positive natural between count unsigned negative signed values fromFive inOrder refusedWith refusedAt first firstFrom orNext badScans badScan rising badGuess badStation badWind isNoWind isMissing analysisText firstTwo gridLines keyed cells integer decimal spelled analysis stored tab afterWithin scan start rowsJudged sumsAt corrected smoothed patternSum patternRow inner upTo guess fieldOf R E beforeScans firstThatFits outOfService serves offGrid nearAxis judged afterTest difference valueAt place sumAt cell corners rounded total share gift weightAt blows weight divisor correction backedBy
+unfolding answerText replyText requestLines lines rows flatten nothingAfter gridLine entryLine rowLine stationLine number observation end word digits positive natural between count unsigned negative signed values fromFive inOrder refusedWith refusedAt first firstFrom orNext badScans badScan rising badBuddies badGuess badStation badWind isNoWind isMissing analysisText firstTwo gridLines keyed cells integer decimal spelled analysis stored tab afterWithin scan start rowsJudged allJudged each eachFrom besideOthers heard says isOdd afterBuddies B L sumsAt corrected smoothed patternSum patternRow inner upTo guess fieldOf R E beforeScans firstThatFits outOfService serves offGrid nearAxis tested afterTest difference valueAt place sumAt cell corners rounded total share gift weightAt blows weight divisor correction backedBy
 example-text = under-both Answered (refl, refl, refl) (refl, refl, refl)
 
 -- ---- So with smoothing a point without support may change: with one mast in the corner, whose radius reaches no other point, the middle does
@@ -211,5 +213,5 @@ abbrev pub lone : Request
 lone = asked-of equationRule (corner-mast ∷ []) 1 64 true
 
 pub smoothing-may-move-an-unsupported-point : (atEnd lone .support 1 1 ≡ 0) × (guess lone 1 1 ≡ pos 640) × (atEnd lone .field 1 1 ≡ pos 636)
-unfolding afterWithin scan start rowsJudged sumsAt corrected smoothed patternSum patternRow inner upTo guess fieldOf tab R E beforeScans firstThatFits isMissing outOfService serves offGrid nearAxis judged afterTest difference valueAt place sumAt cell corners rounded total share gift weightAt blows weight divisor correction backedBy
+unfolding afterWithin scan start rowsJudged allJudged each eachFrom besideOthers heard says isOdd afterBuddies B L sumsAt corrected smoothed patternSum patternRow inner upTo guess fieldOf tab R E beforeScans firstThatFits isMissing outOfService serves offGrid nearAxis tested afterTest difference valueAt place sumAt cell corners rounded total share gift weightAt blows weight divisor correction backedBy
 smoothing-may-move-an-unsupported-point = (refl, refl, refl)

@@ -63,11 +63,15 @@ module _ (mode r2 : ℕ) (wind : Wind) (D dx dy : ℤ) where
   gift-modest limit h =
       rw gift-weighed (modest-weighed limit (inside r2 dx dy) (weightAt mode r2 wind dx dy) D (weight-inside-alone mode r2 wind dx dy) h)
 
--- as far off as R along one axis
+-- what is as far off as a radius along one axis is not inside it
+pub outside : (radius : ℕ) (dx dy : ℤ) → (radius ≤ natAbs dx) ⊎ (radius ≤ natAbs dy) → inside (radius * radius) dx dy ≡ false
+outside radius dx dy (inl h) = le-ltb (squares dx dy) (radius * radius) (omega (arith, mul-le-mul h h))
+outside radius dx dy (inr h) = le-ltb (squares dx dy) (radius * radius) (omega (arith, mul-le-mul h h))
+
+-- and gives nothing
 pub gift-far : (mode radius : ℕ) (wind : Wind) (D dx dy : ℤ) → (radius ≤ natAbs dx) ⊎ (radius ≤ natAbs dy)
     → gift mode (radius * radius) wind D dx dy ≡ nothing
-gift-far mode radius wind D dx dy (inl h) = gift-outside mode (radius * radius) wind D dx dy (omega (arith, mul-le-mul h h))
-gift-far mode radius wind D dx dy (inr h) = gift-outside mode (radius * radius) wind D dx dy (omega (arith, mul-le-mul h h))
+gift-far mode radius wind D dx dy h = gift-outside mode (radius * radius) wind D dx dy (ltb-false (squares dx dy) (radius * radius) (outside radius dx dy h))
 
 -- what the rows of a scan give to point (i, j)
 abbrev pub sums : (mode radius : ℕ) (D : Station → ℤ) → List Row → (i j : ℕ) → Sums

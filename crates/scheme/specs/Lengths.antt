@@ -2,16 +2,17 @@
 use Prim.Native.Nat.{ℕ, zero, suc, _+_, _*_}
 use mathlib.Core.Path.{_≡_, _∙_}
 use lib.ListN.{length, length-map}
-use Rattle.scheme.specs.Units.{mostBeyond, E, Request}
-use Rattle.scheme.specs.Difference.{Row, judged}
+use Rattle.scheme.specs.Units.{mostBeyond, Request}
+use Rattle.scheme.specs.Difference.{Row}
 use Rattle.scheme.specs.Scan.{State, begins, start, differences, rowsJudged, scan, afterWithin, after, analysis}
+use Rattle.scheme.specs.Judging.{judged-length}
 use Rattle.scheme.specs.Stored.{length-stored}
 
 module _ (q : Request) where
   -- a scan leaves a row for each
   scan-rows : (m : ℕ) (found : State) → length (scan q m found .rows) ≡ length (found .rows)
   unfolding scan rowsJudged
-  scan-rows m found = length-map (found .rows) (judged (m + 1) (E (q .plan) m) (differences q found))
+  scan-rows m found = judged-length (q .plan) m (differences q found) (found .rows)
 
   pub rows-many : (m : ℕ) → length (after q m .rows) ≡ length (q .stations)
   unfolding afterWithin start

@@ -30,6 +30,7 @@ pub mod Adding
 pub mod Cells
 pub mod Decimals
 pub mod Stored
+pub mod Judging
 pub mod Lengths
 pub mod Bounds
 pub mod Exact

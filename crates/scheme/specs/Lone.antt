@@ -16,15 +16,15 @@ use Rattle.lists.specs.Tests.{true-or-false, not-both, cond-same}
 use Rattle.lists.specs.Sums.{total}
 use Rattle.lists.specs.Members.{Some, here, later, some-also}
 use Rattle.lists.specs.Keep.{keep}
-use Rattle.scheme.specs.Units.{amongℤ, Field, stored, fieldOf, Station, equationRule, listingRule, R, E, Request, guess, asking}
+use Rattle.scheme.specs.Units.{amongℤ, Field, stored, fieldOf, Station, equationRule, listingRule, R, E, B, L, Request, guess, asking}
 use Rattle.scheme.specs.Verdicts.{isAccepted, onGrid}
 use Rattle.scheme.specs.Rounding.{halfUp, rounded}
 use Rattle.scheme.specs.Value.{place, valueAt}
-use Rattle.scheme.specs.Difference.{Row, difference, judged}
+use Rattle.scheme.specs.Difference.{Row, difference}
 use Rattle.scheme.specs.Weight.{scale}
 use Rattle.scheme.specs.Correction.{Sums, nothing, plus, share, isLone, divisor, correction, backedBy}
 use Rattle.scheme.specs.Smoothing.{smoothed}
-use Rattle.scheme.specs.Scan.{State, start, differences, rowsJudged, sumsAt, corrected, scan, afterWithin, after, analysis}
+use Rattle.scheme.specs.Scan.{State, start, differences, allJudged, rowsJudged, sumsAt, corrected, scan, afterWithin, after, analysis}
 use Rattle.scheme.specs.Adding.{nothing-plus, plus-nothing}
 use Rattle.scheme.specs.Nearest.{rounded-turned, half-size}
 use Rattle.scheme.specs.Streaks.{weight-lies-in-the-scale}
@@ -178,15 +178,15 @@ module _ (mode radius : ℕ) (D : Station → ℤ) (i j : ℕ) where
 -- the same request under another rule
 abbrev pub withRule : ℕ → Request → Request
 withRule rule q =
-    asking (q .nx) (q .ny) (q .firstGuess) (q .stations) (q .plan .scans) (q .plan .radius) (q .plan .limit) (q .plan .smooth) (q .plan .mode) rule (q .T) (q .A)
+    asking (q .nx) (q .ny) (q .firstGuess) (q .stations) (q .plan .scans) (q .plan .radius) (q .plan .limit) (q .plan .smooth) (q .plan .mode) rule (q .plan .buddies) (q .T) (q .A)
 
 module _ (q : Request) (rule m : ℕ) (found : State) where
   pub rules-judge-alike : rowsJudged (withRule rule q) m found ≡ rowsJudged q m found
-  unfolding rowsJudged E guess
+  unfolding rowsJudged allJudged E B L guess
   rules-judge-alike = refl
 
   pub rules-sum-alike : sumsAt (withRule rule q) m found ≡ sumsAt q m found
-  unfolding sumsAt rowsJudged R E guess
+  unfolding sumsAt rowsJudged allJudged R E B L guess
   rules-sum-alike = refl
 
   pub rules-support-alike : scan (withRule rule q) m found .support ≡ scan q m found .support
@@ -274,10 +274,10 @@ module _ (q : Request) (rule : ℕ) (wide : 2 ≤ q .nx) (high : 2 ≤ q .ny)
         go s false = refl
 
     same-rows : rowsJudged other m (after other m) ≡ rowsJudged q m (after q m)
-    unfolding rowsJudged E
+    unfolding rowsJudged allJudged E B L
     same-rows =
-        ap (λ (D : Station → ℤ). map (judged (m + 1) (E (q .plan) m) D) (after other m .rows)) same-D
-        ∙ ap (map (judged (m + 1) (E (q .plan) m) (differences q (after q m)))) (h .rows)
+        ap (λ (D : Station → ℤ). allJudged (q .plan) m D (after other m .rows)) same-D
+        ∙ ap (allJudged (q .plan) m (differences q (after q m))) (h .rows)
 
     same-sums : sumsAt other m (after other m) ≡ sumsAt q m (after q m)
     unfolding sumsAt R

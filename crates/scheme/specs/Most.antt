@@ -1,6 +1,6 @@
 -- The bounds that follow from the scale and the greatest counts, each under a name.
 use Prim.Native.Nat.{ℕ, _+_, _-_, _*_, _/_}
-use Rattle.scheme.specs.Units.{mostValue, mostSide, step, mostStations, mostBeyond, mostScans, mostRadius, mostLimit}
+use Rattle.scheme.specs.Units.{mostValue, mostSide, step, mostStations, mostBeyond, mostScans, mostRadius, mostLimit, mostBuddyRadius}
 use Rattle.scheme.specs.Weight.{scale}
 
 -- points of a grid, and how far along an axis a station that takes part is at most: a post beyond the last point
@@ -30,4 +30,4 @@ mostDifference = mostValue + mostField
 
 -- a reach, in grid steps
 abbrev pub mostReach : ℕ
-mostReach = mostScans * (mostRadius / step + 1)
+mostReach = mostScans * ((mostRadius + mostBuddyRadius) / step + 1)

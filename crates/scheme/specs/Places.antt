@@ -10,8 +10,8 @@ use lib.ListN.{length, getD}
 use lib.IntN.{pos}
 use Rattle.lists.specs.Tab.{length-tab}
 use Rattle.lists.specs.First.{first, firstIn, Search, all-good, bad-at, search, in-places}
-use Rattle.scheme.specs.Units.{mostStations, Request, Call, asked}
-use Rattle.scheme.specs.Refusals.{Refusal, numberOf, placeOf, asOne, inOrder, refusedIf, refusedWith, refusedAt, badShape, Window, badWindow, mostWindows, Screen, windowOn, windowsOf, badScreen, badColumns, badScans, badGuess, badStation, fromFive, analysisRefusal, windowRefusal, screenRefusal}
+use Rattle.scheme.specs.Units.{mostStations, mostScans, Request, Call, asked}
+use Rattle.scheme.specs.Refusals.{Refusal, numberOf, placeOf, asOne, inOrder, refusedIf, refusedWith, refusedAt, badShape, Window, badWindow, mostWindows, Screen, windowOn, windowsOf, badScreen, badColumns, badScans, badBuddies, badGuess, badStation, fromFive, analysisRefusal, windowRefusal, screenRefusal}
 use Rattle.scheme.specs.Accepted.{Shaped, shaped, equal, scans-fit, noStation, rows-of, equal-screen}
 
 abbrev Small : Refusal → Type 0
@@ -50,8 +50,9 @@ unfolding fromFive badScans
 small-from-five q shape few =
     small-if 5 (badScans (q .plan)) _ (λ five.
     small-at 6 (q .plan .scans) _ _ (omega (arith, scans-fit (q .plan .scans) (length (q .plan .radius)) (length (q .plan .limit)) (q .plan .mode) (q .plan .rule) five))
-    (small-in 7 badGuess (pos 0) (q .firstGuess) _ (omega (arith, shape .whole, mul-le-mul (shape .few-columns) (shape .few-rows)))
-    (small-in 8 badStation noStation (q .stations) [] (omega arith) small-none)))
+    (small-with 6 mostScans (badBuddies (q .plan)) _ (omega arith) (λ six.
+    small-in 7 badGuess (pos 0) (q .firstGuess) _ (omega (arith, shape .whole, mul-le-mul (shape .few-columns) (shape .few-rows)))
+    (small-in 8 badStation noStation (q .stations) [] (omega arith) small-none))))
 
 small-from-four : (c : Call) → Shaped (c .nx) (c .ny) (length (c .firstGuess)) → Small (inOrder (refusedIf 4 (badColumns (c .stations)) ∷ fromFive (asked c)))
 small-from-four c shape =

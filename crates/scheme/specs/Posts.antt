@@ -11,13 +11,13 @@ use borrow.Author.Tests.{leb-true, le-leb, le-ltb, eqb-true}
 use lib.IntN.{ℤ, pos, negsuc, natAbs, _-ℤ_}
 use Rattle.lists.specs.Tests.{true-or-false, not-both, and-true}
 use Rattle.lists.specs.Members.{All, none, more}
-use Rattle.scheme.specs.Units.{step, Station, E, Request, guess}
+use Rattle.scheme.specs.Units.{step, Station, E, B, Request, guess}
 use Rattle.scheme.specs.Verdicts.{nearAxis, nearGrid, onGrid, offGrid, isAccepted, beforeScans}
 use Rattle.scheme.specs.Value.{valueAt}
-use Rattle.scheme.specs.Difference.{Row, difference, afterTest, judged}
+use Rattle.scheme.specs.Difference.{Row, difference, afterTest, tested}
 use Rattle.scheme.specs.Scan.{State, begins, start, differences, scan, afterWithin, after}
-use Rattle.scheme.specs.Bounds.{passed}
-use Rattle.scheme.specs.DeadMasts.{rowAfter, judgedIn, row-next}
+use Rattle.scheme.specs.Judging.{judged-station, accepted-passed, alone-as-tested}
+use Rattle.scheme.specs.DeadMasts.{rowAfter, survivors, judgedIn, row-next, station-stays}
 
 -- ---- the difference of a post
 
@@ -31,33 +31,49 @@ pub post-differs-from-first-guess : (q : Request) (found : State) (s : Station) 
 unfolding difference
 post-differs-from-first-guess q found s off = rw off
 
--- ---- so a post that one scan accepts stays accepted in those after it, as long as none has a lower limit
+-- ---- so a post that one scan accepts passes the E test of each later one, as long as its limit is no lower
 
 -- a row that is accepted and within the limit stays as it is
-within-stays : (number limit : ℕ) (D : Station → ℤ) (r : Row) → isAccepted (r .verdict) ≡ true → natAbs (D (r .station)) ≤ limit → judged number limit D r ≡ r
-unfolding judged afterTest
+within-stays : (number limit : ℕ) (D : Station → ℤ) (r : Row) → isAccepted (r .verdict) ≡ true → natAbs (D (r .station)) ≤ limit → tested number limit D r ≡ r
+unfolding tested afterTest
 within-stays number limit D r e h =
     rw (e, le-ltb limit (natAbs (D (r .station))) h) (ap (λ (v : ℕ). record { station = r .station; verdict = v }) (sym (eqb-true (r .verdict) 0 e)))
 
+-- scan number m + 1 accepts row n, which is a post
 module _ (q : Request) (m n : ℕ) (off : Beyond q (rowAfter q (suc m) n .station)) (e : isAccepted (rowAfter q (suc m) n .verdict) ≡ true) where
-  -- the scan that accepted it found its difference within the limit
+  -- it found its difference within the limit
   within-limit : natAbs (rowAfter q (suc m) n .station .value -ℤ valueAt (q .nx) (q .ny) (guess q) (rowAfter q (suc m) n .station)) ≤ E (q .plan) m
-  unfolding judged
   within-limit =
       rw (← (post-differs-from-first-guess q (after q m) (rowAfter q (suc m) n .station) off)) (go (rowAfter q (suc m) n) (row-next q m n) e)
     where
-      go : (r : Row) → r ≡ judgedIn q m (rowAfter q m n) → isAccepted (r .verdict) ≡ true → natAbs (differences q (after q m) (r .station)) ≤ E (q .plan) m
-      go r same a = rw same (passed (m + 1) (E (q .plan) m) _ (rowAfter q m n .verdict) (rw same at a))
+      go : (r : Row) → r ≡ judgedIn q m n (rowAfter q m n) → isAccepted (r .verdict) ≡ true → natAbs (differences q (after q m) (r .station)) ≤ E (q .plan) m
+      go r same a =
+          rw (same, judged-station (q .plan) m (differences q (after q m)) (rowAfter q m n) (survivors q m n))
+          (accepted-passed (q .plan) m (differences q (after q m)) (rowAfter q m n) (survivors q m n) (rw same at a))
 
-  pub post-stays-accepted : (t : ℕ) → ((k : ℕ) → k < t → E (q .plan) m ≤ E (q .plan) (suc m + k)) → rowAfter q (suc m + t) n ≡ rowAfter q (suc m) n
-  post-stays-accepted zero limits = ap (λ (k : ℕ). rowAfter q k n) (add-zero (suc m))
-  post-stays-accepted (suc t) limits =
+  -- the E test of scan number k + 1
+  abbrev passes : ℕ → Row → Type 0
+  passes k r = tested (k + 1) (E (q .plan) k) (differences q (after q k)) r ≡ r
+
+  pub post-passes-later-tests : (t : ℕ) → E (q .plan) m ≤ E (q .plan) (suc m + t) → isAccepted (rowAfter q (suc m + t) n .verdict) ≡ true
+      → passes (suc m + t) (rowAfter q (suc m + t) n)
+  post-passes-later-tests t limit a =
+      let same = station-stays q (suc m) n t in
+      within-stays (suc m + t + 1) (E (q .plan) (suc m + t)) (differences q (after q (suc m + t))) (rowAfter q (suc m + t) n) a
+      (rw (same, post-differs-from-first-guess q (after q (suc m + t)) (rowAfter q (suc m) n .station) off) (omega (arith, within-limit)))
+
+  -- so with the buddy check off it stays accepted
+  pub post-stays-accepted : B (q .plan) ≡ 0 → (t : ℕ) → ((k : ℕ) → k < t → E (q .plan) m ≤ E (q .plan) (suc m + k)) → rowAfter q (suc m + t) n ≡ rowAfter q (suc m) n
+  post-stays-accepted alone zero limits = ap (λ (k : ℕ). rowAfter q k n) (add-zero (suc m))
+  post-stays-accepted alone (suc t) limits =
       let s : suc m + suc t ≡ suc (suc m + t) = omega arith in
+      let same = post-stays-accepted alone t (λ k h. limits k (omega arith)) in
+      let a : isAccepted (rowAfter q (suc m + t) n .verdict) ≡ true = rw same e in
       ap (λ (k : ℕ). rowAfter q k n) s
       ∙ row-next q (suc m + t) n
-      ∙ ap (judgedIn q (suc m + t)) (post-stays-accepted t (λ k h. limits k (omega arith)))
-      ∙ within-stays (suc m + t + 1) (E (q .plan) (suc m + t)) (differences q (after q (suc m + t))) (rowAfter q (suc m) n) e
-      (rw (post-differs-from-first-guess q (after q (suc m + t)) (rowAfter q (suc m) n .station) off) (omega (arith, within-limit, limits t (omega arith))))
+      ∙ alone-as-tested (q .plan) (suc m + t) (differences q (after q (suc m + t))) alone (rowAfter q (suc m + t) n) (survivors q (suc m + t) n)
+      ∙ post-passes-later-tests t (limits t (omega arith)) a
+      ∙ same
 
 -- ---- without posts nothing moves
 

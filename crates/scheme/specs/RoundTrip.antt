@@ -14,11 +14,11 @@ use lib.Signed.{mag}
 use Rattle.lists.specs.Tests.{cond-both}
 use Rattle.lists.specs.Members.{All, none, more, all-take, all-drop}
 use Rattle.lists.specs.Tab.{tab, map-tab, tab-getD, length-tab}
-use Rattle.scheme.specs.Units.{among, noWind, Station, roundMode, equationRule, listingRule, asking, Plan, Request, mostScans, mostStations}
+use Rattle.scheme.specs.Units.{among, noWind, Station, roundMode, equationRule, listingRule, Buddies, noBuddies, asking, Plan, Request, mostScans, mostStations}
 use Rattle.scheme.specs.Text.{defaultRule, requestLines}
 use Rattle.scheme.specs.Text.Reader.{Result, fails, reads, onward, _>>=_, _>>_, gives, _or_}
 use Rattle.scheme.specs.Text.Pieces.{ascii, Piece, word, digits, positive, natural, between, count, unsigned, negative, signed, mark, values}
-use Rattle.scheme.specs.Text.Lines.{Size, Entry, number, gridLine, scanLine, rowLine, observation, end, stationLine}
+use Rattle.scheme.specs.Text.Lines.{Size, Entry, number, gridLine, entryLine, scanLine, buddyLine, rowLine, observation, end, stationLine}
 use Rattle.scheme.specs.Text.Order.{Text, line, lines, rows, nothingAfter}
 use Rattle.scheme.specs.Text.Printed.{decimal, integer, cells, keyed, gridLines}
 use Rattle.scheme.specs.Decimals.{digit, decimal-one, decimal-more, digit-ind}
@@ -27,6 +27,10 @@ use Rattle.scheme.specs.Decimals.{digit, decimal-one, decimal-more, digi
 
 abbrev pub entryText : Entry → List ℕ
 entryText t = keyed (ascii "scan=") integer (t .radius ∷ t .limit ∷ [])
+
+-- no line, where the check is off
+abbrev pub buddyText : Buddies → List ℕ
+buddyText b = cond (b .on) (keyed (ascii "buddy=") integer (b .radius ∷ b .limit ∷ [])) []
 
 abbrev pub stationText : Station → List ℕ
 stationText s =
@@ -51,9 +55,10 @@ requestTextWith rule q =
     ++ (rule
     ++ (keyed (ascii "scans=") decimal (q .plan .scans ∷ [])
     ++ (linesText entryText (entries (q .plan))
+    ++ (buddyText (q .plan .buddies)
     ++ (gridLines (ascii "row=") integer (q .nx) (q .ny) (q .firstGuess)
     ++ (keyed (ascii "stations=") decimal (length (q .stations) ∷ [])
-    ++ (linesText stationText (q .stations) ++ [])))))))))
+    ++ (linesText stationText (q .stations) ++ []))))))))))
 
 abbrev pub requestText : Request → List ℕ
 requestText q = requestTextWith (keyed (ascii "rule=") decimal (q .plan .rule ∷ [])) q
@@ -84,6 +89,12 @@ pub record EntryInRange (t : Entry) : Type 0 where
   pub radius : Signed (t .radius)
   pub limit : Signed (t .limit)
 
+-- a text without the line says no B and no L
+pub record BuddiesInRange (b : Buddies) : Type 0 where
+  pub radius : Signed (b .radius)
+  pub limit : Signed (b .limit)
+  pub off : b .on ≡ false → b ≡ noBuddies
+
 pub record InRange (q : Request) : Type 0 where
   pub two-columns : 2 ≤ q .nx
   pub few-columns : q .nx ≤ 64
@@ -99,6 +110,7 @@ pub record InRange (q : Request) : Type 0 where
   pub first-rule : equationRule ≤ q .plan .rule
   pub last-rule : q .plan .rule ≤ listingRule
   pub entries : All EntryInRange (entries (q .plan))
+  pub buddies : BuddiesInRange (q .plan .buddies)
   pub whole : length (q .firstGuess) ≡ q .ny * q .nx
   pub first-guess : All Signed (q .firstGuess)
   pub few-stations : length (q .stations) ≤ mostStations
@@ -130,11 +142,12 @@ unfoldable pub fromScans : Size → (time age smooth rule : ℕ) → Text Reques
 fromScans size time age smooth rule = do
   scans ← line scansLine
   plan ← lines scans scanLine
+  buddies ← line buddyLine or gives noBuddies
   guess ← rows (size .ny) (rowLine (size .nx))
   many ← line stationsLine
   stations ← lines many stationLine
   nothingAfter
-  gives (asking (size .nx) (size .ny) guess stations scans (map (λ t. t .radius) plan) (map (λ t. t .limit) plan) (eqb smooth 1) roundMode rule time age)
+  gives (asking (size .nx) (size .ny) guess stations scans (map (λ t. t .radius) plan) (map (λ t. t .limit) plan) (eqb smooth 1) roundMode rule buddies time age)
 
 -- ---- numbers read back
 
@@ -284,15 +297,22 @@ grid-keyed nx ny rest a b c d =
       count-decimal 2 64 ny (10 ∷ rest) c d refl,
     )
 
-scan-keyed : (t : Entry) (rest : List ℕ) → EntryInRange t → scanLine (entryText t ++ rest) ≡ reads t rest
-unfolding scanLine keyed cells word
-scan-keyed t rest r =
+entry-keyed : (key : List ℕ) (t : Entry) (rest : List ℕ) → ((bs : List ℕ) → word key (key ++ bs) ≡ reads tt bs) → EntryInRange t
+    → entryLine key (keyed key integer (t .radius ∷ t .limit ∷ []) ++ rest) ≡ reads t rest
+unfolding entryLine keyed cells word
+entry-keyed key t rest w r =
     rw (
+      append-assoc key (integer (t .radius) ++ (44 ∷ (integer (t .limit) ++ (10 ∷ [])))) rest,
       append-assoc (integer (t .radius)) (44 ∷ (integer (t .limit) ++ (10 ∷ []))) rest,
       append-assoc (integer (t .limit)) (10 ∷ []) rest,
+      w (integer (t .radius) ++ (44 ∷ (integer (t .limit) ++ (10 ∷ rest)))),
       signed-integer (t .radius) (44 ∷ (integer (t .limit) ++ (10 ∷ rest))) (r .radius) refl,
       signed-integer (t .limit) (10 ∷ rest) (r .limit) refl,
     )
+
+scan-keyed : (t : Entry) (rest : List ℕ) → EntryInRange t → scanLine (entryText t ++ rest) ≡ reads t rest
+unfolding word
+scan-keyed t rest r = entry-keyed (ascii "scan=") t rest (λ bs. refl) r
 
 -- six numbers, each before its mark
 station-keyed : (s : Station) (rest : List ℕ) → StationInRange s → stationLine (stationText s ++ rest) ≡ reads s rest
@@ -409,8 +429,11 @@ module _ (q : Request) (r : InRange q) where
   abbrev afterRows : List ℕ
   afterRows = keyed (ascii "stations=") decimal (length (q .stations) ∷ []) ++ afterCount
 
+  abbrev afterBuddies : List ℕ
+  afterBuddies = gridLines (ascii "row=") integer (q .nx) (q .ny) (q .firstGuess) ++ afterRows
+
   abbrev afterPlan : List ℕ
-  afterPlan = gridLines (ascii "row=") integer (q .nx) (q .ny) (q .firstGuess) ++ afterRows
+  afterPlan = buddyText (q .plan .buddies) ++ afterBuddies
 
   abbrev afterScans : List ℕ
   afterScans = linesText entryText (entries (q .plan)) ++ afterPlan
@@ -430,6 +453,39 @@ module _ (q : Request) (r : InRange q) where
       entry : ℕ → Entry
       entry m = record { radius = getD (q .plan .radius) m (pos 0); limit = getD (q .plan .limit) m (pos 0) }
 
+  -- the lines of the check: one, or none
+  abbrev pub buddyLines : ℕ
+  buddyLines = cond (q .plan .buddies .on) 1 0
+
+  -- a row of the grid is no line of the check
+  buddy-absent : buddyLine afterBuddies ≡ fails tt
+  buddy-absent = go (q .ny) (r .two-rows) (q .firstGuess)
+    where
+      go : (ny : ℕ) → 2 ≤ ny → (vs : List ℤ) → buddyLine (gridLines (ascii "row=") integer (q .nx) ny vs ++ afterRows) ≡ fails tt
+      go zero h vs = absurd (omega arith)
+      go (suc ny) h vs =
+          unfold gridLines in
+          (rw (append-assoc (keyed (ascii "row=") integer (take (q .nx) vs)) (gridLines (ascii "row=") integer (q .nx) ny (drop (q .nx) vs)) afterRows)
+          (row (take (q .nx) vs) (gridLines (ascii "row=") integer (q .nx) ny (drop (q .nx) vs) ++ afterRows)))
+        where
+          row : (vs : List ℤ) (rest : List ℕ) → buddyLine (keyed (ascii "row=") integer vs ++ rest) ≡ fails tt
+          row [] rest = unfold keyed entryLine word in refl
+          row (v ∷ vs) rest = unfold keyed entryLine word in refl
+
+  buddy-read : (k : ℕ) → (line buddyLine or gives noBuddies) (k, afterPlan) ≡ reads (q .plan .buddies) (k + buddyLines, afterBuddies)
+  buddy-read k = go (q .plan .buddies .on) (q .plan .buddies .radius) (q .plan .buddies .limit) (r .buddies)
+    where
+      go : (on : Bool) (radius limit : ℤ) → (let b : Buddies = record { on = on; radius = radius; limit = limit } in
+          BuddiesInRange b → (line buddyLine or gives noBuddies) (k, buddyText b ++ afterBuddies) ≡ reads b (k + cond on 1 0, afterBuddies))
+      go true radius limit s =
+          let e : suc k ≡ k + 1 = omega arith in
+          rw (entry-keyed (ascii "buddy=") (record { radius = radius; limit = limit }) afterBuddies (λ bs. unfold word in refl) (record { radius = s .radius; limit = s .limit }), line, _or_)
+          (ap (λ (n : ℕ). reads (record { on = true; radius = radius; limit = limit }) (n, afterBuddies)) e)
+      go false radius limit s =
+          let e : k ≡ k + 0 = omega arith in
+          rw (buddy-absent, line, _or_)
+          (ap (λ (n : ℕ). reads noBuddies (n, afterBuddies)) e ∙ ap (λ (b : Buddies). reads b (k + 0, afterBuddies)) (sym (s .off refl)))
+
   rows-back : (nx : ℕ) → 1 ≤ nx → length (q .firstGuess) ≡ q .ny * nx → (k : ℕ) (rest : List ℕ)
       → rows (q .ny) (rowLine nx) (k, gridLines (ascii "row=") integer nx (q .ny) (q .firstGuess) ++ rest) ≡ reads (q .firstGuess) (k + q .ny, rest)
   rows-back zero h l k rest = absurd (omega arith)
@@ -442,16 +498,17 @@ module _ (q : Request) (r : InRange q) where
 
   -- the lines from the scan count on, of which the first is line k
   rest-reads-back : (k : ℕ) → fromScans (record { nx = q .nx; ny = q .ny }) (q .T) (q .A) (cond (q .plan .smooth) 1 0) (q .plan .rule) (k, afterRule)
-      ≡ reads q (suc (suc k + q .plan .scans + q .ny) + length (q .stations), [])
+      ≡ reads q (suc (suc k + q .plan .scans + buddyLines + q .ny) + length (q .stations), [])
   unfolding fromScans nothingAfter
   rest-reads-back k =
       rw (
         scans-read,
         line,
         plan-read (suc k),
-        rows-back (q .nx) (omega (arith, r .two-columns)) (r .whole) (suc k + q .plan .scans) afterRows,
+        buddy-read (suc k + q .plan .scans),
+        rows-back (q .nx) (omega (arith, r .two-columns)) (r .whole) (suc k + q .plan .scans + buddyLines) afterRows,
         count-read,
-        lines-read StationInRange stationLine stationText station-keyed (r .rows) (suc (suc k + q .plan .scans + q .ny)) [],
+        lines-read StationInRange stationLine stationText station-keyed (r .rows) (suc (suc k + q .plan .scans + buddyLines + q .ny)) [],
         radius-back,
         limit-back,
         smooth-back,
@@ -499,11 +556,11 @@ module _ (q : Request) (r : InRange q) where
   unfolding number keyed word
   rule-absent = refl
 
-  pub printed-reads-back : requestLines (1, requestText q) ≡ reads q (suc (7 + q .plan .scans + q .ny) + length (q .stations), [])
+  pub printed-reads-back : requestLines (1, requestText q) ≡ reads q (suc (7 + q .plan .scans + buddyLines + q .ny) + length (q .stations), [])
   printed-reads-back = head-read (keyed (ascii "rule=") decimal (q .plan .rule ∷ [])) ∙ rw (rule-read, line, _or_) (rest-reads-back 6)
 
   pub rule-1-may-be-left-out : q .plan .rule ≡ equationRule
-      → requestLines (1, shorterText q) ≡ reads q (suc (6 + q .plan .scans + q .ny) + length (q .stations), [])
+      → requestLines (1, shorterText q) ≡ reads q (suc (6 + q .plan .scans + buddyLines + q .ny) + length (q .stations), [])
   rule-1-may-be-left-out e =
       head-read []
       ∙ rw (rule-absent, line, _or_)

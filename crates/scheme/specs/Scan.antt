@@ -5,7 +5,7 @@ use mathlib.Core.List.{List, map}
 use lib.IntN.{ℤ, _+ℤ_}
 use Rattle.lists.specs.Sums.{total}
 use Rattle.lists.specs.Parted.{each}
-use Rattle.scheme.specs.Units.{Station, mostBeyond, Field, stored, R, E, B, L, Request, guess}
+use Rattle.scheme.specs.Units.{Station, mostBeyond, Field, stored, Plan, R, E, B, L, Request, guess}
 use Rattle.scheme.specs.Verdicts.{beforeScans}
 use Rattle.scheme.specs.Difference.{Row, difference, tested}
 use Rattle.scheme.specs.Buddies.{besideOthers}
@@ -31,14 +31,18 @@ start beyond q = record { field = guess q; support = λ i j. 0; rows = map (begi
 abbrev pub differences : Request → State → Station → ℤ
 differences q found = difference (q .nx) (q .ny) (guess q) (found .field)
 
-module _ (q : Request) (m : ℕ) (found : State) where
-  -- All stations are judged before any point changes: each by the E test
-  unfoldable pub rowsTested : List Row
-  rowsTested = map (tested (m + 1) (E (q .plan) m) (differences q found)) (found .rows)
+-- the rows after its E test, by those differences
+abbrev pub allTested : Plan → (m : ℕ) → (Station → ℤ) → List Row → List Row
+allTested p m D rows = map (tested (m + 1) (E p m) D) rows
 
-  -- and after it beside the others, against the same survivors, at once (document 02, 7)
+-- and after the buddy check: all are judged against the same survivors, at once (document 02, 7)
+unfoldable pub allJudged : Plan → (m : ℕ) → (Station → ℤ) → List Row → List Row
+allJudged p m D rows = each (besideOthers (m + 1) (B p) (L p) D) (allTested p m D rows)
+
+module _ (q : Request) (m : ℕ) (found : State) where
+  -- All stations are judged before any point changes
   unfoldable pub rowsJudged : List Row
-  rowsJudged = each (besideOthers (m + 1) (B (q .plan)) (L (q .plan)) (differences q found)) rowsTested
+  rowsJudged = allJudged (q .plan) m (differences q found) (found .rows)
 
   unfoldable pub sumsAt : Field Sums
   sumsAt i j = total nothing plus (share (q .plan .mode) (R (q .plan) m) (differences q found) i j) rowsJudged

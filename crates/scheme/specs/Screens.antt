@@ -14,7 +14,7 @@ use Rattle.lists.specs.Sums.{total, upTo-same}
 use Rattle.lists.specs.Turns.{joinTo, join-tab}
 use Rattle.lists.specs.First.{Found, nowhere, at, firstFrom, firstIn, first-map, first-same-tests}
 use Rattle.lists.specs.Members.{All, none, more, all-below, all-at}
-use Rattle.scheme.specs.Units.{Call, asked}
+use Rattle.scheme.specs.Units.{mostScans, Call, asked}
 use Rattle.scheme.specs.Refusals.{Refusal, accepted, refused, numberOf, asOne, unlessRefused, inOrder, refusedIf, refusedWith, refusedAt, badShape, Window, badWindow, Screen, windowAt, windowOn, windowsOf, badScreen, pointsOf, pointsOfAll, badLengths, badColumns, fromFive, analysisRefusal, windowRefusal, screenRefusal}
 use Rattle.scheme.specs.Reach.{Tile, wholeAt, wholeAtEach}
 use Rattle.scheme.specs.Promises.{tile, Queries, fourColumns, QueriesEach}
@@ -39,10 +39,10 @@ single c w = windowRefusal c w (pointsOf w) (pointsOf w)
 abbrev fromFour : Call → List Refusal
 fromFour c = refusedIf 4 (badColumns (c .stations)) ∷ fromFive (asked c)
 
-not-two-if : (number : ℕ) (bad : Bool) → eqb number 2 ≡ false → forItsWindow (refusedIf number bad) ≡ false
+not-two-if : (number place : ℕ) (bad : Bool) → eqb number 2 ≡ false → forItsWindow (refusedWith number place bad) ≡ false
 unfolding refusedWith
-not-two-if number true e = e
-not-two-if number false e = refl
+not-two-if number place true e = e
+not-two-if number place false e = refl
 
 not-two-at : (number : ℕ) (f : Found) → eqb number 2 ≡ false → forItsWindow (refusedAt number f) ≡ false
 unfolding refusedAt
@@ -59,7 +59,7 @@ not-two : (c : Call) → forItsWindow (inOrder (fromFour c)) ≡ false
 unfolding fromFive
 not-two c =
     not-two-in (fromFour c)
-    (more (not-two-if 4 _ refl) (more (not-two-if 5 _ refl) (more (not-two-at 6 _ refl) (more (not-two-at 7 _ refl) (more (not-two-at 8 _ refl) none)))))
+    (more (not-two-if 4 0 _ refl) (more (not-two-if 5 0 _ refl) (more (not-two-at 6 _ refl) (more (not-two-if 6 mostScans _ refl) (more (not-two-at 7 _ refl) (more (not-two-at 8 _ refl) none))))))
 
 -- equal refusals, one at least
 all-accept : (rs : List Refusal) → All (λ s. s ≡ accepted) rs → inOrder rs ≡ accepted

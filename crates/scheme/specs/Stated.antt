@@ -21,12 +21,12 @@ use Rattle.lists.specs.Parted.{rank}
 use Rattle.lists.specs.Sums.{upTo}
 use Rattle.scheme.specs.declared.Reading.{Reading}
 use Rattle.scheme.specs.declared.Summary.{Summary}
-use Rattle.scheme.specs.Units.{isMissing, stored, fieldOf, step, Wind, noWind, isNoWind, Station, mostBeyond, Plan, R, E, Request, guess, Call, asked, withStations, asking}
+use Rattle.scheme.specs.Units.{isMissing, stored, fieldOf, step, Wind, noWind, isNoWind, Station, mostBeyond, Plan, R, E, B, L, Request, guess, Call, asked, withStations, asking}
 use Rattle.scheme.specs.Refusals.{Refusal, accepted, refused, numberOf, placeOf, asOne, inOrder, refusedAt, badShape, Window, badWindow, Screen, windowAt, windowOn, windowsOf, badScreen, pointsOf, pointsOfAll, fromFive, analysisRefusal, windowRefusal, screenRefusal}
 use Rattle.scheme.specs.Verdicts.{serves, onGrid, offGrid, isAccepted, beforeScans}
 use Rattle.scheme.specs.Rounding.{rounded}
 use Rattle.scheme.specs.Value.{place, sumAt, valueAt}
-use Rattle.scheme.specs.Difference.{Row}
+use Rattle.scheme.specs.Difference.{Row, tested}
 use Rattle.scheme.specs.Weight.{scale, weight, square, inside, weightAt}
 use Rattle.scheme.specs.Correction.{Sums, nothing, gift, share, correction}
 use Rattle.scheme.specs.Scan.{State, differences, rowsJudged, sumsAt, corrected, scan, afterWithin, after, atEnd, Analysis, analysis}
@@ -50,7 +50,7 @@ use Rattle.scheme.specs.Bounds as bounds
 use Rattle.scheme.specs.Support as support
 use Rattle.scheme.specs.Support.{bit}
 use Rattle.scheme.specs.DeadMasts as dead
-use Rattle.scheme.specs.DeadMasts.{noRow}
+use Rattle.scheme.specs.Judging.{noRow}
 use Rattle.scheme.specs.Posts as posts
 use Rattle.scheme.specs.Winds as winds
 use Rattle.scheme.specs.Lone as lones
@@ -165,9 +165,16 @@ pub post-differs-from-first-guess : (q : Request) (found : State) (s : Station) 
 unfolding valueAt
 post-differs-from-first-guess = posts.post-differs-from-first-guess
 
--- so a post that scan number m + 1 accepts stays as it is in the scans after it, up to one with a lower limit
-pub post-stays-accepted : (q : Request) (m n : ℕ) → onGrid (q .nx) (q .ny) (rowAfter q (suc m) n .station .x) (rowAfter q (suc m) n .station .y) ≡ false
+-- so a post that scan number m + 1 accepts passes the E test of each later scan that it is still accepted in and that has no lower limit
+pub post-passes-later-tests : (q : Request) (m n : ℕ) → onGrid (q .nx) (q .ny) (rowAfter q (suc m) n .station .x) (rowAfter q (suc m) n .station .y) ≡ false
     → isAccepted (rowAfter q (suc m) n .verdict) ≡ true
+    → (t : ℕ) → E (q .plan) m ≤ E (q .plan) (suc m + t) → isAccepted (rowAfter q (suc m + t) n .verdict) ≡ true
+    → tested (suc m + t + 1) (E (q .plan) (suc m + t)) (differences q (after q (suc m + t))) (rowAfter q (suc m + t) n) ≡ rowAfter q (suc m + t) n
+post-passes-later-tests = posts.post-passes-later-tests
+
+-- and with the buddy check off stays as it is, up to a scan with a lower limit
+pub post-stays-accepted : (q : Request) (m n : ℕ) → onGrid (q .nx) (q .ny) (rowAfter q (suc m) n .station .x) (rowAfter q (suc m) n .station .y) ≡ false
+    → isAccepted (rowAfter q (suc m) n .verdict) ≡ true → B (q .plan) ≡ 0
     → (t : ℕ) → ((k : ℕ) → k < t → E (q .plan) m ≤ E (q .plan) (suc m + k)) → rowAfter q (suc m + t) n ≡ rowAfter q (suc m) n
 post-stays-accepted = posts.post-stays-accepted
 
@@ -345,7 +352,7 @@ abbrev withWinds : (mode : ℕ) → (Wind → Wind) → Request → Request
 withWinds mode f q =
     asking (q .nx) (q .ny) (q .firstGuess)
     (map (λ s. record { x = s .x; y = s .y; value = s .value; observed = s .observed; from = s .from; until = s .until; wind = f (s .wind) }) (q .stations))
-    (q .plan .scans) (q .plan .radius) (q .plan .limit) (q .plan .smooth) mode (q .plan .rule) (q .T) (q .A)
+    (q .plan .scans) (q .plan .radius) (q .plan .limit) (q .plan .smooth) mode (q .plan .rule) (q .plan .buddies) (q .T) (q .A)
 
 -- two requests in mode 0 that are unlike in their winds alone
 module _ (p q : Request) (round : p .plan .mode ≡ 0) (round' : q .plan .mode ≡ 0) (same : withWinds 0 (λ w. noWind) p ≡ withWinds 0 (λ w. noWind) q) where
@@ -376,7 +383,7 @@ rule-1-is-document-01 = lones.rule-1-is-document-01
 -- the same request under another rule
 abbrev withRule : ℕ → Request → Request
 withRule rule q =
-    asking (q .nx) (q .ny) (q .firstGuess) (q .stations) (q .plan .scans) (q .plan .radius) (q .plan .limit) (q .plan .smooth) (q .plan .mode) rule (q .T) (q .A)
+    asking (q .nx) (q .ny) (q .firstGuess) (q .stations) (q .plan .scans) (q .plan .radius) (q .plan .limit) (q .plan .smooth) (q .plan .mode) rule (q .plan .buddies) (q .T) (q .A)
 
 -- from the state that a scan finds
 module _ (q : Request) (rule m : ℕ) (found : State) where
@@ -468,14 +475,14 @@ smoothing-may-move-an-unsupported-point = examples.smoothing-may-move-an-unsuppo
 
 -- entries past the scan count: two plans that count as many scans and are equal up to there
 module _ (q : Request) (p' : Plan) (scans : p' .scans ≡ q .plan .scans) (smooth : p' .smooth ≡ q .plan .smooth)
-    (mode : p' .mode ≡ q .plan .mode) (rule : p' .rule ≡ q .plan .rule)
+    (mode : p' .mode ≡ q .plan .mode) (rule : p' .rule ≡ q .plan .rule) (buddies : p' .buddies ≡ q .plan .buddies)
     (radii : (m : ℕ) → m < q .plan .scans → getD (p' .radius) m (pos 0) ≡ getD (q .plan .radius) m (pos 0))
     (limits : (m : ℕ) → m < q .plan .scans → getD (p' .limit) m (pos 0) ≡ getD (q .plan .limit) m (pos 0)) where
   abbrev other : Request
-  other = asking (q .nx) (q .ny) (q .firstGuess) (q .stations) (p' .scans) (p' .radius) (p' .limit) (p' .smooth) (p' .mode) (p' .rule) (q .T) (q .A)
+  other = asking (q .nx) (q .ny) (q .firstGuess) (q .stations) (p' .scans) (p' .radius) (p' .limit) (p' .smooth) (p' .mode) (p' .rule) (p' .buddies) (q .T) (q .A)
 
   abbrev same : entries.UpToCount (q .plan) p'
-  same = record { scans = scans; smooth = smooth; mode = mode; rule = rule; radii = radii; limits = limits }
+  same = record { scans = scans; smooth = smooth; mode = mode; rule = rule; buddies = buddies; radii = radii; limits = limits }
 
   pub entries-past-the-count-change-no-analysis : analysis other ≡ analysis q
   entries-past-the-count-change-no-analysis = entries.entries-past-the-count-change-no-analysis q p' same
@@ -532,11 +539,11 @@ pub accepted-answer-is-short : (c : Call) (grid support verdict : ℕ) → analy
     → length (analysisText (c .nx) (c .ny) (analysis (asked c))) < 56000
 accepted-answer-is-short = size.accepted-answer-is-short
 
-pub printed-reads-back : (q : Request) → InRange q → requestLines (1, requestText q) ≡ reads q (suc (7 + q .plan .scans + q .ny) + length (q .stations), [])
+pub printed-reads-back : (q : Request) → InRange q → requestLines (1, requestText q) ≡ reads q (suc (7 + q .plan .scans + cond (q .plan .buddies .on) 1 0 + q .ny) + length (q .stations), [])
 printed-reads-back = round.printed-reads-back
 
 pub rule-1-may-be-left-out : (q : Request) → InRange q → q .plan .rule ≡ 1
-    → requestLines (1, shorterText q) ≡ reads q (suc (6 + q .plan .scans + q .ny) + length (q .stations), [])
+    → requestLines (1, shorterText q) ≡ reads q (suc (6 + q .plan .scans + cond (q .plan .buddies .on) 1 0 + q .ny) + length (q .stations), [])
 rule-1-may-be-left-out = round.rule-1-may-be-left-out
 
 pub no-two-print-alike : (p q : Request) → InRange p → InRange q → requestText p ≡ requestText q → p ≡ q

@@ -6,20 +6,21 @@ use native.Mathlib.Nat.{pow-suc, two-pow-succ, div-eq-of-lt, add-div-right, add-
 use mathlib.Core.Path.{_≡_, refl, sym, ap, _∙_}
 use mathlib.Core.Logic.{_⊎_, inl, inr, _↔_}
 use mathlib.Core.Bool.{Bool, true, false, cond}
-use mathlib.Core.List.{List, [], _∷_, map}
+use mathlib.Core.List.{List, [], _∷_}
 use borrow.Author.Tests.{ltb-true, ltb-false, lt-ltb, eq-eqb}
 use lib.Dec.{ltb, eqb}
 use lib.Pow.{pow-pos, pow-add}
 use lib.IntN.{ℤ, pos, _+ℤ_, +ℤ-idr}
 use Rattle.lists.specs.Tests.{lt-or-le, true-or-false}
 use Rattle.lists.specs.Sums.{total}
+use Rattle.lists.specs.Parted.{eachFrom, each}
 use Rattle.lists.specs.Members.{Some, some-also, some-share, share-some}
-use Rattle.scheme.specs.Units.{Station, R, E, Request, guess}
+use Rattle.scheme.specs.Units.{Station, R, Request, guess}
 use Rattle.scheme.specs.Verdicts.{isAccepted}
-use Rattle.scheme.specs.Difference.{Row, judged}
+use Rattle.scheme.specs.Difference.{Row}
 use Rattle.scheme.specs.Correction.{Sums, share, correction, backedBy}
 use Rattle.scheme.specs.Gifts.{sums, weightThere, accepted-weight, rejected-gives-nothing}
-use Rattle.scheme.specs.Scan.{differences, start, rowsJudged, sumsAt, corrected, scan, afterWithin, after}
+use Rattle.scheme.specs.Scan.{differences, start, allJudged, rowsJudged, sumsAt, corrected, scan, afterWithin, after}
 
 -- bit k of a number
 unfoldable pub bit : ℕ → ℕ → Bool
@@ -159,14 +160,14 @@ module _ (q : Request) (rough : q .plan .smooth ≡ false) (i j : ℕ) where
 
 module _ (q : Request) (empty : q .stations ≡ []) where
   no-rows : (m : ℕ) → after q m .rows ≡ []
-  unfolding afterWithin start scan rowsJudged
+  unfolding afterWithin start scan rowsJudged allJudged each eachFrom
   no-rows zero = rw empty
   no-rows (suc m) = rw (no-rows m)
 
   no-weights : (m i j : ℕ) → weightsIn q i j m ≡ 0
-  unfolding sumsAt total rowsJudged
+  unfolding sumsAt total rowsJudged allJudged each eachFrom
   no-weights m i j =
-      ap (λ (rows : List Row). sums (q .plan .mode) (R (q .plan) m) (differences q (after q m)) (map (judged (m + 1) (E (q .plan) m) (differences q (after q m))) rows) i j .weights)
+      ap (λ (rows : List Row). sums (q .plan .mode) (R (q .plan) m) (differences q (after q m)) (allJudged (q .plan) m (differences q (after q m)) rows) i j .weights)
       (no-rows m)
 
   pub no-stations-no-support : (m i j : ℕ) → after q m .support i j ≡ 0

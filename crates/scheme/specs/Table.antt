@@ -10,7 +10,7 @@ use lib.Ieee.{div, ofInt, round, units, odd, span, climb, size}
 use lib.Ieee.Exact.{HasValue}
 use Rattle.lists.specs.Sums.{upTo}
 use Rattle.scheme.specs.declared.Reading.the-variants.{FirstGuess}
-use Rattle.scheme.specs.Units.{Field, fieldOf, roundMode, equationRule, Plan, R, Request, guess}
+use Rattle.scheme.specs.Units.{Field, fieldOf, roundMode, equationRule, noBuddies, Plan, R, B, Request, guess}
 use Rattle.scheme.specs.Refusals.{refusedWith, badShape, readingRefusal}
 use Rattle.scheme.specs.Verdicts.{nearAxis}
 use Rattle.scheme.specs.Rounding.{rounded}
@@ -37,7 +37,7 @@ fourCorners = pos 0 ∷ pos 1 ∷ pos 0 ∷ pos 0 ∷ []
 
 -- radii 96, 64 with smoothing
 abbrev twoScans : Plan
-twoScans = record { scans = 2; radius = pos 96 ∷ pos 64 ∷ []; limit = pos 0 ∷ pos 0 ∷ []; smooth = true; mode = roundMode; rule = equationRule }
+twoScans = record { scans = 2; radius = pos 96 ∷ pos 64 ∷ []; limit = pos 0 ∷ pos 0 ∷ []; smooth = true; mode = roundMode; rule = equationRule; buddies = noBuddies }
 
 -- ---- the table
 
@@ -98,7 +98,7 @@ case-g q empty rough m i j =
     (unsupported-point-keeps-first-guess q rough i j m s, s)
 
 case-h : reach twoScans ≡ 5
-unfolding reach upTo steps R
+unfolding reach upTo steps R B
 case-h = refl
 
 pub table : Table

@@ -9,7 +9,7 @@ use borrow.Author.Tests.{leb-true}
 use lib.ListN.{length, getD, length-map, List·getD-map}
 use lib.IntN.{ℤ, pos}
 use Rattle.lists.specs.Tests.{and-true}
-use Rattle.scheme.specs.Units.{Field, stored, fieldOf, step, Station, Plan, R, Request, guess, Call, asked}
+use Rattle.scheme.specs.Units.{Field, stored, fieldOf, step, Station, Plan, R, B, Request, guess, Call, asked}
 use Rattle.scheme.specs.Refusals.{accepted, Window, badWindow, pointsAlong, analysisRefusal}
 use Rattle.scheme.specs.Value.{place}
 use Rattle.scheme.specs.Difference.{Row}
@@ -62,7 +62,7 @@ pub record Agrees (q : Request) (w : Window) : Type 0 where
 -- ---- how it follows
 
 -- the steps of a scan cover its radius, and one more for smoothing
-steps-enough : (p : Plan) (m : ℕ) → R p m + 0 + step * cond (p .smooth) 1 0 ≤ step * steps p m
+steps-enough : (p : Plan) (m : ℕ) → R p m + B p + step * cond (p .smooth) 1 0 ≤ step * steps p m
 unfolding steps
 steps-enough p m = omega arith
 

@@ -8,20 +8,24 @@ use mathlib.Core.Bool.{true, false, cond}
 use mathlib.Core.List.{List, [], _∷_, map}
 use lib.ListN.{getD}
 use lib.IntN.{ℤ, pos, negsuc, natAbs, _+ℤ_, _-ℤ_}
-use Rattle.lists.specs.Sums.{total}
+use Rattle.lists.specs.Sums.{total, total-map}
+use Rattle.lists.specs.Parted.{each}
+use Rattle.lists.specs.Each.{each-turned}
 use Rattle.lists.specs.Tests.{true-or-false}
 use Rattle.lists.specs.Members.{All, none, more, all-map, all-also, all-of, all-getD}
-use Rattle.scheme.specs.Units.{Field, step, Wind, noWind, isNoWind, Station, mostBeyond, roundMode, R, E, Request, Call, asked, guess}
+use Rattle.scheme.specs.Units.{Field, step, Wind, noWind, isNoWind, Station, mostBeyond, roundMode, R, E, B, L, Request, Call, asked, guess}
 use Rattle.scheme.specs.Refusals.{accepted, Window, analysisRefusal}
 use Rattle.scheme.specs.Verdicts.{beforeScans, serves, outOfService, offGrid}
 use Rattle.scheme.specs.Value.{valueAt}
-use Rattle.scheme.specs.Difference.{Row, difference, judged}
+use Rattle.scheme.specs.Difference.{Row, difference, tested}
 use Rattle.scheme.specs.Weight.{weightAt}
+use Rattle.scheme.specs.Buddies.{Heard, silence, both, says, heard, besideOthers}
 use Rattle.scheme.specs.Correction.{Sums, nothing, plus, gift, share, correction, backedBy}
 use Rattle.scheme.specs.Smoothing.{smoothed}
-use Rattle.scheme.specs.Scan.{begins, start, differences, rowsJudged, sumsAt, corrected, scan, afterWithin, after, analysis}
+use Rattle.scheme.specs.Scan.{begins, start, differences, allTested, allJudged, rowsJudged, sumsAt, corrected, scan, afterWithin, after, analysis}
 use Rattle.scheme.specs.Reach.{wholeAt}
 use Rattle.scheme.specs.Accepted.{Sound, noStation, analysis-sound}
+use Rattle.scheme.specs.Judging.{all-judged, judged-station}
 use Rattle.scheme.specs.Streaks.{round-if-still, still-in-mode-0, still-if-missing, times, turned, Fair, stronger-wind-weighs-alike, turned-is, turned-fair}
 
 -- ---- the same request with other winds, and with another mode
@@ -37,7 +41,7 @@ withWinds mode f q =
       ny = q .ny;
       firstGuess = q .firstGuess;
       stations = map (withWind f) (q .stations);
-      plan = record { scans = q .plan .scans; radius = q .plan .radius; limit = q .plan .limit; smooth = q .plan .smooth; mode = mode; rule = q .plan .rule };
+      plan = record { scans = q .plan .scans; radius = q .plan .radius; limit = q .plan .limit; smooth = q .plan .smooth; mode = mode; rule = q .plan .rule; buddies = q .plan .buddies };
       T = q .T;
       A = q .A;
     }
@@ -100,27 +104,40 @@ module _ (q : Request) (mode : ℕ) (f : Wind → Wind) where
     unfolding difference valueAt guess
     same-D s = rw (h .field)
 
-    abbrev judging : Row → Row
-    judging = judged (m + 1) (E (q .plan) m) D
+    abbrev D' : Station → ℤ
+    D' = differences other (after other m)
 
-    abbrev judgingOther : Row → Row
-    judgingOther = judged (m + 1) (E (other .plan) m) (differences other (after other m))
+    -- nor for the E test
+    same-tested : (r : Row) → tested (m + 1) (E (other .plan) m) D' (rowWith r) ≡ rowWith (tested (m + 1) (E (q .plan) m) D r)
+    unfolding tested E
+    same-tested r = rw (same-D (r .station))
 
-    same-judged : (r : Row) → judgingOther (rowWith r) ≡ rowWith (judging r)
-    unfolding judged E
-    same-judged r = rw (same-D (r .station))
+    -- nor among buddies
+    same-said : (s : Station) (o : Row) → says (B (q .plan)) D' (withWind f s) (rowWith o) ≡ says (B (q .plan)) D s o
+    unfolding says
+    same-said s o = rw (same-D (o .station))
+
+    same-heard : (s : Station) (others : List Row) → heard (B (q .plan)) D' (withWind f s) (map rowWith others) ≡ heard (B (q .plan)) D s others
+    unfolding heard
+    same-heard s others =
+        total-map silence both (says (B (q .plan)) D' (withWind f s)) rowWith others
+        ∙ ap (λ (g : Row → Heard). total silence both g others) (fun-ext (same-said s))
+
+    same-beside : (r : Row) (others : List Row) → besideOthers (m + 1) (B (other .plan)) (L (other .plan)) D' (rowWith r) (map rowWith others)
+        ≡ rowWith (besideOthers (m + 1) (B (q .plan)) (L (q .plan)) D r others)
+    unfolding besideOthers B L
+    same-beside r others = rw (same-D (r .station), same-heard (r .station) others)
 
     judged-rows : rowsJudged other m (after other m) ≡ map rowWith (rowsJudged q m (after q m))
-    unfolding rowsJudged
-    judged-rows = ap (map judgingOther) (h .rows) ∙ maps-agree judgingOther rowWith rowWith judging same-judged (after q m .rows)
-
-    still-alike : (r : Row) → AlikeRow r → AlikeRow (judging r)
-    unfolding judged
-    still-alike r a = a
+    unfolding rowsJudged allJudged
+    judged-rows =
+        ap (allJudged (other .plan) m D') (h .rows)
+        ∙ ap (each (besideOthers (m + 1) (B (other .plan)) (L (other .plan)) D')) (maps-agree (tested (m + 1) (E (other .plan) m) D') rowWith rowWith (tested (m + 1) (E (q .plan) m) D) same-tested (after q m .rows))
+        ∙ each-turned rowWith (besideOthers (m + 1) (B (q .plan)) (L (q .plan)) D) (besideOthers (m + 1) (B (other .plan)) (L (other .plan)) D') same-beside (allTested (q .plan) m D (after q m .rows))
 
     judged-alike : All AlikeRow (rowsJudged q m (after q m))
     unfolding rowsJudged
-    judged-alike = all-map AlikeRow AlikeRow judging still-alike (h .alike)
+    judged-alike = all-judged (q .plan) m D AlikeRow AlikeRow (λ r survivors a. rw (judged-station (q .plan) m D r survivors) a) (h .alike)
 
     same-share : (i j : ℕ) (r : Row) → AlikeRow r
         → share mode (R (q .plan) m) (differences other (after other m)) i j (rowWith r) ≡ share (q .plan .mode) (R (q .plan) m) D i j r

@@ -23,25 +23,25 @@ gridLine = do
   ny ← count leastSide mostSide before lineFeed
   gives (record { nx = nx; ny = ny })
 
--- `scan` is R,E
+-- a radius and a limit
 pub record Entry : Type 0 where
   pub radius : ℤ
   pub limit : ℤ
 
-unfoldable pub scanLine : Piece Entry
-scanLine = do
-  word (ascii "scan=")
+unfoldable pub entryLine : List ℕ → Piece Entry
+entryLine key = do
+  word key
   radius ← signed before comma
   limit ← signed before lineFeed
   gives (record { radius = radius; limit = limit })
 
+-- `scan` is R,E
+abbrev pub scanLine : Piece Entry
+scanLine = entryLine (ascii "scan=")
+
 -- `buddy` is B,L, and means that the check is on (document 02, 7)
-unfoldable pub buddyLine : Piece Buddies
-buddyLine = do
-  word (ascii "buddy=")
-  radius ← signed before comma
-  limit ← signed before lineFeed
-  gives (record { on = true; radius = radius; limit = limit })
+abbrev pub buddyLine : Piece Buddies
+buddyLine = entryLine (ascii "buddy=") >>= λ t. gives (record { on = true; radius = t .radius; limit = t .limit })
 
 -- `row` is one grid row
 unfoldable pub rowLine : ℕ → Piece (List ℤ)
