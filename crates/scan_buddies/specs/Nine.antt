@@ -14,8 +14,9 @@ use Rattle.lists.specs.Sums.{upTo, upTo-same, upTo-both}
 use Rattle.scheme.specs.Verdicts.{isAccepted}
 use Rattle.scheme.specs.Weight.{squares, inside}
 use Rattle.scheme.specs.Buddies.{Heard, silence, both}
+use Rattle.scheme.specs.Adding.{silence-both, both-silence, both-assoc}
 use Rattle.scan_buddies.specs.Aside.{xOf, yOf, said, heardAt, OnAxis, Standing, AllStanding}
-use Rattle.scan_buddies.specs.Voices.{told, silence-both, both-silence, both-assoc, both-comm, OfAtMost, of-none, of-one, sum-of-most, between, fromCells, among-them, below-them, beyond-them}
+use Rattle.scan_buddies.specs.Voices.{told, both-comm, OfAtMost, of-none, of-one, sum-of-most, between, fromCells, among-them, below-them, beyond-them}
 use Rattle.scan_buddies.specs.Cells.{across, cells, kinds, sideOf, cellAlong, cellOf, cellFor, cellAt, Survivors, side-least, side-wide, InRow, along-in-row, along-near, inside-axes}
 
 -- row j is at distance below B from row k

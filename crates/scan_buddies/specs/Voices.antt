@@ -1,13 +1,13 @@
--- What a station hears adds like numbers, in any order, and is small; and what it hears of those in some cells.
+-- What a station hears adds in any order, and is small; and what it hears of those in some cells.
 use Prim.Native.Nat.{ℕ, zero, suc, _+_, _*_, _≤_, _<_}
 use native.Mathlib.Omega.{arith}
-use native.Mathlib.Nat.{zero-add, add-zero, add-assoc, add-comm}
+use native.Mathlib.Nat.{add-comm}
 use mathlib.Core.Path.{_≡_, refl, sym, ap, ap₂, _∙_}
 use mathlib.Core.Logic.{_⊎_, inl, inr}
 use mathlib.Core.Bool.{Bool, true, false, cond, _&&_}
 use borrow.Author.Tests.{lt-ltb, le-ltb, le-leb, lt-leb, eq-eqb, ne-eqb}
 use lib.Dec.{leb, ltb, eqb}
-use lib.IntN.{ℤ, pos, natAbs, _+ℤ_, _-ℤ_, +ℤ-idl, +ℤ-idr, +ℤ-assoc, +ℤ-comm}
+use lib.IntN.{ℤ, pos, natAbs, _+ℤ_, _-ℤ_, +ℤ-comm}
 use Rattle.integers.specs.Parts.{eq-parts, add-parts, minus-parts}
 use Rattle.integers.specs.Sizes.{size-add, size-minus}
 use Rattle.lists.specs.Tests.{lt-or-le, true-or-false, cond-both}
@@ -15,19 +15,11 @@ use Rattle.lists.specs.Sums.{upTo, upTo-same, upTo-both}
 use Rattle.lists.specs.Chains.{sumOf, Walked}
 use Rattle.scheme.specs.Units.{mostLimit}
 use Rattle.scheme.specs.Buddies.{Heard, silence, both}
+use Rattle.scheme.specs.Adding.{silence-both, both-silence, both-assoc}
 
 -- from a count and a sum
 abbrev pub told : ℕ → ℤ → Heard
 told n s = record { count = n; sum = s }
-
-pub silence-both : (h : Heard) → both silence h ≡ h
-silence-both h = ap₂ told (zero-add (h .count)) (+ℤ-idl (h .sum))
-
-pub both-silence : (h : Heard) → both h silence ≡ h
-both-silence h = ap₂ told (add-zero (h .count)) (+ℤ-idr (h .sum))
-
-pub both-assoc : (a b c : Heard) → both (both a b) c ≡ both a (both b c)
-both-assoc a b c = ap₂ told (add-assoc (a .count) (b .count) (c .count)) (+ℤ-assoc (a .sum) (b .sum) (c .sum))
 
 pub both-comm : (a b : Heard) → both a b ≡ both b a
 both-comm a b = ap₂ told (add-comm (a .count) (b .count)) (+ℤ-comm (a .sum) (b .sum))
@@ -46,6 +38,9 @@ of-one d h = record { few = omega arith; small = omega arith }
 
 pub of-more : (n m : ℕ) (h : Heard) → n ≤ m → OfAtMost n h → OfAtMost m h
 of-more n m h l p = record { few = omega (arith, p .few); small = omega (arith, p .small) }
+
+pub of-twice : (n : ℕ) (h : Heard) → OfAtMost n h → OfAtMost (2 * n) h
+of-twice n h p = of-more n (2 * n) h (omega arith) p
 
 pub of-both : (n : ℕ) (a b : Heard) → OfAtMost n a → OfAtMost n b → OfAtMost (2 * n) (both a b)
 of-both n a b p q =

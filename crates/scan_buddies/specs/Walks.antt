@@ -8,8 +8,9 @@ use lib.IntN.{ℤ, pos, natAbs}
 use Rattle.lists.specs.Chains.{last, Walked, last-most, walk-start, walk-turn, walk-end}
 use Rattle.scheme.specs.Units.{mostStations, mostLimit}
 use Rattle.scheme.specs.Buddies.{Heard, silence, both}
+use Rattle.scheme.specs.Adding.{silence-both, both-silence, both-assoc}
 use Rattle.scan_buddies.specs.Aside.{Standing}
-use Rattle.scan_buddies.specs.Voices.{silence-both, both-silence, both-assoc, both-comm, OfAtMost, fromCells, from-one, from-few, walked-few}
+use Rattle.scan_buddies.specs.Voices.{both-comm, OfAtMost, fromCells, from-one, from-few, walked-few}
 use Rattle.scan_buddies.specs.Cells.{cells, kinds, cellAt, Survivors}
 use Rattle.scan_buddies.specs.Nine.{voice, voice-small, in-cell}
 

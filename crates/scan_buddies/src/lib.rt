@@ -15,11 +15,6 @@ ghost use Rattle.scan_buddies.specs.Voices.{told, OfAtMost, fromCells};
 ghost use Rattle.scan_buddies.specs.Cells.{leastSide, cells, kinds, sideOf, cellAlong, cellOf, cellFor, cellAt, Survivors, Chains};
 ghost use Rattle.scan_buddies.specs.Nine.{voice, three};
 
-// Places in a row of numbers.
-const X: usize = 0;
-
-const Y: usize = 1;
-
 // Cells of a row of cells, with a free one at each end, so that every survivor's cell has eight around it.
 const ACROSS: usize = 38;
 
@@ -53,7 +48,7 @@ fn cell_of(radius: u32, row: [i32; 5]) -> usize
     ensures { λ r. ⌜ r ≡ cellOf radius row ⌝ }
 {
     let side = side_of(radius);
-    cell_along(side, row[Y]) * ACROSS + cell_along(side, row[X])
+    cell_along(side, row[request::Y]) * ACROSS + cell_along(side, row[request::X])
 }
 
 // Which chain a row is in.
@@ -96,7 +91,11 @@ fn squared_distance(a: [i32; 5], b: [i32; 5]) -> u32
     requires { ⌜ OnAxis (xOf a) × OnAxis (yOf a) × OnAxis (xOf b) × OnAxis (yOf b) ⌝ }
     ensures { λ r. ⌜ r ≡ squares (xOf a -ℤ xOf b) (yOf a -ℤ yOf b) ⌝ }
 {
-    scan_weight::squared_distance(a[X], b[X], scan_weight::square_apart(a[Y], b[Y]))
+    scan_weight::squared_distance(
+        a[request::X],
+        b[request::X],
+        scan_weight::square_apart(a[request::Y], b[request::Y]),
+    )
 }
 
 // What station k hears, with what row j says to it.
@@ -273,7 +272,17 @@ pub fn set_aside(
     chain(&mut heads, &mut next, verdict, stations, radius, numbers);
     let mut k: usize = 0;
     while k < stations {
-        verdict[k] = verdict_beside(verdict[k], k, radius, limit, scan, &heads, &next, d, numbers);
+        verdict[k] = verdict_beside(
+            verdict[k],
+            k,
+            radius,
+            limit,
+            scan,
+            &heads,
+            &next,
+            d,
+            numbers,
+        );
         k += 1;
     }
 }

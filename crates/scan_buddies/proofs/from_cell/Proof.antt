@@ -75,7 +75,7 @@ cast-t c =
     let s = c .before in
     let w = s .pre .4 in
     let first = walking-start (s .args .radius) (s .args .numbers .now) (s .args .d .now) (s .args .heads .now) (s .args .next .now) (w .n) (w .st) (w .survivors) (s .args .k) (s .args .cell)
-        (omega (arith, s .pre .0)) in
+    (omega (arith, s .pre .0)) in
     record { fits = omega (arith, first .no-more, w .survivors .few) }
 
 loop-holds : tie.Need-loop-holds Inv-loop μ-loop

@@ -6,7 +6,7 @@ use mathlib.Core.Path.{_≡_, ap₂, _∙_}
 use mathlib.Core.List.{List}
 use Rattle.scheme.specs.Units.{mostStations}
 use Rattle.scheme.specs.Buddies.{Heard, both}
-use Rattle.scan_buddies.specs.Voices.{told, OfAtMost, of-more, of-both, fromCells, from-three}
+use Rattle.scan_buddies.specs.Voices.{told, OfAtMost, of-twice, of-both, fromCells, from-three}
 use Rattle.scan_buddies.specs.Cells.{cells, cellAt, Survivors, Chains}
 use Rattle.scan_buddies.specs.Nine.{voice}
 use Rattle.scan_buddies.specs.Walks.{heard-small}
@@ -45,9 +45,6 @@ module _ (c : tie.After-from-cell3) where
   right-few : OfAtMost mostStations (told (c .from-cell3 .result .count) (c .from-cell3 .result .sum))
   right-few = few start _ _ _ (omega (arith, start .pre .0)) (c .from-cell3 .ensures n st (chains start .survivors))
 
-twice : (h : Heard) → OfAtMost mostStations h → OfAtMost (2 * mostStations) h
-twice h p = of-more mostStations (2 * mostStations) h (omega arith) p
-
 from-cell-requires : tie.Need-from-cell-requires
 from-cell-requires c κs = search needs
 
@@ -64,10 +61,10 @@ from-cell-requires-3 : tie.Need-from-cell-requires-3
 from-cell-requires-3 c κs = search needs
 
 joined-requires : tie.Need-joined-requires
-joined-requires c κs = (twice _ (left-few c), twice _ (mid-few c))
+joined-requires c κs = (of-twice mostStations _ (left-few c), of-twice mostStations _ (mid-few c))
 
 joined-requires-2 : tie.Need-joined-requires-2
-joined-requires-2 c κs = (rw (c .joined .ensures) (of-both mostStations _ _ (left-few (c .before)) (mid-few (c .before))), twice _ (right-few (c .before)))
+joined-requires-2 c κs = (rw (c .joined .ensures) (of-both mostStations _ _ (left-few (c .before)) (mid-few (c .before))), of-twice mostStations _ (right-few (c .before)))
 
 returns : tie.Need-returns
 returns c n st survivors =
@@ -75,8 +72,8 @@ returns c n st survivors =
     let s = start (j .before) in
     c .joined2 .ensures
     ∙ ap₂ both
-      (j .joined .ensures ∙ ap₂ both (j .before .before .before .from-cell .ensures n st survivors) (j .before .before .from-cell2 .ensures n st survivors))
-      (j .before .from-cell3 .ensures n st survivors)
+    (j .joined .ensures ∙ ap₂ both (j .before .before .before .from-cell .ensures n st survivors) (j .before .before .from-cell2 .ensures n st survivors))
+    (j .before .from-cell3 .ensures n st survivors)
     ∙ from-three (cellAt (s .args .radius) (s .args .numbers .now) st) n (s .args .first) (voice (s .args .radius) (s .args .numbers .now) (s .args .d .now) (s .args .k))
 
 pub from-three-spec : {M : Type 1} → statement M

@@ -8,7 +8,7 @@ use lib.ListN.{getD}
 use lib.IntN.{ℤ}
 use Rattle.scheme.specs.Units.{mostStations}
 use Rattle.scheme.specs.Buddies.{Heard, both}
-use Rattle.scan_buddies.specs.Voices.{told, OfAtMost, of-more, of-both, fromCells}
+use Rattle.scan_buddies.specs.Voices.{told, OfAtMost, of-twice, of-both, fromCells}
 use Rattle.scan_buddies.specs.Cells.{cells, cellOf, cellAt, Survivors, Chains}
 use Rattle.scan_buddies.specs.Nine.{voice, Framed, cell-framed, nine-are-all}
 use Rattle.scan_buddies.specs.Walks.{heard-small}
@@ -61,9 +61,6 @@ module _ (c : tie.After-from-three3) where
   below-few : OfAtMost mostStations (told (c .from-three3 .result .count) (c .from-three3 .result .sum))
   below-few = few start _ _ _ (omega (arith, here cell .least, here cell .most)) (c .from-three3 .ensures n st (chains start .survivors))
 
-twice : (h : Heard) → OfAtMost mostStations h → OfAtMost (2 * mostStations) h
-twice h p = of-more mostStations (2 * mostStations) h (omega arith) p
-
 mul-cell-of : tie.Need-mul-cell-of
 mul-cell-of c = search needs
 
@@ -98,10 +95,10 @@ from-three-requires-3 : tie.Need-from-three-requires-3
 from-three-requires-3 c κs = let g = c .before .before in let p = begin g .pre in (omega (arith, here g .least, here g .most), p .0, p .1, p .2, p .3)
 
 joined-requires : tie.Need-joined-requires
-joined-requires c κs = (twice _ (above-few c), twice _ (level-few c))
+joined-requires c κs = (of-twice mostStations _ (above-few c), of-twice mostStations _ (level-few c))
 
 joined-requires-2 : tie.Need-joined-requires-2
-joined-requires-2 c κs = (rw (c .joined .ensures) (of-both mostStations _ _ (above-few (c .before)) (level-few (c .before))), twice _ (below-few (c .before)))
+joined-requires-2 c κs = (rw (c .joined .ensures) (of-both mostStations _ _ (above-few (c .before)) (level-few (c .before))), of-twice mostStations _ (below-few (c .before)))
 
 returns : tie.Need-returns
 returns c n st survivors =
@@ -110,10 +107,10 @@ returns c n st survivors =
     let s = begin g in
     c .joined2 .ensures
     ∙ ap₂ both
-      (j .joined .ensures ∙ ap₂ both (j .before .before .before .from-three .ensures n st survivors) (j .before .before .from-three2 .ensures n st survivors))
-      (j .before .from-three3 .ensures n st survivors)
+    (j .joined .ensures ∙ ap₂ both (j .before .before .before .from-three .ensures n st survivors) (j .before .before .from-three2 .ensures n st survivors))
+    (j .before .from-three3 .ensures n st survivors)
     ∙ nine-are-all (s .args .radius) (s .args .numbers .now) (s .args .d .now) (s .args .heads .now) (s .args .next .now) n st survivors (s .args .k) (s .pre .2) _
-      (omega (arith, here g .least, g .cell-of .ensures))
+    (omega (arith, here g .least, g .cell-of .ensures))
 
 pub hears-spec : {M : Type 1} → statement M
 hears-spec =

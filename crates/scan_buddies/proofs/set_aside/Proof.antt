@@ -40,9 +40,14 @@ module _ (c : tie.In-loop Inv-loop μ-loop) where
 
 chain-requires : tie.Need-chain-requires Inv-loop μ-loop
 chain-requires c κs =
-    let p = c .before .before .before .before .pre in
-    (p .few, p .len-st, length-replicate {A = ℕ} kinds 0, length-replicate {A = ℕ} mostStations 0, (λ i h. getD-replicate {A = ℕ} kinds i 0 0 h),
-     (λ k l e. let s = p .standing k l e in (s .x, s .y)))
+    let p = c .before .before .before .before .pre in (
+      p .few,
+      p .len-st,
+      length-replicate {A = ℕ} kinds 0,
+      length-replicate {A = ℕ} mostStations 0,
+      (λ i h. getD-replicate {A = ℕ} kinds i 0 0 h),
+      (λ k l e. let s = p .standing k l e in (s .x, s .y)),
+    )
 
 loop-holds : tie.Need-loop-holds Inv-loop μ-loop
 loop-holds c =
@@ -56,9 +61,13 @@ verdict-beside-requires : tie.Need-verdict-beside-requires Inv-loop μ-loop
 verdict-beside-requires c κs =
     let t = c .before .before .before in
     let s = start t in
-    let p = s .pre in
-    (few t, p .radius-most, p .scan-few, (λ e. p .standing (k t) (t .loop-test .taken) (sym (verdict-is t) ∙ e)),
-     record { n = s .args .stations; st = s .args .verdict .now; survivors = t .before .loop .inv .2 })
+    let p = s .pre in (
+      few t,
+      p .radius-most,
+      p .scan-few,
+      (λ e. p .standing (k t) (t .loop-test .taken) (sym (verdict-is t) ∙ e)),
+      record { n = s .args .stations; st = s .args .verdict .now; survivors = t .before .loop .inv .2 },
+    )
 
 slice-write-verdict : tie.Need-slice-write-verdict Inv-loop μ-loop
 slice-write-verdict c = in-verdict (c .before .before .before .before)

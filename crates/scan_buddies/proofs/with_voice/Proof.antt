@@ -13,7 +13,8 @@ use mir.Facts.{toZ-ofZ}
 use Rattle.integers.specs.Sizes.{size-add}
 use Rattle.integers.specs.Words.{fits-size, bits-back}
 use Rattle.scheme.specs.Buddies.{Heard, silence, both}
-use Rattle.scan_buddies.specs.Voices.{told, both-silence}
+use Rattle.scheme.specs.Adding.{both-silence}
+use Rattle.scan_buddies.specs.Voices.{told}
 use Rattle.scan_buddies.specs.Nine.{voice, voice-itself, voice-far, voice-near}
 use Rattle.scan_buddies.proofs.with_voice.Statement.{statement}
 use Rattle.scan_buddies.proofs.with_voice.Tie as tie
@@ -94,9 +95,12 @@ returns-3 c =
     let g = c .before .before in
     let e = g .before .before .before in
     let s = start c in
-    rw (all-is s, bits-back w64 (s .args .sum +ℤ d s) (all-small s),
-        voice-near (s .args .radius) (s .args .numbers .now) (s .args .d .now) (s .args .k) (s .args .j) (g .squared-distance .result) (e .if1 .left) (g .squared-distance .ensures)
-        (c .before .if2 .left))
+    rw (
+      all-is s,
+      bits-back w64 (s .args .sum +ℤ d s) (all-small s),
+      voice-near (s .args .radius) (s .args .numbers .now) (s .args .d .now) (s .args .k) (s .args .j) (g .squared-distance .result) (e .if1 .left) (g .squared-distance .ensures)
+          (c .before .if2 .left),
+    )
 
 pub with-voice-spec : {M : Type 1} → statement M
 with-voice-spec =
