@@ -5,7 +5,7 @@ use mathlib.Core.Path.{_≡_, refl, sym, ap, _∙_}
 use mathlib.Core.Bool.{Bool, true, false, cond, _&&_}
 use mathlib.Core.List.{List, []}
 use borrow.Author.Tests.{eqb-true, eq-eqb, le-ltb}
-use lib.Dec.{eqb}
+use lib.Dec.{ltb, eqb}
 use lib.ListN.{length, getD}
 use lib.IntN.{ℤ, pos, natAbs}
 use mir.Syntax.{w32}
@@ -19,7 +19,6 @@ use Rattle.lists.specs.Sums.{upTo, upTo-same}
 use Rattle.lists.specs.Filled.{Filled, filled-all}
 use Rattle.scheme.specs.Units.{Field, stored, fieldOf, isNoWind, mostStations, mostBeyond, mostScans, mostLimit, windMode, R, E, B, L}
 use Rattle.scheme.specs.Verdicts.{isAccepted}
-use Rattle.scheme.specs.Weight.{squares}
 use Rattle.scheme.specs.Buddies.{silence, both, afterBuddies}
 use Rattle.scheme.specs.Correction.{correction}
 use Rattle.scheme.specs.Smoothing.{smoothed}
@@ -86,8 +85,11 @@ module _ (t : Terms) (numbers : List (List ℤ)) (scan : ℕ) (st : List ℕ) (d
   nobody-says : (k j : ℕ) → said (B (planIn t)) numbers st ds k j ≡ silence
   unfolding said B
   nobody-says k j =
-      rw off (cond-same (eqb j k) silence _ silence (λ e. refl) (λ e. far (isAccepted (getD st j 0)) _ (le-ltb (squares _ _) 0 (omega arith))))
+      rw off (cond-same (eqb j k) silence _ silence (λ e. refl) (λ e. far (isAccepted (getD st j 0)) _ (near-none _)))
     where
+      near-none : (n : ℕ) → ltb n 0 ≡ false
+      near-none n = le-ltb n 0 (omega arith)
+
       far : (a near : Bool) → near ≡ false → cond (a && near) (record { count = 1; sum = getD ds j (pos 0) }) silence ≡ silence
       far true near e = rw e
       far false near e = refl

@@ -97,7 +97,7 @@ module _ (t : Terms) (guess : List ℤ) (numbers : List (List ℤ)) (minutes : L
   tested-rows =
       ap (map (tested (m + 1) (E (planIn t) m) (differences q s))) (holds .rows)
       ∙ map-tab (tested (m + 1) (E (planIn t) m) (differences q s)) (t .stations) (rowIn numbers minutes st)
-      ∙ tab-same (t .stations) _ _ (λ k h. unfold tested in (cc (tested-verdict k h)))
+      ∙ tab-same (t .stations) _ (rowIn numbers minutes st1) (λ k h. unfold tested in (cc (tested-verdict k h)))
 
   -- a survivor was accepted before, and its difference is the paper's
   survived : (k : ℕ) → k < t .stations → isAccepted (getD st1 k 0) ≡ true → isAccepted (getD st k 0) ≡ true
@@ -137,7 +137,7 @@ module _ (t : Terms) (guess : List ℤ) (numbers : List (List ℤ)) (minutes : L
   same-rows =
       ap (each (besideOthers (m + 1) (B (planIn t)) (L (planIn t)) (differences q s))) tested-rows
       ∙ each-tab (besideOthers (m + 1) (B (planIn t)) (L (planIn t)) (differences q s)) noRow (t .stations) (rowIn numbers minutes st1)
-      ∙ tab-same (t .stations) _ _ (λ k h. unfold besideOthers in (cc (same-heard k, new-verdict k h)))
+      ∙ tab-same (t .stations) _ (rowIn numbers minutes st') (λ k h. unfold besideOthers in (cc (same-heard k, new-verdict k h)))
 
   -- an accepted row was accepted before
   still : (k : ℕ) → k < t .stations → isAccepted (getD st' k 0) ≡ true → isAccepted (getD st1 k 0) ≡ true

@@ -39,8 +39,8 @@ fn buddies_if(verdict: &mut [u8], d: &[i64; 512], t: Terms, numbers: &[[i32; 5];
             d,
             numbers,
             t.stations,
-            t.buddy_radius as u32,
-            t.buddy_limit as u32,
+            request::buddy_radius(t),
+            request::buddy_limit(t),
             scan,
         );
     }
