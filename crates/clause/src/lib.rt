@@ -25,13 +25,16 @@ pub extern "C" fn sosnyavik_analyse(
     smooth: bool,
     mode: u32,
     rule: u32,
+    buddy: bool,
+    buddy_radius: i32,
+    buddy_limit: i32,
     time: u32,
     age: u32,
     grid: &mut [i32],
     support: &mut [u8],
     verdict: &mut [u8],
 ) -> u32
-    ensures { λ r. ⌜ Analyses (asking nx ny (now (guess .entry)) (eightColumns (now (x .entry)) (now (y .entry)) (now (value .entry)) (now (observed .entry)) (now (from .entry)) (now (until .entry)) (now («wind_u» .entry)) (now («wind_v» .entry))) count (now (radius .entry)) (now (limit .entry)) smooth mode rule time age) (slices (now (grid .entry)) (now (support .entry)) (now (verdict .entry))) r (slices (now (grid .exit)) (now (support .exit)) (now (verdict .exit))) ⌝ }
+    ensures { λ r. ⌜ Analyses (asking nx ny (now (guess .entry)) (eightColumns (now (x .entry)) (now (y .entry)) (now (value .entry)) (now (observed .entry)) (now (from .entry)) (now (until .entry)) (now («wind_u» .entry)) (now («wind_v» .entry))) count (now (radius .entry)) (now (limit .entry)) smooth mode rule (record { on = buddy; radius = «buddy_radius»; limit = «buddy_limit» }) time age) (slices (now (grid .entry)) (now (support .entry)) (now (verdict .entry))) r (slices (now (grid .exit)) (now (support .exit)) (now (verdict .exit))) ⌝ }
 {
     let l = refusal_shapes::lengths_of(
         nx,
@@ -79,6 +82,9 @@ pub extern "C" fn sosnyavik_analyse(
         smooth,
         mode,
         rule,
+        buddy,
+        buddy_radius,
+        buddy_limit,
         time,
         age,
     );
@@ -108,12 +114,15 @@ pub extern "C" fn sosnyavik_window(
     smooth: bool,
     mode: u32,
     rule: u32,
+    buddy: bool,
+    buddy_radius: i32,
+    buddy_limit: i32,
     time: u32,
     age: u32,
     grid: &mut [i32],
     support: &mut [u8],
 ) -> u32
-    ensures { λ r. ⌜ Queries (asking nx ny (now (guess .entry)) (eightColumns (now (x .entry)) (now (y .entry)) (now (value .entry)) (now (observed .entry)) (now (from .entry)) (now (until .entry)) (now («wind_u» .entry)) (now («wind_v» .entry))) count (now (radius .entry)) (now (limit .entry)) smooth mode rule time age) (windowAt left right top bottom) (tile (now (grid .entry)) (now (support .entry))) r (tile (now (grid .exit)) (now (support .exit))) ⌝ }
+    ensures { λ r. ⌜ Queries (asking nx ny (now (guess .entry)) (eightColumns (now (x .entry)) (now (y .entry)) (now (value .entry)) (now (observed .entry)) (now (from .entry)) (now (until .entry)) (now («wind_u» .entry)) (now («wind_v» .entry))) count (now (radius .entry)) (now (limit .entry)) smooth mode rule (record { on = buddy; radius = «buddy_radius»; limit = «buddy_limit» }) time age) (windowAt left right top bottom) (tile (now (grid .entry)) (now (support .entry))) r (tile (now (grid .exit)) (now (support .exit))) ⌝ }
 {
     let l = refusal_shapes::lengths_of(
         nx,
@@ -167,6 +176,9 @@ pub extern "C" fn sosnyavik_window(
         smooth,
         mode,
         rule,
+        buddy,
+        buddy_radius,
+        buddy_limit,
         time,
         age,
     );
@@ -196,12 +208,15 @@ pub extern "C" fn sosnyavik_windows(
     smooth: bool,
     mode: u32,
     rule: u32,
+    buddy: bool,
+    buddy_radius: i32,
+    buddy_limit: i32,
     time: u32,
     age: u32,
     grid: &mut [i32],
     support: &mut [u8],
 ) -> u32
-    ensures { λ r. ⌜ QueriesEach (asking nx ny (now (guess .entry)) (eightColumns (now (x .entry)) (now (y .entry)) (now (value .entry)) (now (observed .entry)) (now (from .entry)) (now (until .entry)) (now («wind_u» .entry)) (now («wind_v» .entry))) count (now (radius .entry)) (now (limit .entry)) smooth mode rule time age) (fourColumns (now (left .entry)) (now (right .entry)) (now (top .entry)) (now (bottom .entry))) (tile (now (grid .entry)) (now (support .entry))) r (tile (now (grid .exit)) (now (support .exit))) ⌝ }
+    ensures { λ r. ⌜ QueriesEach (asking nx ny (now (guess .entry)) (eightColumns (now (x .entry)) (now (y .entry)) (now (value .entry)) (now (observed .entry)) (now (from .entry)) (now (until .entry)) (now («wind_u» .entry)) (now («wind_v» .entry))) count (now (radius .entry)) (now (limit .entry)) smooth mode rule (record { on = buddy; radius = «buddy_radius»; limit = «buddy_limit» }) time age) (fourColumns (now (left .entry)) (now (right .entry)) (now (top .entry)) (now (bottom .entry))) (tile (now (grid .entry)) (now (support .entry))) r (tile (now (grid .exit)) (now (support .exit))) ⌝ }
 {
     let l = refusal_shapes::lengths_of(
         nx,
@@ -254,6 +269,9 @@ pub extern "C" fn sosnyavik_windows(
         smooth,
         mode,
         rule,
+        buddy,
+        buddy_radius,
+        buddy_limit,
         time,
         age,
     );

@@ -7,19 +7,19 @@ use mathlib.Core.List.{List, []}
 use borrow.Author.Tests.{eqb-true, eq-eqb, le-ltb}
 use lib.Dec.{ltb, eqb}
 use lib.ListN.{length, getD}
-use lib.IntN.{ℤ, pos, natAbs}
+use lib.IntN.{ℤ, pos, natAbs, _-ℤ_}
 use mir.Syntax.{w32}
 use mir.Val.{toZ, ofZ}
 use Rattle.integers.specs.Parts.{dn, size-parts}
 use Rattle.integers.specs.Sizes.{size-add}
 use Rattle.integers.specs.Words.{bits-back}
-use Rattle.lists.specs.Tests.{cond-same}
 use Rattle.lists.specs.Tab.{tab}
 use Rattle.lists.specs.Sums.{upTo, upTo-same}
 use Rattle.lists.specs.Filled.{Filled, filled-all}
 use Rattle.scheme.specs.Units.{Field, stored, fieldOf, isNoWind, mostStations, mostBeyond, mostScans, mostLimit, windMode, R, E, B, L}
 use Rattle.scheme.specs.Verdicts.{isAccepted}
-use Rattle.scheme.specs.Buddies.{silence, both, afterBuddies}
+use Rattle.scheme.specs.Weight.{squares}
+use Rattle.scheme.specs.Buddies.{silence, both, isOdd, afterBuddies}
 use Rattle.scheme.specs.Correction.{correction}
 use Rattle.scheme.specs.Smoothing.{smoothed}
 use Rattle.scheme.specs.Accepted.{Shaped, same-shape}
@@ -32,7 +32,7 @@ use Rattle.scheme.specs.Bounds.{Small, correction-size}
 use Rattle.scheme.specs.Stored.{Same, length-stored, field-stored, stored-same, smoothed-same, stored-all}
 use Rattle.request.specs.declared.Terms.{Terms}
 use Rattle.request.specs.Tables.{planIn}
-use Rattle.scan_buddies.specs.Aside.{said, heardAt, asideAt, OnAxis, AllStanding}
+use Rattle.scan_buddies.specs.Aside.{xOf, yOf, said, heardAt, asideAt, OnAxis, AllStanding}
 use Rattle.scan_station.specs.Judge.{Heard, AcceptedHeard, JudgeReady, diffOf, diffAt, verdictAt}
 use Rattle.scan_point.specs.Near.{Stations, stationsWith, windIn, xAt, yAt, windAt, dAt, Inside, Ready, sumsOver, over-modest}
 use Rattle.scan_point.specs.Pass.{corrected, backed, PassReady}
@@ -85,14 +85,12 @@ module _ (t : Terms) (numbers : List (List ℤ)) (scan : ℕ) (st : List ℕ) (d
   nobody-says : (k j : ℕ) → said (B (planIn t)) numbers st ds k j ≡ silence
   unfolding said B
   nobody-says k j =
-      rw off (cond-same (eqb j k) silence _ silence (λ e. refl) (λ e. far (isAccepted (getD st j 0)) _ (near-none _)))
+      rw off (go (eqb j k) (isAccepted (getD st j 0)) (squares (xOf (getD numbers j []) -ℤ xOf (getD numbers k [])) (yOf (getD numbers j []) -ℤ yOf (getD numbers k []))))
     where
-      near-none : (n : ℕ) → ltb n 0 ≡ false
-      near-none n = le-ltb n 0 (omega arith)
-
-      far : (a near : Bool) → near ≡ false → cond (a && near) (record { count = 1; sum = getD ds j (pos 0) }) silence ≡ silence
-      far true near e = rw e
-      far false near e = refl
+      go : (itself a : Bool) (d2 : ℕ) → cond itself silence (cond (a && ltb d2 0) (record { count = 1; sum = getD ds j (pos 0) }) silence) ≡ silence
+      go true a d2 = refl
+      go false false d2 = refl
+      go false true d2 = rw (le-ltb d2 0 (omega arith))
 
   all-silent : (n : ℕ) → upTo silence both n (λ j. silence) ≡ silence
   unfolding upTo
@@ -104,7 +102,7 @@ module _ (t : Terms) (numbers : List (List ℤ)) (scan : ℕ) (st : List ℕ) (d
     where
       stays : (k : ℕ) → asideIn t numbers scan st ds k ≡ getD st k 0
       stays k =
-          unfold asideAt heardAt in
+          unfold asideAt heardAt afterBuddies isOdd in
           rw (upTo-same silence both (t .stations) _ (λ j. silence) (λ j h. nobody-says k j) ∙ all-silent (t .stations)) (go (isAccepted (getD st k 0)))
         where
           go : (a : Bool) → cond (a && false) (20 + scan) (getD st k 0) ≡ getD st k 0

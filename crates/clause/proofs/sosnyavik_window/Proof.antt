@@ -2,6 +2,7 @@
 use borrow.Author.Needs.{needs}
 use mathlib.Core.Path.{_≡_, refl}
 use lib.ListN.{length}
+use mir.Facts.{toZ-ofZ}
 use Rattle.scheme.specs.Units.{Call, asking}
 use Rattle.scheme.specs.Refusals.{inOrder, Window, windowAt}
 use Rattle.scheme.specs.Promises.{eightColumns, tile}
@@ -16,7 +17,7 @@ use Rattle.clause.proofs.sosnyavik_window.Tie as tie
 abbrev call : tie.Start → Call
 call s =
     let a = s .args in
-    asking (a .nx) (a .ny) (a .guess .now) (eightColumns (a .x .now) (a .y .now) (a .value .now) (a .observed .now) (a .from .now) (a .until .now) (a .wind-u .now) (a .wind-v .now)) (a .count) (a .radius .now) (a .limit .now) (a .smooth) (a .mode) (a .rule) (a .time) (a .age)
+    asking (a .nx) (a .ny) (a .guess .now) (eightColumns (a .x .now) (a .y .now) (a .value .now) (a .observed .now) (a .from .now) (a .until .now) (a .wind-u .now) (a .wind-v .now)) (a .count) (a .radius .now) (a .limit .now) (a .smooth) (a .mode) (a .rule) (record { on = a .buddy; radius = a .buddy-radius; limit = a .buddy-limit }) (a .time) (a .age)
 
 abbrev window : tie.Start → Window
 window s = let a = s .args in windowAt (a .left) (a .right) (a .top) (a .bottom)
@@ -58,7 +59,9 @@ settled-requires c κs =
     let t = c .before .before .before .before in
     let e = t .before .before .before .before in
     let l = t .before .load in
-    window-ready (call (start (e .before))) (t .terms-of .result) (l .last .0) (l .last .1 .0) (t .terms-of .ensures) (l .ensures) (window (start (e .before))) (passed (e .before) (e .if1 .left))
+    let f = start (e .before) .fits in
+    let says = rw (toZ-ofZ (f .buddy-radius), toZ-ofZ (f .buddy-limit)) at (t .terms-of .ensures) in
+    window-ready (call (start (e .before))) (t .terms-of .result) (l .last .0) (l .last .1 .0) says (l .ensures) (window (start (e .before))) (passed (e .before) (e .if1 .left))
 
 same-length : tie.Need-same-length
 same-length c = search needs
@@ -72,7 +75,9 @@ returns-2 c =
     let t = n .before .before .before .before .before in
     let e = t .before .before .before .before in
     let l = t .before .load in
-    window-settles (call (start (e .before))) (t .terms-of .result) (l .last .0) (l .last .1 .0) (t .terms-of .ensures) (l .ensures) (window (start (e .before))) (passed (e .before) (e .if1 .left))
+    let f = start (e .before) .fits in
+    let says = rw (toZ-ofZ (f .buddy-radius), toZ-ofZ (f .buddy-limit)) at (t .terms-of .ensures) in
+    window-settles (call (start (e .before))) (t .terms-of .result) (l .last .0) (l .last .1 .0) says (l .ensures) (window (start (e .before))) (passed (e .before) (e .if1 .left))
     (tile (start (e .before) .args .grid .now) (start (e .before) .args .support .now)) (n .settled .ensures)
 
 pub sosnyavik-window-spec : {M : Type 1} → statement M

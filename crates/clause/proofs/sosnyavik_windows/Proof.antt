@@ -5,6 +5,7 @@ use native.Mathlib.Omega.{arith}
 use borrow.Author.Needs.{needs}
 use mathlib.Core.Path.{_≡_, refl}
 use lib.ListN.{length}
+use mir.Facts.{toZ-ofZ}
 use Rattle.lists.specs.Tab.{tab-tells}
 use Rattle.scheme.specs.Units.{Call, asking}
 use Rattle.scheme.specs.Refusals.{inOrder, Screen, windowsOf}
@@ -22,7 +23,7 @@ use Rattle.clause.proofs.sosnyavik_windows.Tie as tie
 abbrev call : tie.Start → Call
 call s =
     let a = s .args in
-    asking (a .nx) (a .ny) (a .guess .now) (eightColumns (a .x .now) (a .y .now) (a .value .now) (a .observed .now) (a .from .now) (a .until .now) (a .wind-u .now) (a .wind-v .now)) (a .count) (a .radius .now) (a .limit .now) (a .smooth) (a .mode) (a .rule) (a .time) (a .age)
+    asking (a .nx) (a .ny) (a .guess .now) (eightColumns (a .x .now) (a .y .now) (a .value .now) (a .observed .now) (a .from .now) (a .until .now) (a .wind-u .now) (a .wind-v .now)) (a .count) (a .radius .now) (a .limit .now) (a .smooth) (a .mode) (a .rule) (record { on = a .buddy; radius = a .buddy-radius; limit = a .buddy-limit }) (a .time) (a .age)
 
 abbrev screen : tie.Start → Screen
 screen s = let a = s .args in fourColumns (a .left .now) (a .right .now) (a .top .now) (a .bottom .now)
@@ -103,7 +104,8 @@ settled-requires c κs =
     let p = e .before in
     let s = start (first p) in
     let l = t .before .load in
-    screen-ready (call s) (t .terms-of .result) (l .last .0) (l .last .1 .0) (t .terms-of .ensures) (l .ensures) (screen s) (p .before .screen-of .result) (loaded (p .before) .1) (passed p (e .if2 .left))
+    let says = rw (toZ-ofZ (s .fits .buddy-radius), toZ-ofZ (s .fits .buddy-limit)) at (t .terms-of .ensures) in
+    screen-ready (call s) (t .terms-of .result) (l .last .0) (l .last .1 .0) says (l .ensures) (screen s) (p .before .screen-of .result) (loaded (p .before) .1) (passed p (e .if2 .left))
 
 same-length : tie.Need-same-length
 same-length c = search needs
@@ -119,7 +121,8 @@ returns-3 c =
     let p = e .before in
     let s = start (first p) in
     let l = t .before .load in
-    screen-settles (call s) (t .terms-of .result) (l .last .0) (l .last .1 .0) (t .terms-of .ensures) (l .ensures) (screen s) (p .before .screen-of .result) (loaded (p .before) .1) (passed p (e .if2 .left))
+    let says = rw (toZ-ofZ (s .fits .buddy-radius), toZ-ofZ (s .fits .buddy-limit)) at (t .terms-of .ensures) in
+    screen-settles (call s) (t .terms-of .result) (l .last .0) (l .last .1 .0) says (l .ensures) (screen s) (p .before .screen-of .result) (loaded (p .before) .1) (passed p (e .if2 .left))
     (tile (s .args .grid .now) (s .args .support .now)) (n .settled .ensures)
 
 pub sosnyavik-windows-spec : {M : Type 1} → statement M
