@@ -1,8 +1,8 @@
 -- A line for each refusal of each call with its place, each verdict, each kind of reading, and the edges of age, service, radius, size and line: what the
 -- theorems leave open is fixed here, by computation.
-use Prim.Native.Nat.{ℕ, _<_}
+use Prim.Native.Nat.{ℕ, _+_, _<_}
 use mathlib.Core.Path.{_≡_, refl}
-use mathlib.Core.Bool.{true, false}
+use mathlib.Core.Bool.{Bool, true, false}
 use mathlib.Core.List.{List, [], _∷_, _++_, flatten}
 use borrow.Author.Tests.{lt-ltb, le-ltb, eq-eqb}
 use native.Mathlib.Omega.{arith}
@@ -75,6 +75,13 @@ ruledBy rule c radius = asking 2 2 level c 2 radius at0 false roundMode rule noB
 
 abbrev planned : ℕ → (radius limit : List ℤ) → Call
 planned scans radius limit = asking 2 2 level (two good) scans radius limit false roundMode equationRule noBuddies 1000 60
+
+-- with that buddy check, in a plan of those radii on that first guess
+abbrev checked : (on : Bool) (radius limit : ℤ) (radii : List ℤ) → List ℤ → Call
+checked on radius limit radii z = asking 2 2 z (two good) 2 radii at0 false roundMode equationRule (record { on = on; radius = radius; limit = limit }) 1000 60
+
+abbrev checkedBy : (on : Bool) (radius limit : ℤ) → Call
+checkedBy on radius limit = checked on radius limit at64 level
 
 -- the whole window
 abbrev all : Window
@@ -169,6 +176,16 @@ pub record Refusals : Type 0 where
   pub negative-limit : EachRefuses (planned 2 at64 (pos 0 ∷ negsuc 0 ∷ [])) (refused 6 1)
   pub large-limit : EachRefuses (planned 2 at64 (pos 2000001 ∷ pos 0 ∷ [])) (refused 6 0)
   pub largest-limit : EachRefuses (planned 2 at64 (pos 2000000 ∷ pos 0 ∷ [])) accepted
+  -- and after the scans B and L, with place 6; off, neither is read
+  pub no-B : EachRefuses (checkedBy true (pos 0) (pos 0)) (refused 6 6)
+  pub least-B : EachRefuses (checkedBy true (pos 1) (pos 0)) accepted
+  pub most-B : EachRefuses (checkedBy true (pos 512) (pos 2000000)) accepted
+  pub past-B : EachRefuses (checkedBy true (pos 513) (pos 0)) (refused 6 6)
+  pub negative-L : EachRefuses (checkedBy true (pos 1) (negsuc 0)) (refused 6 6)
+  pub past-L : EachRefuses (checkedBy true (pos 1) (pos 2000001)) (refused 6 6)
+  pub off-unread : EachRefuses (checkedBy false (negsuc 0) (pos 2000001)) accepted
+  pub scan-before-check : EachRefuses (checked true (pos 0) (pos 0) (pos 64 ∷ pos 65 ∷ []) level) (refused 6 1)
+  pub check-before-guess : EachRefuses (checked true (pos 0) (pos 0) at64 (missingMark ∷ pos 0 ∷ pos 0 ∷ pos 0 ∷ [])) (refused 6 6)
   -- 7: the first guess, at its point
   pub high-guess : EachRefuses (shapedSo 2 2 (pos 0 ∷ pos 0 ∷ pos 1000001 ∷ pos 0 ∷ [])) (refused 7 2)
   pub low-guess : EachRefuses (shapedSo 2 2 (pos 0 ∷ pos 0 ∷ pos 0 ∷ negsuc 1000000 ∷ [])) (refused 7 3)
@@ -270,6 +287,15 @@ refusals =
       negative-limit = (refl, refl, refl, refl);
       large-limit = (refl, refl, refl, refl);
       largest-limit = (refl, refl, refl, refl);
+      no-B = (refl, refl, refl, refl);
+      least-B = (refl, refl, refl, refl);
+      most-B = (refl, refl, refl, refl);
+      past-B = (refl, refl, refl, refl);
+      negative-L = (refl, refl, refl, refl);
+      past-L = (refl, refl, refl, refl);
+      off-unread = (refl, refl, refl, refl);
+      scan-before-check = (refl, refl, refl, refl);
+      check-before-guess = (refl, refl, refl, refl);
       high-guess = (refl, refl, refl, refl);
       low-guess = (refl, refl, refl, refl);
       edge-guess = (refl, refl, refl, refl);
@@ -434,6 +460,11 @@ abbrev loneText : List ℕ → List ℕ
 loneText rule =
     opening ++ ascii "smooth=0\n" ++ rule ++ ascii "scans=1\nscan=73,64\nrow=640,640\nrow=640,640\nstations=1\nst=20,0,704,1000,0,open\n"
 
+-- three masts near the first point, the last of them warm, and those bytes where the line of the check stands
+abbrev courtyardText : List ℕ → List ℕ
+courtyardText check =
+    opening ++ ascii "smooth=0\nscans=1\nscan=40,64\n" ++ check ++ ascii "row=640,640\nrow=640,640\nstations=3\nst=0,0,640,1000,0,open\nst=10,0,640,1000,0,open\nst=0,10,680,1000,0,open\n"
+
 pub record Texts : Type 0 where
   -- 10: one byte more than 65,536, and no fewer
   pub longest : (text : List ℕ) → length text ≡ 65536 → answerText text ≡ inForm (requestLines (1, text))
@@ -459,8 +490,17 @@ pub record Texts : Type 0 where
   pub rule-before-smooth : answerText (opening ++ ascii "rule=1\nsmooth=0\n") ≡ ascii "refusal=9\nplace=3\n"
   pub rule-twice : answerText (opening ++ ascii "smooth=0\nrule=1\nrule=1\n") ≡ ascii "refusal=9\nplace=5\n"
   pub rule-after-scans : answerText (opening ++ ascii "smooth=0\nscans=1\nrule=1\n") ≡ ascii "refusal=9\nplace=5\n"
+  -- and a buddy check before the scans, among them, twice, after a row, of one number, or of one that is no i32
+  pub buddy-before-scans : answerText (opening ++ ascii "smooth=0\nbuddy=1,0\n") ≡ ascii "refusal=9\nplace=4\n"
+  pub buddy-among-scans : answerText (opening ++ ascii "smooth=0\nscans=2\nscan=1,0\nbuddy=1,0\n") ≡ ascii "refusal=9\nplace=6\n"
+  pub buddy-twice : answerText (opening ++ ascii "smooth=0\nscans=1\nscan=1,0\nbuddy=1,0\nbuddy=1,0\n") ≡ ascii "refusal=9\nplace=7\n"
+  pub buddy-after-a-row : answerText (opening ++ ascii "smooth=0\nscans=1\nscan=1,0\nrow=0,0\nbuddy=1,0\n") ≡ ascii "refusal=9\nplace=7\n"
+  pub buddy-of-one : answerText (opening ++ ascii "smooth=0\nscans=1\nscan=1,0\nbuddy=1\n") ≡ ascii "refusal=9\nplace=6\n"
+  pub buddy-past-i32 : answerText (opening ++ ascii "smooth=0\nscans=1\nscan=1,0\nbuddy=1,2147483648\n") ≡ ascii "refusal=9\nplace=6\n"
   -- 6, 7 and 8, once the whole text is in form
   pub no-radius : answerText (opening ++ ascii "smooth=0\nscans=1\nscan=0,0\n" ++ guessed ++ ascii "stations=0\n") ≡ ascii "refusal=6\nplace=0\n"
+  pub past-B : answerText (opening ++ ascii "smooth=0\nscans=1\nscan=1,0\nbuddy=513,0\n" ++ guessed ++ ascii "stations=0\n") ≡ ascii "refusal=6\nplace=6\n"
+  pub past-L : answerText (opening ++ ascii "smooth=0\nscans=1\nscan=1,0\nbuddy=1,2147483647\n" ++ guessed ++ ascii "stations=0\n") ≡ ascii "refusal=6\nplace=6\n"
   pub high-guess : answerText (opening ++ ascii "smooth=0\nscans=1\nscan=1,0\nrow=0,0\nrow=0,1000001\nstations=0\n") ≡ ascii "refusal=7\nplace=3\n"
   pub no-service : answerText (opening ++ ascii "smooth=0\nscans=1\nscan=1,0\n" ++ guessed ++ ascii "stations=1\nst=0,0,0,0,1,1\n") ≡ ascii "refusal=8\nplace=0\n"
   -- no stations: the last line is `ver=`
@@ -472,6 +512,9 @@ pub record Texts : Type 0 where
   pub rule-1 : answerText (loneText (ascii "rule=1\n")) ≡ ascii "refusal=0\nplace=0\nrow=704,704\nrow=704,640\nsup=1,1\nsup=1,0\nver=0\n"
   pub rule-2 : answerText (loneText (ascii "rule=2\n")) ≡ ascii "refusal=0\nplace=0\nrow=695,670\nrow=645,640\nsup=1,1\nsup=1,0\nver=0\n"
   pub rule-left-out : answerText (loneText []) ≡ answerText (loneText (ascii "rule=1\n"))
+  -- three masts, of which the check sets one aside; and with the line left out
+  pub buddies-on : answerText (courtyardText (ascii "buddy=30,39\n")) ≡ ascii "refusal=0\nplace=0\nrow=640,640\nrow=640,640\nsup=1,0\nsup=0,0\nver=0,0,21\n"
+  pub buddies-off : answerText (courtyardText []) ≡ ascii "refusal=0\nplace=0\nrow=653,640\nrow=640,640\nsup=1,0\nsup=0,0\nver=0,0,0\n"
 
 texts : Texts
 unfolding answerText replyText requestLines lines rows flatten nothingAfter gridLine entryLine rowLine stationLine number observation end word digits positive natural between count unsigned negative signed values fromFive inOrder refusedWith refusedAt first firstFrom orNext badScans badScan rising badBuddies badGuess badStation badWind isNoWind isMissing analysisText firstTwo gridLines keyed cells integer decimal spelled analysis stored tab afterWithin scan start rowsJudged allJudged each eachFrom besideOthers heard says isOdd afterBuddies B L sumsAt corrected guess fieldOf R E beforeScans firstThatFits outOfService serves offGrid nearAxis tested afterTest difference valueAt place sumAt cell corners rounded total share gift weightAt blows weight divisor correction backedBy
@@ -498,7 +541,15 @@ texts =
       rule-before-smooth = refl;
       rule-twice = refl;
       rule-after-scans = refl;
+      buddy-before-scans = refl;
+      buddy-among-scans = refl;
+      buddy-twice = refl;
+      buddy-after-a-row = refl;
+      buddy-of-one = refl;
+      buddy-past-i32 = refl;
       no-radius = refl;
+      past-B = refl;
+      past-L = refl;
       high-guess = refl;
       no-service = refl;
       no-stations = refl;
@@ -506,6 +557,8 @@ texts =
       rule-1 = refl;
       rule-2 = refl;
       rule-left-out = refl;
+      buddies-on = refl;
+      buddies-off = refl;
     }
 
 -- ---- the border of a smoothed grid of three by three keeps its values
@@ -669,6 +722,66 @@ loneStations =
       along-the-wind = refl;
     }
 
+-- ---- clusters of buddies
+
+-- a grid of two by two, level at 640, one scan of radius 96 and limit 64, that B and L
+abbrev clustered : (rule radius limit : ℕ) → List Station → Request
+clustered rule radius limit masts =
+    asking 2 2 (tab 4 (λ p. pos 640)) masts 1 (pos 96 ∷ []) (pos 64 ∷ []) false roundMode rule (record { on = true; radius = pos radius; limit = pos limit }) 1000 60
+
+-- a mast there, whose D is so much
+abbrev odd : (x y : ℤ) (D : ℕ) → Station
+odd x y D = mast x y (pos (640 + D)) 1000 0 noEnd
+
+-- two that agree, and one whose D is 40 more
+abbrev threeWith : Station → List Station
+threeWith third = odd (pos 0) (pos 0) 0 ∷ odd (pos 10) (pos 0) 0 ∷ third ∷ []
+
+pub record Clusters : Type 0 where
+  -- n·L met exactly, exceeded by the least, and by so much that the two are set aside with the third
+  pub met : analysis (clustered equationRule 30 40 (threeWith (odd (pos 0) (pos 10) 40))) .verdict ≡ 0 ∷ 0 ∷ 0 ∷ []
+  pub by-one-more : analysis (clustered equationRule 30 39 (threeWith (odd (pos 0) (pos 10) 40))) .verdict ≡ 0 ∷ 0 ∷ 21 ∷ []
+  pub all-three : analysis (clustered equationRule 30 19 (threeWith (odd (pos 0) (pos 10) 40))) .verdict ≡ 21 ∷ 21 ∷ 21 ∷ []
+  -- one neighbour is not enough
+  pub one-neighbour : analysis (clustered equationRule 30 0 (odd (pos 0) (pos 0) 0 ∷ odd (pos 10) (pos 0) 60 ∷ [])) .verdict ≡ 0 ∷ 0 ∷ []
+  -- a third at distance B is none, and one unit nearer is
+  pub at-B : analysis (clustered equationRule 100 0 (odd (pos 0) (pos 0) 0 ∷ odd (pos 0) (pos 0) 0 ∷ odd (pos 60) (pos 80) 40 ∷ [])) .verdict ≡ 0 ∷ 0 ∷ 0 ∷ []
+  pub nearer : analysis (clustered equationRule 100 0 (odd (pos 0) (pos 0) 0 ∷ odd (pos 0) (pos 0) 0 ∷ odd (pos 60) (pos 79) 40 ∷ [])) .verdict ≡ 21 ∷ 21 ∷ 21 ∷ []
+  -- all at one place, with B = 1
+  pub one-place : analysis (clustered equationRule 1 20 (odd (pos 5) (pos 5) 0 ∷ odd (pos 5) (pos 5) 40 ∷ odd (pos 5) (pos 5) 0 ∷ [])) .verdict ≡ 0 ∷ 21 ∷ 0 ∷ []
+  -- one that the E test has rejected in this scan, or that is dead, is no neighbour
+  pub beside-one-rejected : analysis (clustered equationRule 30 0 (threeWith (odd (pos 0) (pos 10) 65))) .verdict ≡ 0 ∷ 0 ∷ 11 ∷ []
+  pub beside-one-dead : analysis (clustered equationRule 30 0 (odd (pos 0) (pos 0) 0 ∷ odd (pos 10) (pos 0) 60 ∷ mast (pos 0) (pos 10) missingMark 1000 0 noEnd ∷ [])) .verdict
+      ≡ 0 ∷ 0 ∷ 1 ∷ []
+  -- posts by their true places: 40 apart, with one nearest place on the grid
+  pub posts-apart : analysis (clustered equationRule 30 0 (odd (negsuc 39) (pos 0) 0 ∷ odd (pos 0) (pos 0) 40 ∷ odd (pos 0) (pos 0) 40 ∷ [])) .verdict ≡ 0 ∷ 0 ∷ 0 ∷ []
+  pub posts-near : analysis (clustered equationRule 41 20 (odd (negsuc 39) (pos 0) 0 ∷ odd (pos 0) (pos 0) 40 ∷ odd (pos 0) (pos 0) 40 ∷ [])) .verdict ≡ 21 ∷ 0 ∷ 0 ∷ []
+  -- all are judged against the same survivors: no station's verdict changes another's
+  pub two-odd-ones : analysis (clustered equationRule 30 24 (odd (pos 0) (pos 0) 0 ∷ odd (pos 0) (pos 0) 0 ∷ odd (pos 0) (pos 0) 0 ∷ odd (pos 0) (pos 0) 40 ∷ odd (pos 0) (pos 0) 40 ∷ [])) .verdict
+      ≡ 0 ∷ 0 ∷ 0 ∷ 21 ∷ 21 ∷ []
+  -- who is set aside has no weight: the grid of the two that stay, and under rule 2 the other is a lone one
+  pub without-the-third : analysis (clustered equationRule 30 39 (threeWith (odd (pos 0) (pos 10) 40)))
+      ≡ levelled (pos 640 ∷ pos 640 ∷ pos 640 ∷ pos 640 ∷ []) (1 ∷ 1 ∷ 1 ∷ 1 ∷ []) (0 ∷ 0 ∷ 21 ∷ [])
+
+clusters : Clusters
+unfolding analysis stored tab afterWithin scan start rowsJudged allJudged each eachFrom besideOthers heard says isOdd afterBuddies B L sumsAt corrected guess fieldOf R E beforeScans firstThatFits isMissing outOfService serves offGrid nearAxis tested afterTest difference valueAt place sumAt cell corners rounded total share gift weightAt blows weight divisor correction backedBy
+clusters =
+    record {
+      met = refl;
+      by-one-more = refl;
+      all-three = refl;
+      one-neighbour = refl;
+      at-B = refl;
+      nearer = refl;
+      one-place = refl;
+      beside-one-rejected = refl;
+      beside-one-dead = refl;
+      posts-apart = refl;
+      posts-near = refl;
+      two-odd-ones = refl;
+      without-the-third = refl;
+    }
+
 -- ---- the numbers that the names of Most stand for
 
 pub record Numbers : Type 0 where
@@ -690,6 +803,7 @@ pub record Cases : Type 0 where
   pub weighed-so : Rims
   pub streaked-so : Streaks
   pub alone-so : LoneStations
+  pub set-aside-so : Clusters
   pub numbers : Numbers
 
 pub cases : Cases
@@ -704,5 +818,6 @@ cases =
       weighed-so = rims;
       streaked-so = streaks;
       alone-so = loneStations;
+      set-aside-so = clusters;
       numbers = record { most-field = refl; most-difference = refl; most-weights = refl; most-pulls = refl; most-reach = refl };
     }

@@ -1,12 +1,12 @@
 -- The theorems that docs/PROMISES.md names, each with its statement over the definitions, and its proof cited: a theorem that says less than it
 -- says here is refused. Notions of the proved files that a statement uses are written out where they are short.
-use Prim.Native.Nat.{ℕ, suc, _+_, _-_, _*_, _/_, _%_, _^_, _≤_, _<_}
-use mathlib.Core.Path.{_≡_}
+use Prim.Native.Nat.{ℕ, zero, suc, _+_, _-_, _*_, _/_, _%_, _^_, _≤_, _<_}
+use mathlib.Core.Path.{_≡_, refl, _∙_}
 use mathlib.Core.Logic.{_⊎_, _↔_}
 use mathlib.Core.Bool.{Bool, true, false, cond, _&&_}
 use mathlib.Core.List.{List, [], _∷_, _++_, map}
-use lib.Dec.{eqb}
-use lib.ListN.{length, getD}
+use lib.Dec.{leb, ltb, eqb}
+use lib.ListN.{length, getD, set}
 use lib.IntN.{ℤ, pos, negℤ, natAbs, _+ℤ_, _-ℤ_, _*ℤ_}
 use lib.Signed.{leZ}
 use lib.Ieee.{Float}
@@ -14,23 +14,26 @@ use lib.Ieee.Exact.{HasValue}
 use mir.Syntax.{w32}
 use mir.Val.{SFits}
 use Rattle.lists.specs.Tab.{tab}
-use Rattle.lists.specs.First.{firstIn}
+use Rattle.lists.specs.First.{first, firstIn}
 use Rattle.lists.specs.Members.{All, Some, some-also}
 use Rattle.lists.specs.Keep.{keep}
-use Rattle.lists.specs.Parted.{rank}
-use Rattle.lists.specs.Sums.{upTo}
+use Rattle.lists.specs.Parted.{rank, each}
+use Rattle.lists.specs.Each.{without}
+use Rattle.lists.specs.Sums.{total, upTo}
 use Rattle.scheme.specs.declared.Reading.{Reading}
 use Rattle.scheme.specs.declared.Summary.{Summary}
-use Rattle.scheme.specs.Units.{isMissing, stored, fieldOf, step, Wind, noWind, isNoWind, Station, mostBeyond, Plan, R, E, B, L, Request, guess, Call, asked, withStations, asking}
-use Rattle.scheme.specs.Refusals.{Refusal, accepted, refused, numberOf, placeOf, asOne, inOrder, refusedAt, badShape, Window, badWindow, Screen, windowAt, windowOn, windowsOf, badScreen, pointsOf, pointsOfAll, fromFive, analysisRefusal, windowRefusal, screenRefusal}
+use Rattle.scheme.specs.Units.{isMissing, stored, fieldOf, step, Wind, noWind, isNoWind, Station, mostBeyond, Buddies, Plan, R, E, B, L, Request, guess, Call, asked, withStations, asking}
+use Rattle.scheme.specs.Refusals.{Refusal, accepted, refused, numberOf, placeOf, asOne, inOrder, refusedIf, refusedAt, badShape, badScans, badScan, badGuess, badStation, Window, badWindow, Screen, windowAt, windowOn, windowsOf, badScreen, pointsOf, pointsOfAll, fromFive, analysisRefusal, windowRefusal, screenRefusal}
 use Rattle.scheme.specs.Verdicts.{serves, onGrid, offGrid, isAccepted, beforeScans}
 use Rattle.scheme.specs.Rounding.{rounded}
 use Rattle.scheme.specs.Value.{place, sumAt, valueAt}
 use Rattle.scheme.specs.Difference.{Row, tested}
 use Rattle.scheme.specs.Weight.{scale, weight, square, inside, weightAt}
-use Rattle.scheme.specs.Correction.{Sums, nothing, gift, share, correction}
-use Rattle.scheme.specs.Scan.{State, differences, rowsJudged, sumsAt, corrected, scan, afterWithin, after, atEnd, Analysis, analysis}
-use Rattle.scheme.specs.Reach.{reach, cutOf, onWindow, counted, cut, Tile, windowOf, wholeAt}
+use Rattle.scheme.specs.Buddies.{silence, says, heard, isOdd, besideOthers}
+use Rattle.scheme.specs.Correction.{Sums, nothing, plus, gift, share, correction, backedBy}
+use Rattle.scheme.specs.Smoothing.{smoothed}
+use Rattle.scheme.specs.Scan.{State, start, differences, allTested, allJudged, rowsJudged, sumsAt, corrected, scan, afterWithin, after, atEnd, Analysis, analysis}
+use Rattle.scheme.specs.Reach.{steps, reach, cutOf, onWindow, counted, cut, Tile, windowOf, wholeAt}
 use Rattle.scheme.specs.Readings.{double, positiveZero, reading, valueOf, lowest, highest, summary}
 use Rattle.scheme.specs.Text.{requestLines, analysisText}
 use Rattle.scheme.specs.Text.Reader.{reads}
@@ -54,6 +57,7 @@ use Rattle.scheme.specs.Judging.{noRow}
 use Rattle.scheme.specs.Posts as posts
 use Rattle.scheme.specs.Winds as winds
 use Rattle.scheme.specs.Lone as lones
+use Rattle.scheme.specs.BuddyCheck as buddies
 use Rattle.scheme.specs.Entries as entries
 use Rattle.scheme.specs.Laws.{Scheme}
 use Rattle.scheme.specs.Near.{Side}
@@ -436,6 +440,99 @@ pub where-no-station-is-lone-the-rules-answer-alike : (q : Request) (rule : ℕ)
     → ((m i j : ℕ) → m < q .plan .scans → i < q .nx → j < q .ny → eqb (sumsAt q m (after q m) i j .inside) 1 ≡ false)
     → analysis (withRule rule q) ≡ analysis q
 where-no-station-is-lone-the-rules-answer-alike = lones.where-no-station-is-lone-the-rules-answer-alike
+
+-- ---- the buddy check
+
+-- judged at once: the rows after the stations of a list have been judged one by one, each against the same survivors, its last first
+module _ (p : Plan) (m : ℕ) (D : Station → ℤ) (rows : List Row) where
+  unfoldable pub oneByOne : List ℕ → List Row
+  oneByOne [] = allTested p m D rows
+  oneByOne (n ∷ ns) =
+      set (oneByOne ns) n (besideOthers (m + 1) (B p) (L p) D (getD (allTested p m D rows) n noRow) (without n (allTested p m D rows)))
+
+  same-one-by-one : (ns : List ℕ) → oneByOne ns ≡ buddies.oneByOne p m D rows ns
+  unfolding oneByOne buddies.oneByOne
+  same-one-by-one [] = refl
+  same-one-by-one (n ∷ ns) = rw (same-one-by-one ns)
+
+  -- in whatever order all are judged, it comes to the same
+  pub judged-at-once : (ns : List ℕ) → ((k : ℕ) → k < length rows → Some (λ n. n ≡ k) ns) → oneByOne ns ≡ allJudged p m D rows
+  judged-at-once ns all = same-one-by-one ns ∙ buddies.judged-at-once p m D rows ns all
+
+-- a scan and a run as the landing before had them, by the E test alone
+unfoldable pub scanBefore : Request → (m : ℕ) → State → State
+scanBefore q m found =
+    let D = differences q found in
+    let rows = allTested (q .plan) m D (found .rows) in
+    let at : ℕ → ℕ → Sums = λ i j. total nothing plus (share (q .plan .mode) (R (q .plan) m) D i j) rows in
+    let z : ℕ → ℕ → ℤ = λ i j. found .field i j +ℤ correction (q .plan .rule) (at i j) in
+    record { field = cond (q .plan .smooth) (smoothed (q .nx) (q .ny) z) z; support = λ i j. backedBy m (at i j) (found .support i j); rows = rows }
+
+unfoldable pub before : Request → ℕ → State
+before q zero = start mostBeyond q
+before q (suc m) = scanBefore q m (before q m)
+
+same-before : (q : Request) (m : ℕ) → buddies.before q m ≡ before q m
+unfolding before buddies.before scanBefore buddies.scanBefore
+same-before q zero = refl
+same-before q (suc m) = rw (same-before q m)
+
+-- with the check off every answer is that of the landing before: of the analysis, of a window, refused, and how far a window is widened
+module _ (q : Request) (off : q .plan .buddies .on ≡ false) where
+  pub off-analyses-as-before : analysis q
+      ≡ (let s = before q (q .plan .scans) in record { grid = stored (q .nx) (q .ny) (s .field); support = stored (q .nx) (q .ny) (s .support); verdict = map (λ r. r .verdict) (s .rows) })
+  off-analyses-as-before = rw (← same-before q (q .plan .scans)) (buddies.off-analyses-as-before q off)
+
+  pub off-answers-windows-as-before : (w : Window) → wholeAt q w
+      ≡ (let s = before q (q .plan .scans) in record { grid = windowOf w (s .field); support = windowOf w (s .support) })
+  off-answers-windows-as-before w = rw (← same-before q (q .plan .scans)) (buddies.off-answers-windows-as-before q off w)
+
+  pub off-refuses-as-before : inOrder (fromFive q)
+      ≡ inOrder (refusedIf 5 (badScans (q .plan)) ∷ refusedAt 6 (first (q .plan .scans) (badScan (q .plan))) ∷ refusedAt 7 (firstIn badGuess (q .firstGuess)) ∷ refusedAt 8 (firstIn badStation (q .stations)) ∷ [])
+  off-refuses-as-before = buddies.off-refuses-as-before q off
+
+  pub off-reaches-as-before : (m : ℕ) → steps (q .plan) m ≡ (R (q .plan) m + (step - 1)) / step + cond (q .plan .smooth) 1 0
+  off-reaches-as-before = buddies.off-reaches-as-before q off
+
+-- and neither B nor L is read
+pub off-neither-is-read : (q : Request) → q .plan .buddies .on ≡ false → (b : Buddies) → b .on ≡ false
+    → analysis (asking (q .nx) (q .ny) (q .firstGuess) (q .stations) (q .plan .scans) (q .plan .radius) (q .plan .limit) (q .plan .smooth) (q .plan .mode) (q .plan .rule) b (q .T) (q .A)) ≡ analysis q
+off-neither-is-read = buddies.off-neither-is-read
+
+-- row n and the others, as the E test of scan number m + 1 leaves them
+abbrev testedAfter : Request → (m n : ℕ) → Row
+testedAfter q m n = tested (m + 1) (E (q .plan) m) (differences q (after q m)) (rowAfter q m n)
+
+abbrev othersOf : Request → (m n : ℕ) → List Row
+othersOf q m n = without n (allTested (q .plan) m (differences q (after q m)) (after q m .rows))
+
+-- a survivor is set aside exactly if it has two neighbours at least, n of them, and n·D differs from their sum by more than n·L
+pub set-aside-exactly-when-odd : (q : Request) (m n : ℕ) → (let D = differences q (after q m) in let s = rowAfter q m n .station in let h = heard (B (q .plan)) D s (othersOf q m n) in
+    isAccepted (testedAfter q m n .verdict) ≡ true
+    → rowAfter q (suc m) n .verdict ≡ cond (leb 2 (h .count) && ltb (h .count * L (q .plan)) (natAbs (pos (h .count) *ℤ D s -ℤ h .sum))) (20 + (m + 1)) 0)
+unfolding isOdd
+set-aside-exactly-when-odd = buddies.set-aside-exactly-when-odd
+
+-- with fewer than two it is never set aside: the E test alone judges it
+pub fewer-than-two-are-left-to-the-test : (q : Request) (m n : ℕ) → heard (B (q .plan)) (differences q (after q m)) (rowAfter q m n .station) (othersOf q m n) .count < 2
+    → rowAfter q (suc m) n ≡ testedAfter q m n
+fewer-than-two-are-left-to-the-test = buddies.fewer-than-two-are-left-to-the-test
+
+-- who is set aside stays so and has no weight, in that scan and later, as every station that is rejected; and is no neighbour in later ones
+pub set-aside-is-no-neighbour : (q : Request) (k n t : ℕ) → isAccepted (rowAfter q (suc k) n .verdict) ≡ false → (radius scan limit : ℕ) (D : Station → ℤ) (s : Station)
+    → says radius D s (tested scan limit D (rowAfter q (suc k + t) n)) ≡ silence
+set-aside-is-no-neighbour = buddies.set-aside-is-no-neighbour
+
+-- two survivors that agree, alone with a third, each within B of the others: the third is set aside if it differs by more than L, and the two if by more than 2L
+module _ (scan radius limit : ℕ) (D : Station → ℤ) (a b c : Row) where
+  abbrev IsNear : Row → Row → Type 0
+  IsNear r o = (isAccepted (o .verdict) ≡ true) × (inside (radius * radius) (o .station .x -ℤ r .station .x) (o .station .y -ℤ r .station .y) ≡ true)
+
+  pub two-that-agree-and-a-third : D (a .station) ≡ D (b .station) → IsNear a b → IsNear a c → IsNear b a → IsNear b c → IsNear c a → IsNear c b
+      → (let apart = natAbs (D (a .station) -ℤ D (c .station)) in
+      map (λ r. r .verdict) (each (besideOthers scan radius limit D) (a ∷ b ∷ c ∷ []))
+      ≡ cond (ltb (2 * limit) apart) (20 + scan) 0 ∷ cond (ltb (2 * limit) apart) (20 + scan) 0 ∷ cond (ltb limit apart) (20 + scan) 0 ∷ [])
+  two-that-agree-and-a-third = buddies.two-that-agree-and-a-third scan radius limit D a b c
 
 pub gift-far : (mode radius : ℕ) (wind : Wind) (D dx dy : ℤ) → (radius ≤ natAbs dx) ⊎ (radius ≤ natAbs dy)
     → gift mode (radius * radius) wind D dx dy ≡ nothing
