@@ -102,7 +102,7 @@ pub fn of_screen_lengths(
     four_and_five(l)
 }
 
-// Rows 6 to 8: the plan's entries, the first guess, the stations. 0 if no test refuses.
+// Rows 6 to 8: the plan's entries and its buddy check, the first guess, the stations. 0 if no test refuses.
 pub fn of_request(
     t: request::Terms,
     guess: &[i32],
@@ -115,6 +115,9 @@ pub fn of_request(
     let m = refusal_checks::first_bad_scan(t);
     if m < t.scans {
         return coded(6, m);
+    }
+    if refusal_checks::buddies_bad(t) {
+        return coded(6, request::MOST_SCANS);
     }
     let k = refusal_checks::first_bad_guess(guess, t.nx, t.ny);
     if k < guess.len() {

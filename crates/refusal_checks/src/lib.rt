@@ -1,4 +1,4 @@
-// Rows 6 to 8 of the refusal table (documents 01 and 02): the first bad entry of a plan, value of a first guess, row of the station list.
+// Rows 6 to 8 of the refusal table (documents 01 and 02): the first bad entry of a plan, its buddy check, the first bad value of a first guess, row of the station list.
 ghost use mathlib.Core.Path.{_≡_};
 ghost use mathlib.Core.Bool.{not, _&&_};
 ghost use Prim.Native.Nat.{_≤_, _<_};
@@ -6,7 +6,7 @@ ghost use lib.ListN.{length};
 ghost use Rattle.lists.specs.Tab.{tab};
 ghost use Rattle.lists.specs.First.{first, firstIn, ended};
 ghost use Rattle.scheme.specs.Units.{amongℤ, within, mostValue, isMissing, mostWind, isNoWind, mostStations, mostScans};
-ghost use Rattle.scheme.specs.Refusals.{rising, badScan, badGuess, badWind, badStation};
+ghost use Rattle.scheme.specs.Refusals.{rising, badScan, badBuddies, badGuess, badWind, badStation};
 ghost use Rattle.scheme.specs.Accepted.{Shaped};
 ghost use Rattle.request.specs.Tables.{stationOf, stationIn, planIn};
 
@@ -55,6 +55,13 @@ fn scan_bad(t: request::Terms, m: usize) -> bool
     ensures { λ r. ⌜ r ≡ badScan (planIn t) m ⌝ }
 {
     outside(1, 1024, t.radius[m]) | rises(t, m) | outside(0, 2000000, t.limit[m])
+}
+
+// The buddy check, if it is on: B or L out of range.
+pub fn buddies_bad(t: request::Terms) -> bool
+    ensures { λ r. ⌜ r ≡ badBuddies (planIn t) ⌝ }
+{
+    t.buddy & (outside(1, 512, t.buddy_radius) | outside(0, 2000000, t.buddy_limit))
 }
 
 // A station's value out of range. The mark is none.

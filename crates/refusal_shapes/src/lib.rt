@@ -5,7 +5,7 @@ ghost use mathlib.Core.Bool.{not, _||_, false};
 ghost use lib.Dec.{eqb};
 ghost use Prim.Native.Nat.{_≤_};
 ghost use Rattle.lists.specs.First.{firstIn, ended};
-ghost use Rattle.scheme.specs.Units.{mostSide, asking};
+ghost use Rattle.scheme.specs.Units.{mostSide, noBuddies, asking};
 ghost use Rattle.scheme.specs.Promises.{eightColumns};
 ghost use Rattle.scheme.specs.Refusals.{badShape, badWindow, mostWindows, pointsOfAll, badLengths};
 ghost use Rattle.request.specs.Tables.{windowIn, windowsIn, OnScreen};
@@ -50,7 +50,7 @@ pub fn lengths_of(
     mode: u32,
     rule: u32,
 ) -> Lengths
-    ensures { λ r. ⌜ r ≡ lengthsOf (asking nx ny (now (guess .entry)) (eightColumns (now (x .entry)) (now (y .entry)) (now (value .entry)) (now (observed .entry)) (now (from .entry)) (now (until .entry)) (now («wind_u» .entry)) (now («wind_v» .entry))) scans (now (radius .entry)) (now (limit .entry)) false mode rule 0 0) ⌝ }
+    ensures { λ r. ⌜ r ≡ lengthsOf (asking nx ny (now (guess .entry)) (eightColumns (now (x .entry)) (now (y .entry)) (now (value .entry)) (now (observed .entry)) (now (from .entry)) (now (until .entry)) (now («wind_u» .entry)) (now («wind_v» .entry))) scans (now (radius .entry)) (now (limit .entry)) false mode rule noBuddies 0 0) ⌝ }
 {
     Lengths {
         nx: nx as usize,

@@ -49,6 +49,9 @@ pub const LISTINGS: u32 = 2;
 // The most windows of a screen, and the place of a refusal for its columns.
 pub const MOST_WINDOWS: usize = 16;
 
+// The most scans of a plan, and the place of a refusal for its buddy check.
+pub const MOST_SCANS: usize = 6;
+
 // All of a request but its first guess and its stations' rows. Entries of radius and limit past the count of scans are not read.
 pub struct Terms {
     pub nx: usize,

@@ -112,6 +112,9 @@ cutTerms t wide high stations =
       smooth = t .smooth;
       mode = t .mode;
       rule = t .rule;
+      buddy = t .buddy;
+      «buddy_radius» = t .«buddy_radius»;
+      «buddy_limit» = t .«buddy_limit»;
       time = t .time;
       age = t .age;
     }

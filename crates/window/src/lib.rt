@@ -26,6 +26,9 @@ fn cut_terms(t: request::Terms, wide: usize, high: usize, stations: usize) -> re
         smooth: t.smooth,
         mode: t.mode,
         rule: t.rule,
+        buddy: t.buddy,
+        buddy_radius: t.buddy_radius,
+        buddy_limit: t.buddy_limit,
         time: t.time,
         age: t.age,
     }

@@ -7,7 +7,7 @@ use mathlib.Core.List.{List, [], _∷_}
 use lib.ListN.{getD}
 use lib.IntN.{ℤ, pos, natAbs, _-ℤ_}
 use Rattle.lists.specs.Sums.{upTo, upTo-next}
-use Rattle.scheme.specs.Units.{step, mostPosition, Plan, R}
+use Rattle.scheme.specs.Units.{step, mostPosition, Plan, R, B}
 use Rattle.scheme.specs.Refusals.{Span, Window}
 use Rattle.scheme.specs.Reach.{steps, reach, onSpan}
 
@@ -23,7 +23,7 @@ module _ (p : Plan) where
   reach-none = refl
 
   -- one scan more
-  pub reach-next : (m t s : ℕ) → t ≡ upTo 0 _+_ m (steps p) → s ≡ (R p m + (step - 1)) / step + cond (p .smooth) 1 0
+  pub reach-next : (m t s : ℕ) → t ≡ upTo 0 _+_ m (steps p) → s ≡ (R p m + B p + (step - 1)) / step + cond (p .smooth) 1 0
       → t + s ≡ upTo 0 _+_ (m + 1) (steps p)
   unfolding steps
   reach-next m t s et es = rw (et, es) (sym (upTo-next 0 _+_ m _))

@@ -1,10 +1,10 @@
 // The reach of a window, the cut, and a station's row on it (document 01, "Reach of a window"; document 02,
-// request 1).
+// requests 1 and 7).
 ghost use mathlib.Core.Path.{_≡_};
 ghost use mathlib.Core.Bool.{cond};
 ghost use Prim.Native.Nat.{_+_, _-_, _*_, _/_, _≤_, min};
 ghost use lib.IntN.{pos, natAbs, _-ℤ_};
-ghost use Rattle.scheme.specs.Units.{mostSide, step, mostPosition, mostRadius};
+ghost use Rattle.scheme.specs.Units.{mostSide, step, mostPosition, mostRadius, mostBuddyRadius, B};
 ghost use Rattle.scheme.specs.Reach.{reach, widened, onSpan};
 ghost use Rattle.scheme.specs.Most.{mostReach};
 ghost use Rattle.scheme.specs.Accepted.{Shaped, Planned, OnGrid};
@@ -13,12 +13,20 @@ ghost use Rattle.window_spans.specs.Spans.{fromTo, rowOn, Placed, counte
 
 // ---- the reach, and the cut
 
-// What one scan adds to the reach: R/64 rounded up, plus 1 if smoothing is on.
-fn steps(radius: u32, smooth: bool) -> usize
-    requires { ⌜ radius ≤ mostRadius ⌝ }
-    ensures { λ r. ⌜ r ≡ (radius + (step - 1)) / step + cond smooth 1 0 ⌝ }
+// B, which is 0 where the buddy check is off.
+fn near_of(t: request::Terms) -> u32
+    requires { ⌜ Planned (planIn t) ⌝ }
+    ensures { λ r. ⌜ r ≡ B (planIn t) ⌝ }
 {
-    let rounded_up = ((radius + 63) / 64) as usize;
+    if t.buddy { t.buddy_radius as u32 } else { 0 }
+}
+
+// What one scan adds to the reach: R/64 rounded up, plus 1 if smoothing is on. R + B stands for R.
+fn steps(radius: u32, near: u32, smooth: bool) -> usize
+    requires { ⌜ (radius ≤ mostRadius) × (near ≤ mostBuddyRadius) ⌝ }
+    ensures { λ r. ⌜ r ≡ (radius + near + (step - 1)) / step + cond smooth 1 0 ⌝ }
+{
+    let rounded_up = ((radius + near + 63) / 64) as usize;
     if smooth { rounded_up + 1 } else { rounded_up }
 }
 
@@ -27,10 +35,11 @@ pub fn reach(t: request::Terms) -> usize
     requires { ⌜ Planned (planIn t) ⌝ }
     ensures { λ r. ⌜ (r ≤ mostReach) × (r ≡ reach (planIn t)) ⌝ }
 {
+    let near = near_of(t);
     let mut total: usize = 0;
     let mut m: usize = 0;
     while m < t.scans {
-        total += steps(t.radius[m] as u32, t.smooth);
+        total += steps(t.radius[m] as u32, near, t.smooth);
         m += 1;
     }
     total
