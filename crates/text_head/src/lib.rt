@@ -1,7 +1,7 @@
 // The head of the request text (document 01): the lines before the scans; and the line of the buddy check (document 02, 7), which stands after
 // them.
 ghost use mathlib.Core.Path.{_≡_};
-ghost use Prim.Native.Nat.{_+_, _≤_};
+ghost use Prim.Native.Nat.{_+_, _≤_, _<_, _^_};
 ghost use lib.ListN.{drop};
 ghost use Rattle.scheme.specs.Units.{noBuddies};
 ghost use Rattle.scheme.specs.Text.Reader.{reads};
@@ -124,7 +124,7 @@ pub fn head_lines(s: &[u8]) -> HeadRead
 
 // The line of the buddy check, which may be left out: then the check is off.
 pub fn buddy_line(s: &[u8], at: usize, line: u32) -> Buddy
-    requires { ⌜ line ≤ 13 ⌝ }
+    requires { ⌜ line + 1 < 2 ^ 32 ⌝ }
     ensures { λ r. ⌜ (lineOr buddyLine noBuddies (line, drop at (now (s .entry))) ≡ reads (buddiesRead r) (r .line, drop (r .next) (now (s .entry)))) × (r .line ≤ line + 1) ⌝ }
 {
     let EntryRead::Value(radius, limit, next) = text_lines::entry_line(s, at, b"buddy=") else {
