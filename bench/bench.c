@@ -1,7 +1,8 @@
 /*
  * bench.c: the proved analysis beside the plain one, its window query beside itself, and a screen of windows beside
  * both, on made-up evenings that are the same in every run. A CASE is an evening by its letter; with a w after that
- * every station has a wind, and the weights go along it; with a 2 at the end lone stations go by the listings' rule.
+ * every station has a wind, and the weights go along it; with a 2 then lone stations go by the listings' rule; with a b
+ * at the end stations are held to their buddies.
  *
  *   bench CASE ours|plain REPEAT   call one of them, for a counter of instructions
  *   bench CASE both REPEAT         compare the answers, then print the least wall time of each
@@ -14,6 +15,7 @@
  *   bench CASE tests SCREEN        the same for each window but the first, with a request that the last of its tests
  *                                  refuses
  *   bench CASE cuts SCREEN         print the points of the windows' cuts together
+ *   bench CASE pairs               print the pairs of stations that are nearer along y than buddies are
  *   bench CASE stack               print the bytes of stack that the analysis touches, and those that it may
  *   bench CASE stack SIDE          the same of a window query
  *   bench CASE stack SCREEN        the same of a screen
@@ -50,25 +52,34 @@ struct evening {
     uint32_t scans;
     int32_t radius[MOST_SCANS], limit[MOST_SCANS];
     bool smooth;
-    enum { ON_GRID, POSTS } where; /* all its stations are */
+    enum { ON_GRID, POSTS } where;     /* all its stations are */
+    int32_t buddy_radius, buddy_limit; /* where the case has buddies */
 };
 
+/* A plan of six scans that are alike. */
+#define SIX(of)                                                                                                        \
+    { of, of, of, of, of, of }
+
 static const struct evening EVENINGS[] = {
-    {"a", 64, 64, 512, 6, {1024, 1024, 1024, 1024, 1024, 1024}, {ANY, ANY, ANY, ANY, ANY, ANY}, true, ON_GRID},
-    {"b", 48, 48, 60, 4, {512, 320, 192, 128}, {640, 512, 384, 320}, true, ON_GRID},
-    {"c", 16, 16, 12, 2, {320, 192}, {640, 384}, false, ON_GRID},
-    {"p", 64, 64, 64, 4, {512, 320, 192, 128}, {640, 512, 384, 320}, true, POSTS},
-    {"w", 64, 64, 512, 2, {128, 64}, {640, 512}, true, ON_GRID},
+    {"a", 64, 64, 512, 6, SIX(1024), SIX(ANY), true, ON_GRID, 512, 640},
+    {"b", 48, 48, 60, 4, {512, 320, 192, 128}, {640, 512, 384, 320}, true, ON_GRID, 512, 160},
+    {"c", 16, 16, 12, 2, {320, 192}, {640, 384}, false, ON_GRID, 320, 144},
+    {"p", 64, 64, 64, 4, {512, 320, 192, 128}, {640, 512, 384, 320}, true, POSTS, 512, 160},
+    {"w", 64, 64, 512, 2, {128, 64}, {640, 512}, true, ON_GRID, 128, 160},
     /* A sparse night: most points that hear a station hear one. */
-    {"l", 64, 64, 48, 2, {256, 192}, {ANY, ANY}, true, ON_GRID},
+    {"l", 64, 64, 48, 2, {256, 192}, {ANY, ANY}, true, ON_GRID, 512, 640},
+    /* Buddies near each other among stations that are spread. All are judged, and nobody is set aside: so with buddies
+     * the rest of the scan is what it is without. */
+    {"d", 64, 64, 512, 1, {128}, {ANY}, false, ON_GRID, 128, ANY},
     /* With no stations nothing is corrected. These two are unlike in smoothing alone. */
-    {"s", 64, 64, 0, 6, {64, 64, 64, 64, 64, 64}, {ANY, ANY, ANY, ANY, ANY, ANY}, true, ON_GRID},
-    {"u", 64, 64, 0, 6, {64, 64, 64, 64, 64, 64}, {ANY, ANY, ANY, ANY, ANY, ANY}, false, ON_GRID},
+    {"s", 64, 64, 0, 6, SIX(64), SIX(ANY), true, ON_GRID, 128, ANY},
+    {"u", 64, 64, 0, 6, SIX(64), SIX(ANY), false, ON_GRID, 128, ANY},
 };
 
 struct input {
     const struct evening *evening;
     uint32_t mode, rule;
+    bool buddy;
     int32_t first_guess[MOST_POINTS];
     int32_t x[MOST_STATIONS], y[MOST_STATIONS], value[MOST_STATIONS];
     uint32_t observed[MOST_STATIONS], from[MOST_STATIONS], until[MOST_STATIONS];
@@ -116,10 +127,10 @@ static void complain(const char *what, const char *word) {
     fprintf(
         stderr,
         "bench: %s '%s': use bench CASE ours|plain|both REPEAT, window SIDE, "
-        "screen|windows|singles|tests|cuts SCREEN, one reading|summary, text, or stack [SIDE|SCREEN|reading|summary], "
-        "where a CASE is a, b, c, p, w, l, s or u, with a w after it along the wind, with a 2 at its end by the "
-        "listings' "
-        "rule, and a SCREEN is spread, corners, middle or none\n",
+        "screen|windows|singles|tests|cuts SCREEN, one reading|summary, text, pairs, or stack "
+        "[SIDE|SCREEN|reading|summary], where a CASE is a, b, c, p, w, l, d, s or u, with a w after it along the wind, "
+        "with a 2 then by the listings' rule, with a b at its end with buddies, and a SCREEN is spread, corners, "
+        "middle or none\n",
         what, word);
     exit(2);
 }
@@ -204,17 +215,20 @@ static void make_winds(void) {
 static void make_request(void) {
     const struct evening *evening = input.evening;
     size_t points = (size_t)evening->nx * evening->ny, stations = evening->stations;
-    request = (struct sosnyavik_request)SOSNYAVIK_REQUEST(
-            .nx = evening->nx, .ny = evening->ny, .first_guess = {input.first_guess, points}, .x = {input.x, stations},
-            .y = {input.y, stations}, .value = {input.value, stations}, .observed = {input.observed, stations},
-            .from = {input.from, stations}, .until = {input.until, stations}, .wind_u = {input.wind_u, stations},
-            .wind_v = {input.wind_v, stations}, .scans = evening->scans, .radius = {evening->radius, evening->scans},
-            .limit = {evening->limit, evening->scans}, .smooth = evening->smooth, .mode = input.mode, .time = MINUTE);
+    request = (struct sosnyavik_request)
+        SOSNYAVIK_REQUEST(.nx = evening->nx, .ny = evening->ny, .first_guess = {input.first_guess, points},
+                          .x = {input.x, stations}, .y = {input.y, stations}, .value = {input.value, stations},
+                          .observed = {input.observed, stations}, .from = {input.from, stations},
+                          .until = {input.until, stations}, .wind_u = {input.wind_u, stations},
+                          .wind_v = {input.wind_v, stations}, .scans = evening->scans,
+                          .radius = {evening->radius, evening->scans}, .limit = {evening->limit, evening->scans},
+                          .smooth = evening->smooth, .mode = input.mode, .buddy = input.buddy,
+                          .buddy_radius = evening->buddy_radius, .buddy_limit = evening->buddy_limit, .time = MINUTE);
     request.rule = input.rule, request.age = AGE;
 }
 
 static void choose_evening(const char *name) {
-    static const char *const endings[] = {"", "w", "2", "w2"};
+    static const char *const endings[] = {"", "w", "2", "w2", "b", "wb", "2b", "w2b"};
     const char *ending = *name == '\0' ? name : name + 1;
     bool known = false;
     for (size_t i = 0; i < sizeof endings / sizeof *endings; i++)
@@ -227,6 +241,7 @@ static void choose_evening(const char *name) {
         complain("unknown case", name);
     input.mode = strchr(ending, 'w') != NULL ? SOSNYAVIK_ALONG_WIND : SOSNYAVIK_ROUND;
     input.rule = strchr(ending, '2') != NULL ? SOSNYAVIK_LISTINGS : SOSNYAVIK_EQUATIONS;
+    input.buddy = strchr(ending, 'b') != NULL;
 }
 
 static void make_input(const char *name) {
@@ -397,12 +412,12 @@ static void compare_screen(void) {
     }
 }
 
-/* Document 01, "Reach of a window": in grid steps. */
+/* Document 01, "Reach of a window", and document 02's request 7: in grid steps. */
 static uint32_t reach(void) {
     const struct evening *evening = input.evening;
-    uint32_t steps = 0;
+    uint32_t steps = 0, farther = input.buddy ? (uint32_t)evening->buddy_radius : 0;
     for (uint32_t m = 0; m < evening->scans; m++)
-        steps += ((uint32_t)evening->radius[m] + 63) / 64 + (evening->smooth ? 1 : 0);
+        steps += ((uint32_t)evening->radius[m] + farther + 63) / 64 + (evening->smooth ? 1 : 0);
     return steps;
 }
 
@@ -417,6 +432,16 @@ static void print_cuts(void) {
     for (size_t k = 0; k < screen.left.count; k++)
         points += widened(left[k], right[k], input.evening->nx) * widened(top[k], bottom[k], input.evening->ny);
     printf("%zu\n", points);
+}
+
+/* Two stations are one pair. */
+static void print_pairs(void) {
+    size_t pairs = 0;
+    for (size_t row = 0; row < input.evening->stations; row++) {
+        for (size_t other = 0; other < row; other++)
+            pairs += abs(input.y[row] - input.y[other]) < input.evening->buddy_radius;
+    }
+    printf("%zu\n", pairs);
 }
 
 static int64_t nanoseconds(Analysis *analysis, struct output *output) {
@@ -466,10 +491,14 @@ static void run_summary(void) {
 /* The case as a request text (document 01), for the program. */
 static void print_text(void) {
     const struct evening *evening = input.evening;
-    printf("grid=%u,%u\ntime=%d\nage=%d\nsmooth=%d\nscans=%u\n", evening->nx, evening->ny, MINUTE, AGE, evening->smooth,
-           evening->scans);
+    printf("grid=%u,%u\ntime=%d\nage=%d\nsmooth=%d\n", evening->nx, evening->ny, MINUTE, AGE, evening->smooth);
+    if (input.rule != SOSNYAVIK_DEFAULT_RULE)
+        printf("rule=%u\n", input.rule);
+    printf("scans=%u\n", evening->scans);
     for (uint32_t m = 0; m < evening->scans; m++)
         printf("scan=%d,%d\n", evening->radius[m], evening->limit[m]);
+    if (input.buddy)
+        printf("buddy=%d,%d\n", evening->buddy_radius, evening->buddy_limit);
     for (uint32_t j = 0; j < evening->ny; j++) {
         for (uint32_t i = 0; i < evening->nx; i++)
             printf("%s%d", i == 0 ? "row=" : ",", input.first_guess[j * evening->nx + i]);
@@ -584,6 +613,8 @@ int main(int argc, char **argv) {
         measure_stack(run_analysis, SOSNYAVIK_STACK_ANALYSE);
     else if (argc == 3 && strcmp(what, "text") == 0)
         print_text();
+    else if (argc == 3 && strcmp(what, "pairs") == 0)
+        print_pairs();
     else if (argc == 3)
         complain("a number is needed after", what);
     else if (strcmp(what, "stack") == 0 && strcmp(argv[3], "reading") == 0)

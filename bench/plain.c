@@ -1,15 +1,17 @@
 /*
- * plain.c: document 01's analysis, as requests 1, 3, 5 and 6 of document 02 changed it, and request 2's screen of
+ * plain.c: document 01's analysis, as requests 1, 3, 5, 6 and 7 of document 02 changed it, and request 2's screen of
  * windows, the way a C programmer would write them first: their loops, their numbers, no tricks. It assumes what
  * include/sosnyavik.h says that the caller owes.
  */
 #include "plain.h"
 
+#include <stdlib.h>
 #include <string.h>
 
 /*
  * Document 01, "Units and sizes"; and document 02's MOST_BEYOND, how far off the grid a post may stand on each axis,
- * MOST_WINDOWS, how many a screen may have, SCALE, what a weight is in parts of, and GREATEST_WIND, along an axis.
+ * MOST_WINDOWS, how many a screen may have, SCALE, what a weight is in parts of, GREATEST_WIND, along an axis,
+ * GREATEST_BUDDY_RADIUS, and FEWEST_BUDDIES, by whom a station may be set aside.
  */
 enum {
     STEP = 64,
@@ -25,6 +27,8 @@ enum {
     MOST_WINDOWS = 16,
     SCALE = 10000,
     GREATEST_WIND = 100,
+    GREATEST_BUDDY_RADIUS = 512,
+    FEWEST_BUDDIES = 2,
 };
 
 /* Ten thousand times a fraction's numerator along the wind passes 64 bits. */
@@ -41,13 +45,23 @@ struct request {
     const int32_t *radius, *limit;
     bool smooth;
     uint32_t mode, rule;
+    bool buddy;
+    int32_t buddy_radius, buddy_limit;
     uint32_t time, age;
 };
 
-/* What the points need to know of an accepted station, a post's true position included; a missing wind is calm. */
+/* What the points and its buddies need to know of an accepted station, a post's true position included; a missing wind
+ * is calm. */
 struct accepted {
     int32_t x, y, difference;
     int32_t u, v;
+    uint32_t row;
+};
+
+/* A station row by its y, to be sorted. */
+struct place {
+    int32_t y;
+    uint32_t row;
 };
 
 static uint32_t refusal(uint32_t number, size_t place) { return number * 65536 + (uint32_t)place; }
@@ -62,6 +76,12 @@ static bool is_scan(const struct request *request, uint32_t scan) {
     int32_t radius = request->radius[scan];
     int32_t widest = scan == 0 ? GREATEST_RADIUS : request->radius[scan - 1];
     return within(radius, 1, widest) && within(request->limit[scan], 0, GREATEST_LIMIT);
+}
+
+/* Neither number is read where the check is off. */
+static bool is_buddy_check(const struct request *request) {
+    return !request->buddy ||
+           (within(request->buddy_radius, 1, GREATEST_BUDDY_RADIUS) && within(request->buddy_limit, 0, GREATEST_LIMIT));
 }
 
 static bool is_wind(int32_t u, int32_t v) {
@@ -82,6 +102,8 @@ static uint32_t check_entries(const struct request *request) {
         if (!is_scan(request, scan))
             return refusal(6, scan);
     }
+    if (!is_buddy_check(request))
+        return refusal(6, MOST_SCANS);
     for (size_t point = 0; point < (size_t)request->nx * request->ny; point++) {
         if (!is_number(request->first_guess[point]))
             return refusal(7, point);
@@ -158,15 +180,31 @@ static struct accepted accept(const struct request *request, size_t row, int32_t
                              .y = request->y[row],
                              .difference = difference,
                              .u = blows ? request->wind_u[row] : 0,
-                             .v = blows ? request->wind_v[row] : 0};
+                             .v = blows ? request->wind_v[row] : 0,
+                             .row = (uint32_t)row};
+}
+
+static int by_y(const void *one, const void *other) {
+    int32_t a = ((const struct place *)one)->y, b = ((const struct place *)other)->y;
+    return (a > b) - (a < b);
+}
+
+/* The rows in the order in which every scan goes through them: that of y, so that buddies stand near each other in the
+ * list of the accepted. Without the check any order will do. */
+static void order_rows(const struct request *request, struct place *order) {
+    for (size_t row = 0; row < request->stations; row++)
+        order[row] = (struct place){request->y[row], (uint32_t)row};
+    if (request->buddy)
+        qsort(order, request->stations, sizeof *order, by_y);
 }
 
 /* The E test of a scan, counted from 0: fills the list of those that stay accepted, and gives its length. */
-static size_t judge(const struct request *request, uint32_t scan, const int32_t *grid, uint8_t *verdict,
-                    struct accepted *accepted) {
+static size_t judge(const struct request *request, uint32_t scan, const struct place *order, const int32_t *grid,
+                    uint8_t *verdict, struct accepted *accepted) {
     size_t count = 0;
     int32_t limit = request->limit[scan];
-    for (size_t row = 0; row < request->stations; row++) {
+    for (size_t i = 0; i < request->stations; i++) {
+        size_t row = order[i].row;
         if (verdict[row] != 0)
             continue;
         int32_t difference = difference_of(request, row, grid);
@@ -176,6 +214,46 @@ static size_t judge(const struct request *request, uint32_t scan, const int32_t 
             verdict[row] = (uint8_t)(11 + scan);
     }
     return count;
+}
+
+/* What the neighbours of a station say together. */
+struct said {
+    int64_t count, sum;
+};
+
+/* Each pair once, and both hear of it. The list goes by y: past the first that is too far along y, all are. */
+static void hear_buddies(const struct request *request, const struct accepted *accepted, size_t count,
+                         struct said *said) {
+    int32_t radius = request->buddy_radius;
+    memset(said, 0, count * sizeof *said);
+    for (size_t k = 0; k < count; k++) {
+        for (size_t other = k + 1; other < count && accepted[other].y - accepted[k].y < radius; other++) {
+            int32_t dx = accepted[other].x - accepted[k].x, dy = accepted[other].y - accepted[k].y;
+            if (dx * dx + dy * dy < radius * radius) {
+                said[k].count++;
+                said[k].sum += accepted[other].difference;
+                said[other].count++;
+                said[other].sum += accepted[k].difference;
+            }
+        }
+    }
+}
+
+/* The buddy check of a scan, counted from 0: takes those that are set aside from the list, and gives its new length.
+ * All were heard before the first is taken. */
+static size_t set_aside(const struct request *request, uint32_t scan, uint8_t *verdict, struct accepted *accepted,
+                        size_t count) {
+    struct said said[MOST_STATIONS];
+    size_t kept = 0;
+    hear_buddies(request, accepted, count, said);
+    for (size_t k = 0; k < count; k++) {
+        int64_t apart = llabs(said[k].count * accepted[k].difference - said[k].sum);
+        if (said[k].count >= FEWEST_BUDDIES && apart > said[k].count * request->buddy_limit)
+            verdict[accepted[k].row] = (uint8_t)(21 + scan);
+        else
+            accepted[kept++] = accepted[k];
+    }
+    return kept;
 }
 
 /* Under the listings' rule a lone station's pull is divided by the whole scale, and not by its own weight. */
@@ -267,13 +345,17 @@ static void smooth_grid(int32_t *grid, int32_t nx, int32_t ny) {
 
 static void analyse(const struct request *request, int32_t *grid, uint8_t *support, uint8_t *verdict) {
     struct accepted accepted[MOST_STATIONS];
+    struct place order[MOST_STATIONS];
     size_t points = (size_t)request->nx * request->ny;
     memcpy(grid, request->first_guess, points * sizeof *grid);
     memset(support, 0, points);
     for (size_t row = 0; row < request->stations; row++)
         verdict[row] = verdict_before(request, row);
+    order_rows(request, order);
     for (uint32_t scan = 0; scan < request->scans; scan++) {
-        size_t count = judge(request, scan, grid, verdict, accepted);
+        size_t count = judge(request, scan, order, grid, verdict, accepted);
+        if (request->buddy)
+            count = set_aside(request, scan, verdict, accepted, count);
         if (request->mode == SOSNYAVIK_ALONG_WIND)
             correct_along_wind(request, scan, accepted, count, grid, support);
         else
@@ -336,6 +418,9 @@ uint32_t plain_analyse(const struct sosnyavik_request *asked, struct sosnyavik_r
         .smooth = asked->smooth,
         .mode = asked->mode,
         .rule = asked->rule,
+        .buddy = asked->buddy,
+        .buddy_radius = asked->buddy_radius,
+        .buddy_limit = asked->buddy_limit,
         .time = asked->time,
         .age = asked->age,
     };

@@ -5,11 +5,17 @@
 
 enum { MINUTE = 1200, AGE = 120, PLAN = 3 };
 
+/* Where masts are not held to their neighbours these two are not read: they are numbers that would be refused. */
+#define NO_BUDDIES false, INT32_MIN, INT32_MAX
+#define BUDDIES true, 300, 90
+
 const struct manner MANNER[MANNERS] = {
-    {SOSNYAVIK_ROUND, SOSNYAVIK_EQUATIONS, "by round weights and the equations"},
-    {SOSNYAVIK_ALONG_WIND, SOSNYAVIK_EQUATIONS, "along the wind and by the equations"},
-    {SOSNYAVIK_ROUND, SOSNYAVIK_LISTINGS, "by round weights and the listings"},
-    {SOSNYAVIK_ALONG_WIND, SOSNYAVIK_LISTINGS, "along the wind and by the listings"},
+    {SOSNYAVIK_ROUND, SOSNYAVIK_EQUATIONS, NO_BUDDIES, "by round weights and the equations"},
+    {SOSNYAVIK_ALONG_WIND, SOSNYAVIK_EQUATIONS, NO_BUDDIES, "along the wind and by the equations"},
+    {SOSNYAVIK_ROUND, SOSNYAVIK_LISTINGS, NO_BUDDIES, "by round weights and the listings"},
+    {SOSNYAVIK_ALONG_WIND, SOSNYAVIK_LISTINGS, NO_BUDDIES, "along the wind and by the listings"},
+    {SOSNYAVIK_ROUND, SOSNYAVIK_EQUATIONS, BUDDIES, "by round weights and the equations, with buddies"},
+    {SOSNYAVIK_ALONG_WIND, SOSNYAVIK_LISTINGS, BUDDIES, "along the wind and by the listings, with buddies"},
 };
 
 static const size_t ENTRY[COLUMNS] = {
@@ -62,10 +68,31 @@ static void set_posts(struct evening *evening) {
     }
 }
 
+static void set_manner(struct evening *evening, const struct manner *manner) {
+    evening->mode = manner->mode, evening->rule = manner->rule;
+    evening->buddy = manner->buddy;
+    evening->buddy_radius = manner->buddy_radius, evening->buddy_limit = manner->buddy_limit;
+}
+
 struct evening bare_evening(uint32_t nx, uint32_t ny, size_t masts, uint32_t scans) {
     struct evening evening = {.nx = nx, .ny = ny, .scans = scans};
     for (size_t c = 0; c < COLUMNS; c++)
         evening.columns[c] = make_slice(c == FIRST_GUESS ? (size_t)nx * ny : c < RADIUS ? masts : scans, ENTRY[c]);
+    return evening;
+}
+
+struct evening level_evening(uint32_t nx, uint32_t ny, int32_t level, size_t masts, uint32_t scans) {
+    struct evening evening = bare_evening(nx, ny, masts, scans);
+    evening.time = 1000, evening.age = 60;
+    set_manner(&evening, &MANNER[0]);
+    for (uint32_t point = 0; point < nx * ny; point++)
+        numbers_of(&evening, FIRST_GUESS)[point] = level;
+    for (size_t row = 0; row < masts; row++) {
+        minutes_of(&evening, OBSERVED)[row] = 1000;
+        minutes_of(&evening, FROM)[row] = 0;
+        minutes_of(&evening, UNTIL)[row] = SOSNYAVIK_NO_END;
+        numbers_of(&evening, WIND_U)[row] = numbers_of(&evening, WIND_V)[row] = SOSNYAVIK_MISSING;
+    }
     return evening;
 }
 
@@ -84,7 +111,7 @@ struct evening make_evening(uint32_t nx, uint32_t ny, size_t masts, const struct
     struct evening evening = bare_evening(nx, ny, masts, PLAN);
     uint32_t state = 1955;
     evening.time = MINUTE, evening.age = AGE, evening.smooth = true;
-    evening.mode = manner->mode, evening.rule = manner->rule;
+    set_manner(&evening, manner);
     for (uint32_t point = 0; point < nx * ny; point++)
         numbers_of(&evening, FIRST_GUESS)[point] = 320 + 3 * (int32_t)(point % nx) - 16 + draw(&state, 32);
     set_masts(&evening, &state);
@@ -200,7 +227,8 @@ struct sosnyavik_request request_of(const struct evening *evening) {
                           .until = u32_column(&in[UNTIL]), .wind_u = i32_column(&in[WIND_U]),
                           .wind_v = i32_column(&in[WIND_V]), .scans = evening->scans, .radius = i32_column(&in[RADIUS]),
                           .limit = i32_column(&in[LIMIT]), .smooth = evening->smooth, .mode = evening->mode,
-                          .time = evening->time);
+                          .buddy = evening->buddy, .buddy_radius = evening->buddy_radius,
+                          .buddy_limit = evening->buddy_limit, .time = evening->time);
     request.rule = evening->rule, request.age = evening->age;
     return request;
 }

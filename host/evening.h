@@ -10,18 +10,21 @@ enum column { FIRST_GUESS, X, Y, VALUE, OBSERVED, FROM, UNTIL, WIND_U, WIND_V, R
 enum end { LEFT, RIGHT, TOP, BOTTOM, ENDS };
 enum result { GRID, SUPPORT, VERDICT, RESULTS };
 
-/* What weights go by and what a lone mast does, each with each, and how to say so. The first is what a request has that
- * asks for neither. */
+/* What weights go by and what a lone mast does, each with each, and how to say so; then two of these with each mast
+ * held to its neighbours. The first is what a request has that asks for nothing. */
 struct manner {
     uint32_t mode, rule;
+    bool buddy;
+    int32_t buddy_radius, buddy_limit;
     const char *said;
 };
-enum { MANNERS = 4 };
+enum { MANNERS = 6 };
 extern const struct manner MANNER[MANNERS];
 
 struct evening {
     uint32_t nx, ny, scans, mode, rule, time, age;
-    bool smooth;
+    bool smooth, buddy;
+    int32_t buddy_radius, buddy_limit;
     struct slice columns[COLUMNS];
 };
 
@@ -35,12 +38,14 @@ struct answer {
 
 /* A spring evening on a grid of so many points, the same in every run. Of the masts one was taken down, one says
  * nothing, one is too old and one reports a gross error; then come posts beyond the border, and one too far out. Some
- * have no wind, some a calm one. In the mode and by the rule that are asked for, on which nothing else depends. */
+ * have no wind, some a calm one. In the manner that is asked for, on which nothing else depends. */
 enum { FIRST_POST = 4, POSTS = 4, TOO_FAR = FIRST_POST + POSTS };
 struct evening make_evening(uint32_t nx, uint32_t ny, size_t masts, const struct manner *manner);
 
-/* An evening of which the columns have their lengths, and nothing else is told. */
+/* An evening of which the columns have their lengths, and nothing else is told; and one of masts without wind that are
+ * all fresh and in service, on a level first guess, in the first manner. */
 struct evening bare_evening(uint32_t nx, uint32_t ny, size_t masts, uint32_t scans);
+struct evening level_evening(uint32_t nx, uint32_t ny, int32_t level, size_t masts, uint32_t scans);
 
 struct evening copy_evening(const struct evening *evening);
 void free_evening(struct evening *evening);

@@ -70,23 +70,8 @@ static const struct field BY_LISTINGS = {
 };
 /* clang-format on */
 
-/* So many masts of no wind, all fresh and in service, on a level first guess. */
-static struct evening make_level(uint32_t nx, uint32_t ny, int32_t level, size_t masts, uint32_t scans) {
-    struct evening evening = bare_evening(nx, ny, masts, scans);
-    evening.time = 1000, evening.age = 60, evening.smooth = false, evening.mode = SOSNYAVIK_ROUND;
-    for (uint32_t point = 0; point < nx * ny; point++)
-        numbers_of(&evening, FIRST_GUESS)[point] = level;
-    for (size_t row = 0; row < masts; row++) {
-        minutes_of(&evening, OBSERVED)[row] = 1000;
-        minutes_of(&evening, FROM)[row] = 0;
-        minutes_of(&evening, UNTIL)[row] = SOSNYAVIK_NO_END;
-        numbers_of(&evening, WIND_U)[row] = numbers_of(&evening, WIND_V)[row] = SOSNYAVIK_MISSING;
-    }
-    return evening;
-}
-
 static struct evening make_orchard(uint32_t rule) {
-    struct evening orchard = make_level(NX, NY, LEVEL, COUNT, SCANS);
+    struct evening orchard = level_evening(NX, NY, LEVEL, COUNT, SCANS);
     orchard.rule = rule;
     for (size_t row = 0; row < COUNT; row++) {
         numbers_of(&orchard, X)[row] = MASTS[row].x;
@@ -126,7 +111,7 @@ static void must_read(uint32_t rule, const struct field *field, const char *what
 /* The header's example: a mast on the first of four points, a degree above them. */
 static void must_move(uint32_t rule, const int32_t *grid, const char *said) {
     static const uint8_t backed[4] = {1, 1, 1, 1};
-    struct evening evening = make_level(2, 2, 640, 1, 1);
+    struct evening evening = level_evening(2, 2, 640, 1, 1);
     struct answer answer = whole_answer(&evening, UNTOUCHED);
     evening.rule = rule;
     numbers_of(&evening, X)[0] = numbers_of(&evening, Y)[0] = 0;

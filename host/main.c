@@ -38,6 +38,8 @@ int main(int argc, char **argv) {
     try_evening();
     try_breeze();
     try_lone_masts();
+    try_buddies();
+    try_courtyard();
     try_windows();
     try_screens();
     try_refusals();

@@ -13,6 +13,8 @@ void must(bool holds, const char *what);
 void try_evening(void);
 void try_breeze(void);
 void try_lone_masts(void);
+void try_buddies(void);
+void try_courtyard(void);
 void try_windows(void);
 void try_screens(void);
 void try_refusals(void);

@@ -73,8 +73,19 @@ static void rule_at_the_most(struct attempt *a) { a->evening.rule = UINT32_MAX; 
 static void no_rule_and_a_minute_short(struct attempt *a) { no_rule(a), a_minute_short(a); }
 static void rising_radius(struct attempt *a) { numbers_of(&a->evening, RADIUS)[2] = 97; }
 static void no_rule_and_rising_radius(struct attempt *a) { no_rule(a), rising_radius(a); }
+static void set_buddies(struct attempt *a, int32_t radius, int32_t limit) {
+    a->evening.buddy = true, a->evening.buddy_radius = radius, a->evening.buddy_limit = limit;
+}
+static void no_buddy_radius(struct attempt *a) { set_buddies(a, 0, 0); }
+static void too_wide_for_buddies(struct attempt *a) { set_buddies(a, 513, 0); }
+static void buddy_radius_at_the_least(struct attempt *a) { set_buddies(a, INT32_MIN, 0); }
+static void buddy_limit_below_zero(struct attempt *a) { set_buddies(a, 1, -1); }
+static void buddy_limit_too_high(struct attempt *a) { set_buddies(a, 512, 2000001); }
+static void no_buddy_radius_and_no_rule(struct attempt *a) { no_buddy_radius(a), no_rule(a); }
+static void no_buddy_radius_and_rising_radius(struct attempt *a) { no_buddy_radius(a), rising_radius(a); }
 static void limit_out_of_range(struct attempt *a) { numbers_of(&a->evening, LIMIT)[1] = 2000001; }
 static void missing_guess(struct attempt *a) { numbers_of(&a->evening, FIRST_GUESS)[NX * NY - 1] = SOSNYAVIK_MISSING; }
+static void no_buddy_radius_and_missing_guess(struct attempt *a) { no_buddy_radius(a), missing_guess(a); }
 static void value_out_of_range(struct attempt *a) { numbers_of(&a->evening, VALUE)[MASTS - 1] = 1000001; }
 static void position_out_of_range(struct attempt *a) { numbers_of(&a->evening, X)[7] = -1000001; }
 static void never_in_service(struct attempt *a) { minutes_of(&a->evening, UNTIL)[5] = 0; }
@@ -99,6 +110,14 @@ static const struct mistake OF_ALL[] = {
     {no_rule_and_rising_radius, 5, 0, "refusal 5, rule, before 6"},
     {rising_radius, 6, 2, "refusal 6, radius"},
     {limit_out_of_range, 6, 1, "refusal 6, limit"},
+    {no_buddy_radius, 6, 6, "refusal 6, buddy_radius 0"},
+    {too_wide_for_buddies, 6, 6, "refusal 6, buddy_radius 513"},
+    {buddy_radius_at_the_least, 6, 6, "refusal 6, buddy_radius at the least"},
+    {buddy_limit_below_zero, 6, 6, "refusal 6, buddy_limit -1"},
+    {buddy_limit_too_high, 6, 6, "refusal 6, buddy_limit"},
+    {no_buddy_radius_and_no_rule, 5, 0, "refusal 5 before buddies"},
+    {no_buddy_radius_and_rising_radius, 6, 2, "refusal 6, the scans before buddies"},
+    {no_buddy_radius_and_missing_guess, 6, 6, "refusal 6, buddies, before 7"},
     {missing_guess, 7, NX *NY - 1, "refusal 7"},
     {value_out_of_range, 8, MASTS - 1, "refusal 8, value"},
     {position_out_of_range, 8, 7, "refusal 8, position"},
@@ -183,5 +202,8 @@ void try_refusals(void) {
     tried += try_mistakes(OF_A_WINDOW, sizeof OF_A_WINDOW / sizeof *OF_A_WINDOW, WINDOW);
     tried += try_mistakes(OF_A_SCREEN, sizeof OF_A_SCREEN / sizeof *OF_A_SCREEN, SCREEN);
     tried += try_mistakes(OF_AN_EMPTY_SCREEN, sizeof OF_AN_EMPTY_SCREEN / sizeof *OF_AN_EMPTY_SCREEN, EMPTY_SCREEN);
-    printf("host: %zu mistakes, each in both modes and by both rules, refusals 1 to 8, nothing written\n", tried);
+    printf(
+        "host: %zu mistakes, each in both modes and by both rules, with buddies and without, refusals 1 to 8, nothing "
+        "written\n",
+        tried);
 }

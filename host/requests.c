@@ -104,6 +104,17 @@ static void must_be_part(const struct answer *part, struct sosnyavik_ends ends, 
     }
 }
 
+static bool is_set_aside(uint8_t verdict) { return 21 <= verdict && verdict <= 26; }
+
+/* Some are, where masts are held to their neighbours, and else none. */
+static void must_set_aside(const struct answer *whole, bool some) {
+    const uint8_t *verdict = whole->results[VERDICT].at;
+    size_t count = 0;
+    for (size_t row = 0; row < MASTS; row++)
+        count += is_set_aside(verdict[row]);
+    must((count > 0) == some, "the masts of an evening that their buddies set aside");
+}
+
 static size_t try_windows_in(const struct manner *manner) {
     static const struct sosnyavik_ends windows[] = {
         {0, NX - 1, 0, NY - 1},           {0, 0, 0, 0},
@@ -114,6 +125,7 @@ static size_t try_windows_in(const struct manner *manner) {
     struct evening evening = make_evening(NX, NY, MASTS, manner);
     struct answer whole = whole_answer(&evening, UNTOUCHED);
     must(analyse(&evening, &whole) == 0, "an evening's answer");
+    must_set_aside(&whole, manner->buddy);
     for (size_t i = 0; i < count; i++) {
         struct answer part = window_answer(windows[i], UNTOUCHED);
         must(query(&evening, windows[i], &part) == 0, "a window's answer");
@@ -129,7 +141,9 @@ void try_windows(void) {
     size_t asked = 0;
     for (size_t m = 0; m < MANNERS; m++)
         asked += try_windows_in(&MANNER[m]);
-    printf("host: %zu windows, round and along the wind, by both rules, each as the whole analysis has it\n", asked);
+    printf("host: %zu windows, round and along the wind, by both rules, with buddies and without, each as the whole "
+           "analysis has it\n",
+           asked);
 }
 
 /* The windows by single queries, their results one after the other. */
@@ -224,7 +238,7 @@ void try_screens(void) {
     size_t shown = 0;
     for (size_t m = 0; m < MANNERS; m++)
         shown += try_screens_in(&MANNER[m]);
-    printf("host: %zu screens of up to %d windows, round and along the wind, by both rules, each as single queries in "
-           "its order\n",
+    printf("host: %zu screens of up to %d windows, round and along the wind, by both rules, with buddies and without, "
+           "each as single queries in its order\n",
            shown, SOSNYAVIK_MOST_WINDOWS);
 }

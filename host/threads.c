@@ -80,7 +80,7 @@ static void run_all(const struct known *k, unsigned char pattern) {
 }
 
 /* The threads begin with different evenings: what one call left behind for another to find would not fit. A thread has
- * shown each screen of every evening after eight rounds. */
+ * shown each screen of every evening after twelve rounds. */
 static void *run_rounds(void *first) {
     size_t which = *(const size_t *)first;
     pthread_barrier_wait(&at_once);
@@ -160,8 +160,8 @@ void try_threads(void) {
     for (size_t i = 0; i < THREADS; i++)
         pthread_join(threads[i], NULL);
     pthread_barrier_destroy(&at_once);
-    printf("host: %d threads at once on %d evenings, in both modes and by both rules, %d rounds each, on stacks of %zu "
-           "bytes, the same answers bit for bit\n",
+    printf("host: %d threads at once on %d evenings, in both modes and by both rules, with buddies and without, %d "
+           "rounds each, on stacks of %zu bytes, the same answers bit for bit\n",
            THREADS, EVENINGS, ROUNDS, size);
     for (size_t e = 0; e < EVENINGS; e++)
         free_known(&known[e]);

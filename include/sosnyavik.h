@@ -12,9 +12,9 @@
 ** tell a field in doubles that are exact.
 **
 ** What follows: version, marks, units and sizes, posts, weights, wind, lone
-** stations, windows, results, verdicts, support, refusals, what the caller owes,
-** what the calls keep, the calls, and a request by name, which is how a program
-** had best call them.
+** stations, buddies, windows, results, verdicts, support, refusals, what the
+** caller owes, what the calls keep, the calls, and a request by name, which is
+** how a program had best call them.
 */
 #ifndef SOSNYAVIK_H
 #define SOSNYAVIK_H
@@ -30,11 +30,11 @@ extern "C" {
 /*
 ** VERSION
 **
-** Its first number is that of the shared object, libsosnyavik.so.2: it rises
+** Its first number is that of the shared object, libsosnyavik.so.3: it rises
 ** when a call takes other arguments than before, and a program must be compiled
 ** anew. The second rises with a new call, the third with anything else.
 */
-#define SOSNYAVIK_VERSION "2.0.0" /* 2026-11-16 */
+#define SOSNYAVIK_VERSION "3.0.0" /* 2026-11-16 */
 
 /*
 ** MARKS
@@ -86,13 +86,20 @@ extern "C" {
 **                                                    SOSNYAVIK_ALONG_WIND
 **   rule          what a lone station does: see      SOSNYAVIK_EQUATIONS or
 **                 LONE STATIONS                      SOSNYAVIK_LISTINGS
+**   buddy         hold each station to those near    true or false
+**                 it: see BUDDIES
+**   buddy_radius  how near, in position units; not   1 .. 512
+**                 read if buddy is false
+**   buddy_limit   greatest difference from their     0 .. 2000000
+**                 mean, in 1/64 unit; not read if
+**                 buddy is false
 **
 **   time          minute of the analysis             any
 **   age           greatest age of an observation     any
 **                 at that minute, in minutes
 **
 ** SOSNYAVIK_DEFAULT_AGE is the age of a request that gives none, by name or as
-** text, and SOSNYAVIK_DEFAULT_RULE the rule.
+** text, and SOSNYAVIK_DEFAULT_RULE the rule. Its buddy is false.
 */
 #define SOSNYAVIK_DEFAULT_AGE 120
 
@@ -106,7 +113,8 @@ extern "C" {
 ** units, four grid steps, along x, along y or, at a corner, along both. It takes
 ** part:
 **
-**   - Its weight at a point goes by its true distance, as that of any station.
+**   - Its weight at a point goes by its true distance, as that of any station,
+**     and so does who is near it: see BUDDIES.
 **   - Its difference is its observation less the first guess at its nearest
 **     place on the grid: each of x and y brought to its bound. No scan changes
 **     the first guess, so that this is the same in every scan. A scan after the
@@ -196,7 +204,8 @@ extern "C" {
 **
 ** Inside is a matter of the distance: a station inside whose weight is 0 counts.
 ** Beside it no other is alone, and alone it moves nothing and supports nothing.
-** A station that is not accepted, by its verdict so far, does not count.
+** A station that is not accepted, by its verdict so far, does not count. So one
+** that its neighbours set aside leaves another alone: see BUDDIES.
 **
 ** The rules differ in nothing else. From the same field they judge alike, support
 ** alike, and move every other point alike; smoothing and later scans then go by
@@ -219,6 +228,7 @@ extern "C" {
 **                                  sosnyavik_no_wind(), 1,
 **                                  1, reach, 1, most, 1, false,
 **                                  SOSNYAVIK_ROUND, SOSNYAVIK_LISTINGS,
+**                                  false, 0, 0,
 **                                  1000, 60, moved, 4, backed, 4, accepted, 1);
 **
 ** Now r is 0, moved is 704, 665, 665, 644, and each byte of backed is 1. With
@@ -227,6 +237,61 @@ extern "C" {
 #define SOSNYAVIK_EQUATIONS 1
 #define SOSNYAVIK_LISTINGS 2
 #define SOSNYAVIK_DEFAULT_RULE SOSNYAVIK_EQUATIONS
+
+/*
+** BUDDIES
+**
+** A mast in a sunlit courtyard may differ from the field by no more than limit,
+** and still disagree with everyone near. With buddy true each scan holds its
+** stations to their neighbours too. First it rejects by its limit, as ever. The
+** neighbours of a station are then the others that are accepted still and stand
+** less than buddy_radius from it: d2 < buddy_radius*buddy_radius, by the true
+** positions, those of posts too. One at the same place is a neighbour. Where a
+** station has n neighbours, at least two, and its difference is D and the sum of
+** theirs S, it is set aside if
+**
+**   n*D - S is above n*buddy_limit, or below -n*buddy_limit
+**
+** that is, if D is more than buddy_limit from the mean of theirs. A station with
+** fewer than two neighbours never is: of two that disagree nobody can say which
+** one is wrong.
+**
+** All are judged at once, before any is set aside, so that the order of the rows
+** does not matter. Who is set aside has no weight in this scan or a later one,
+** gives no support, does not count where LONE STATIONS asks who is inside, and is
+** nobody's neighbour in a later scan. It comes back no more, whatever the field
+** is then.
+**
+** A station that is far off moves the mean that its neighbours are held to. Of
+** three near each other, two of which agree, the third is set aside if it differs
+** from them by more than buddy_limit, and the two as well if it differs by more
+** than twice that. So let limit, which comes first, take the gross errors. And
+** two that are wrong alike set aside a third that is right.
+**
+** Three by three points at 10 degrees. Three masts read 9 degrees, and the last,
+** among them in a courtyard, 11.5: by the limit of 200 all four are accepted.
+**
+**   int32_t level[9] = {640, 640, 640, 640, 640, 640, 640, 640, 640};
+**   int32_t east[4] = {32, 96, 64, 64}, south[4] = {32, 32, 96, 64};
+**   int32_t reads[4] = {576, 576, 576, 736}, reach[1] = {96}, most[1] = {200};
+**   uint32_t now[4] = {1000, 1000, 1000, 1000}, always[4] = {0, 0, 0, 0};
+**   uint32_t open[4] = {SOSNYAVIK_NO_END, SOSNYAVIK_NO_END,
+**                       SOSNYAVIK_NO_END, SOSNYAVIK_NO_END};
+**   int32_t moved[9];
+**   uint8_t backed[9], judged[4];
+**   uint32_t r = sosnyavik_analyse(3, 3, level, 9, east, 4, south, 4, reads, 4,
+**                                  now, 4, always, 4, open, 4,
+**                                  sosnyavik_no_wind(), 4,
+**                                  sosnyavik_no_wind(), 4,
+**                                  1, reach, 1, most, 1, false,
+**                                  SOSNYAVIK_ROUND, SOSNYAVIK_EQUATIONS,
+**                                  true, 128, 128,
+**                                  1000, 60, moved, 9, backed, 9, judged, 4);
+**
+** Now r is 0, judged is 0, 0, 0, 21, and moved is 576, 576, 576, 576, 576, 576,
+** 576, 576, 576. With buddy false judged is 0, 0, 0, 0, and moved is 590, 613,
+** 590, 623, 628, 623, 603, 628, 603.
+*/
 
 /*
 ** WINDOWS
@@ -299,6 +364,11 @@ extern "C" {
 ** first guess:
 **
 **   11 .. 16   10 + the scan, counted from 1: 11 in the first, 16 in the sixth
+**
+** Set aside in a scan and all later ones, because it differed from its neighbours
+** by more than buddy_limit, as BUDDIES says; if buddy is true:
+**
+**   21 .. 26   20 + the scan, counted from 1: 21 in the first, 26 in the sixth
 */
 
 /*
@@ -345,6 +415,8 @@ extern "C" {
 **             SOSNYAVIK_LISTINGS
 **   6         a radius is out of range or above the one    scan, from 0
 **             before, or a limit is out of range
+**             after that: buddy is true, and               6
+**             buddy_radius or buddy_limit is out of range
 **   7         a first-guess value is out of range          point, from 0
 **   8         a station's value is out of range and not    row, from 0
 **             the mark, its position is out of range,
@@ -352,9 +424,10 @@ extern "C" {
 **             of range or missing in one column alone;
 **             in both modes
 **
-** Only the window query and the screen give 2. Windows are 0 .. 15, so that 16
-** is none of them. A row with a verdict of 1 .. 5 to come is tested for refusal
-** 8 like any other, and so is one far from every window.
+** Only the window query and the screen give 2. Windows are 0 .. 15 and scans are
+** 0 .. 5, so that 16 and 6 are none of them. A row with a verdict of 1 .. 5 to
+** come is tested for refusal 8 like any other, and so is one far from every
+** window.
 **
 ** The point reading and the summary give only 1, tested on the field that they
 ** are handed in place of first_guess. The reading tests its support too, which
@@ -375,6 +448,7 @@ extern "C" {
 **   mode = 2                                               0x00050000 = 327680
 **   rule = 0, in a request made without SOSNYAVIK_REQUEST  0x00050000 = 327680
 **   radius = {96, 192}, the narrow scan first: scan 1      0x00060001 = 393217
+**   buddy = true, with no buddy_radius, which is 0 then    0x00060006 = 393222
 **   first_guess[4] = SOSNYAVIK_MISSING: point 4            0x00070004 = 458756
 **   from[2] and until[2] exchanged: row 2                  0x00080002 = 524290
 **   wind_u[1] = SOSNYAVIK_MISSING, wind_v[1] = 0: row 1    0x00080001 = 524289
@@ -448,6 +522,7 @@ static inline const int32_t *sosnyavik_no_wind(void) {
 **                                  sosnyavik_no_wind(), 3,
 **                                  1, radius, 1, limit, 1, false,
 **                                  SOSNYAVIK_ROUND, SOSNYAVIK_EQUATIONS,
+**                                  false, 0, 0,
 **                                  1000, 60, grid, 9, support, 9, verdict, 3);
 **
 ** Now r is 0, grid is 587, 672, 768, 672, 757, 768, 768, 768, 768, each byte
@@ -462,6 +537,7 @@ static inline const int32_t *sosnyavik_no_wind(void) {
 **                                  wind_u, 3, wind_v, 3,
 **                                  1, radius, 1, limit, 1, false,
 **                                  SOSNYAVIK_ALONG_WIND, SOSNYAVIK_EQUATIONS,
+**                                  false, 0, 0,
 **                                  1000, 60, grid, 9, support, 9, verdict, 3);
 **
 ** Now r is 0, and grid is 615, 648, 768, 696, 729, 768, 768, 768, 768. The two
@@ -505,15 +581,20 @@ uint32_t sosnyavik_analyse(
 **                                 sosnyavik_no_wind(), 3,
 **                                 1, radius, 1, limit, 1, false,
 **                                 SOSNYAVIK_ROUND, SOSNYAVIK_EQUATIONS,
+**                                 false, 0, 0,
 **                                 1000, 60, part, 2, part_support, 2);
 **
 ** Now r is 0, part is 672, 757, and both bytes of part_support are 1.
 **
 ** The work goes by the window's reach and not by the grid. For each scan count
-** radius/64 rounded up, plus 1 if smooth; the reach is the total, in grid
-** steps. Only the window widened by its reach on each side, as far as the grid
-** goes, is analysed. A small window with a short reach is cheap; one whose
-** reach covers the grid costs as much as the whole analysis.
+** radius/64 rounded up, or (radius + buddy_radius)/64 rounded up if buddy is
+** true, and 1 more if smooth is; the reach is the total, in grid steps, 150 at
+** most. Only the window widened by its reach on each side, as far as the grid
+** goes, is analysed, with the stations there; a post is where its nearest place
+** on the grid is. A small window with a short reach is cheap; one whose reach
+** covers the grid costs as much as the whole analysis. buddy_radius adds to the
+** reach in every scan: who speaks near the window is for neighbours to say, and
+** who those are for theirs.
 */
 /* clang-format off */
 uint32_t sosnyavik_window(
@@ -556,6 +637,7 @@ uint32_t sosnyavik_window(
 **                                  sosnyavik_no_wind(), 3,
 **                                  1, radius, 1, limit, 1, false,
 **                                  SOSNYAVIK_ROUND, SOSNYAVIK_EQUATIONS,
+**                                  false, 0, 0,
 **                                  1000, 60, blocks, 7, blocks_support, 7);
 **
 ** Now r is 0, blocks is 672, 757, 672, 768, 757, 768, 587, and each byte of
@@ -723,13 +805,14 @@ struct sosnyavik_summary sosnyavik_summarise(
 ** Now r, s and t are 0, grid, support, verdict, part, part_support, blocks and
 ** blocks_support are as above, and at_64_64 is 11.828125.
 **
-** SOSNYAVIK_REQUEST gives each member that is not named in it its default: age
-** is SOSNYAVIK_DEFAULT_AGE, rule is SOSNYAVIK_DEFAULT_RULE, all else is 0, false
-** or no entries. A member that comes with a later version has a default by which
-** the answers stay; so write every request by SOSNYAVIK_REQUEST. In C a member
-** whose default is not 0, which is age or rule, is set after it, as above. In
-** C++20 members are named in the order below, those two too. In C++11 none is
-** named, and all are set after it:
+** SOSNYAVIK_REQUEST gives each member that is not named in it its default: age is
+** SOSNYAVIK_DEFAULT_AGE, rule is SOSNYAVIK_DEFAULT_RULE, all else is 0, false or
+** no entries. So buddy is false, and no station is held to its neighbours. A
+** member that comes with a later version has a default by which the answers stay;
+** so write every request by SOSNYAVIK_REQUEST. In C a member whose default is not
+** 0, which is age or rule, is set after it, as above. In C++20 members are named
+** in the order below, those two too. In C++11 none is named, and all are set
+** after it:
 **
 **   sosnyavik_request request = SOSNYAVIK_REQUEST();
 **   request.nx = 3, request.ny = 3, request.first_guess = {first_guess, 9};

@@ -72,11 +72,30 @@ static void lone_stations(void) {
     memset(backed, UNTOUCHED, sizeof backed);
     r = sosnyavik_analyse(2, 2, level, 4, at, 1, at, 1, reads, 1, now, 1, always, 1, open, 1, sosnyavik_no_wind(), 1,
                           sosnyavik_no_wind(), 1, 1, reach, 1, most, 1, false, SOSNYAVIK_ROUND, SOSNYAVIK_EQUATIONS,
-                          1000, 60, moved, 4, backed, 4, accepted, 1);
+                          false, 0, 0, 1000, 60, moved, 4, backed, 4, accepted, 1);
     must_give(r, 0, "the call of a lone station with SOSNYAVIK_EQUATIONS");
     printf("With SOSNYAVIK_EQUATIONS ");
     say_numbers("moved", moved, 4);
     printf(", and backed is %s.\n", memcmp(backed, before, sizeof before) == 0 ? "the same" : "another");
+}
+
+// The example as it stands, which has the check; then its call once more, without.
+static void buddies(void) {
+#include "buddies.inc"
+    printf("Now r is %u, ", r);
+    say_bytes("judged", judged, 4);
+    printf(", and ");
+    say_numbers("moved", moved, 9);
+    puts(".");
+    r = sosnyavik_analyse(3, 3, level, 9, east, 4, south, 4, reads, 4, now, 4, always, 4, open, 4, sosnyavik_no_wind(),
+                          4, sosnyavik_no_wind(), 4, 1, reach, 1, most, 1, false, SOSNYAVIK_ROUND, SOSNYAVIK_EQUATIONS,
+                          false, 128, 128, 1000, 60, moved, 9, backed, 9, judged, 4);
+    must_give(r, 0, "the call of four masts with buddy false");
+    printf("With buddy false ");
+    say_bytes("judged", judged, 4);
+    printf(", and ");
+    say_numbers("moved", moved, 9);
+    puts(".");
 }
 
 // Each example has the names of those before it, and an r of its own. The one along the wind writes over what the
@@ -121,6 +140,7 @@ int main(void) {
         puts(".");
     }
     lone_stations();
+    buddies();
     readings();
     summary();
 }

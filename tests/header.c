@@ -1,7 +1,7 @@
 // What include/sosnyavik.h tells a C programmer, called: the paper's example, calm and along the wind, by both rules,
 // whole, as a window and as a screen of windows, a mistake for each refusal of each call, and the examples of the
 // reading and the summary. All of it twice, by the plain calls and by name; screens beside the windows one by one; the
-// border; weights; lone stations; and what a request by name has where nothing is given.
+// border; weights; lone stations; buddies; and what a request by name has where nothing is given.
 #include <stdio.h>
 #include <stdlib.h>
 #include <string.h>
@@ -26,7 +26,15 @@ typedef struct {
     size_t y_len, wind_u_len, wind_v_len, verdict_len, part_len, plan_len;
     int32_t radius[2], limit[2];
     uint32_t mode, rule;
+    bool buddy;
+    int32_t buddy_radius, buddy_limit;
 } Request;
+
+// What weights go by, what a lone mast does, and whether masts are held to their neighbours.
+typedef struct {
+    uint32_t mode, rule;
+    bool buddy;
+} Manner;
 
 typedef struct {
     int32_t grid[POINTS];
@@ -77,21 +85,25 @@ static const Request paper = {
     .limit = {200, 200},
     .mode = SOSNYAVIK_ROUND,
     .rule = SOSNYAVIK_EQUATIONS,
+    .buddy = false,
+    .buddy_radius = 512,
+    .buddy_limit = 100,
 };
 
 static uint32_t analyse(const Request *q, Results *r) {
     return sosnyavik_analyse(q->nx, 3, q->first_guess, POINTS, q->x, ROWS, q->y, q->y_len, q->value, ROWS, q->observed,
                              ROWS, q->from, ROWS, q->until, ROWS, q->wind_u, q->wind_u_len, q->wind_v, q->wind_v_len,
-                             q->scans, q->radius, q->plan_len, q->limit, q->plan_len, false, q->mode, q->rule, 1000, 60,
-                             r->grid, POINTS, r->support, POINTS, r->verdict, q->verdict_len);
+                             q->scans, q->radius, q->plan_len, q->limit, q->plan_len, false, q->mode, q->rule, q->buddy,
+                             q->buddy_radius, q->buddy_limit, 1000, 60, r->grid, POINTS, r->support, POINTS, r->verdict,
+                             q->verdict_len);
 }
 
 static uint32_t window(const Request *q, Results *r) {
     return sosnyavik_window(q->nx, 3, q->first_guess, POINTS, q->left, q->right, q->top, q->bottom, q->x, ROWS, q->y,
                             q->y_len, q->value, ROWS, q->observed, ROWS, q->from, ROWS, q->until, ROWS, q->wind_u,
                             q->wind_u_len, q->wind_v, q->wind_v_len, q->scans, q->radius, q->plan_len, q->limit,
-                            q->plan_len, false, q->mode, q->rule, 1000, 60, r->grid, q->part_len, r->support,
-                            q->part_len);
+                            q->plan_len, false, q->mode, q->rule, q->buddy, q->buddy_radius, q->buddy_limit, 1000, 60,
+                            r->grid, q->part_len, r->support, q->part_len);
 }
 
 static uint32_t show(const Request *q, int32_t *grid, uint8_t *support) {
@@ -100,7 +112,8 @@ static uint32_t show(const Request *q, int32_t *grid, uint8_t *support) {
                              s->top_len, s->bottom, s->bottom_len, q->x, ROWS, q->y, q->y_len, q->value, ROWS,
                              q->observed, ROWS, q->from, ROWS, q->until, ROWS, q->wind_u, q->wind_u_len, q->wind_v,
                              q->wind_v_len, q->scans, q->radius, q->plan_len, q->limit, q->plan_len, false, q->mode,
-                             q->rule, 1000, 60, grid, s->points, support, s->points);
+                             q->rule, q->buddy, q->buddy_radius, q->buddy_limit, 1000, 60, grid, s->points, support,
+                             s->points);
 }
 
 static uint32_t screen(const Request *q, Results *r) { return show(q, r->grid, r->support); }
@@ -112,7 +125,8 @@ static struct sosnyavik_request by_name(const Request *q) {
                           .y = {q->y, q->y_len}, .value = {q->value, ROWS}, .observed = {q->observed, ROWS},
                           .from = {q->from, ROWS}, .until = {q->until, ROWS}, .wind_u = {q->wind_u, q->wind_u_len},
                           .wind_v = {q->wind_v, q->wind_v_len}, .scans = q->scans, .radius = {q->radius, q->plan_len},
-                          .limit = {q->limit, q->plan_len}, .mode = q->mode, .time = 1000);
+                          .limit = {q->limit, q->plan_len}, .mode = q->mode, .buddy = q->buddy,
+                          .buddy_radius = q->buddy_radius, .buddy_limit = q->buddy_limit, .time = 1000);
     request.rule = q->rule, request.age = 60;
     return request;
 }
@@ -319,6 +333,40 @@ static void mistakes_of_rules(Call *call, Request right) {
     }
 }
 
+// Numbers of a buddy check that are none: after those of the scans, and before 7 and 8. Off, neither is read.
+static void mistakes_of_buddies(Call *call, Request right) {
+    static const int32_t bad[][2] = {{0, 0},         {513, 0}, {-1, 0},        {INT32_MIN, 0},
+                                     {INT32_MAX, 0}, {1, -1},  {512, 2000001}, {1, INT32_MIN},
+                                     {1, INT32_MAX}, {0, -1},  {513, 2000001}, {INT32_MAX, -100}};
+    for (size_t b = 0; b < sizeof bad / sizeof *bad; b++) {
+        Results r;
+        right.buddy = true, right.buddy_radius = bad[b][0], right.buddy_limit = bad[b][1];
+        Request q = right;
+        refused(call, q, 6, 6, "refusal 6, buddies");
+        must(call(&q, &r) == 393222, "the number for bad buddies");
+        q.rule = 0, refused(call, q, 5, 0, "refusal 5 before buddies"), q = right;
+        q.radius[0] = 0, refused(call, q, 6, 0, "refusal 6, the first scan before buddies"), q = right;
+        q.scans = q.plan_len = 2, refused(call, q, 6, 1, "refusal 6, the last scan before buddies"), q = right;
+        q.first_guess[4] = SOSNYAVIK_MISSING, refused(call, q, 6, 6, "refusal 6, buddies, before 7"), q = right;
+        q.wind_u[1] = 101, refused(call, q, 6, 6, "refusal 6, buddies, before 8"), q = right;
+        q.buddy = false, must(call(&q, &r) == 0, "bad buddies where the check is off");
+    }
+}
+
+// The least and the greatest numbers of a buddy check; and with it the mistakes of all else.
+static void mistakes_with_buddies(Call *call, Request right) {
+    static const int32_t good[][2] = {{1, 0}, {512, 0}, {1, 2000000}, {512, 2000000}};
+    Results r;
+    mistakes_of_buddies(call, right);
+    right.buddy = true;
+    for (size_t g = 0; g < sizeof good / sizeof *good; g++) {
+        Request q = right;
+        q.buddy_radius = good[g][0], q.buddy_limit = good[g][1];
+        must(call(&q, &r) == 0, "buddies at their ends");
+    }
+    mistakes_of_rules(call, right);
+}
+
 static void mistakes_of_an_analysis(Call *call) {
     Request q = paper;
     q.verdict_len = 2, refused(call, q, 3, 0, "refusal 3");
@@ -392,6 +440,7 @@ static void no_windows(Call *call) {
     none.screen.points = 0;
     must(call(&none, &r) == 0 && memcmp(&r, &before, sizeof r) == 0, "a screen without windows");
     mistakes_of_rules(call, none);
+    mistakes_with_buddies(call, none);
 }
 
 // Bit for bit: positive zero is not negative zero.
@@ -451,18 +500,22 @@ static void reading_of_the_example(void) {
     says(sosnyavik_request_summarise(&request, whole), 0, 587 / 64.0, 12.0, 181 / 64.0);
 }
 
-// Not the same with x for y, left for top or u for v; one mast has no wind.
-static Request lopsided(uint32_t mode, uint32_t rule) {
-    Request q = paper;
-    q.y[0] = 32, q.value[0] = 700, q.until[2] = SOSNYAVIK_NO_END;
-    q.wind_u[0] = 100, q.wind_v[0] = -30, q.wind_u[2] = 0, q.wind_v[2] = 7;
-    q.mode = mode, q.rule = rule;
+static Request in_manner(Request q, Manner manner) {
+    q.mode = manner.mode, q.rule = manner.rule, q.buddy = manner.buddy;
     return q;
 }
 
+// Not the same with x for y, left for top or u for v; one mast has no wind, and one its neighbours set aside.
+static Request lopsided(Manner manner) {
+    Request q = paper;
+    q.y[0] = 32, q.value[0] = 700, q.until[2] = SOSNYAVIK_NO_END;
+    q.wind_u[0] = 100, q.wind_v[0] = -30, q.wind_u[2] = 0, q.wind_v[2] = 7;
+    return in_manner(q, manner);
+}
+
 // By name as by the plain call, over every window.
-static void same_by_name(uint32_t mode, uint32_t rule) {
-    Request q = lopsided(mode, rule);
+static void same_by_name(Manner manner) {
+    Request q = lopsided(manner);
     for (uint32_t w = 0; w < 81; w++) {
         Results plain, named;
         memset(&plain, UNTOUCHED, sizeof plain);
@@ -475,6 +528,7 @@ static void same_by_name(uint32_t mode, uint32_t rule) {
         must(memcmp(&plain, &named, sizeof plain) == 0, "the answer of a window by name");
         must(analyse(&q, &plain) == 0 && analyse_by_name(&q, &named) == 0, "an analysis by name");
         must(memcmp(&plain, &named, sizeof plain) == 0, "the answer of an analysis by name");
+        must(plain.verdict[1] == (manner.buddy ? 21 : 0), "the mast that its neighbours set aside");
     }
 }
 
@@ -498,10 +552,10 @@ static uint32_t one_by_one(Request *q, Blocks *b) {
 
 // Screens of one to sixteen windows, all windows among them, and ends that are none: by either call as by single
 // queries.
-static void same_as_single_queries(uint32_t mode, uint32_t rule) {
+static void same_as_single_queries(Manner manner) {
     static const uint32_t first[6] = {0, 0, 0, 1, 1, 2}, last[6] = {0, 1, 2, 1, 2, 2};
     Show *shows[] = {show, show_by_name};
-    Request q = lopsided(mode, rule);
+    Request q = lopsided(manner);
     for (uint32_t w = 0; w < 36 * MOST; w++) {
         Blocks single, shown;
         set_count(&q.screen, w % MOST + 1);
@@ -651,6 +705,105 @@ static void lone_masts(Call *call) {
     q.value[0] = 640 - 2500, must(call(&q, &r) == 0 && r.grid[0] == 640 - 962, "a half below zero");
 }
 
+// The example with all three masts in service, which differ by 128, -64 and 60. They stand on a line, 90.5 apart.
+static Request in_service(int32_t buddy_radius, int32_t buddy_limit) {
+    Request q = paper;
+    q.until[2] = SOSNYAVIK_NO_END;
+    q.buddy = true, q.buddy_radius = buddy_radius, q.buddy_limit = buddy_limit;
+    return q;
+}
+
+// Who is set aside in the first scan, and that the answer is else the one in which these say nothing.
+static void judges(Call *call, Request q, const uint8_t *verdict, const char *what) {
+    Results r, without;
+    must(call(&q, &r) == 0 && memcmp(r.verdict, verdict, sizeof r.verdict) == 0, what);
+    q.buddy = false;
+    for (size_t row = 0; row < ROWS; row++)
+        q.value[row] = verdict[row] == 0 ? q.value[row] : SOSNYAVIK_MISSING;
+    must(call(&q, &without) == 0, what);
+    must(memcmp(r.grid, without.grid, sizeof r.grid) == 0, what);
+    must(memcmp(r.support, without.support, sizeof r.support) == 0, what);
+}
+
+// The mast in the middle has two neighbours, from whose mean it differs by 130, and each of the others has one; up to a
+// radius of 90 nobody has any. At one place two of the three are set aside, each with the other for a neighbour.
+static void buddies(Call *call) {
+    static const uint8_t none[ROWS] = {0, 0, 0}, middle[ROWS] = {21, 0, 0}, two[ROWS] = {21, 21, 0};
+    static const uint8_t rejected[ROWS] = {0, 11, 0};
+    Request q = in_service(91, 130);
+    judges(call, q, none, "a mast as far from two buddies as it may be");
+    judges(call, in_service(91, 129), middle, "a mast one too far from two buddies");
+    judges(call, in_service(91, 0), middle, "masts with one neighbour each");
+    judges(call, in_service(90, 0), none, "masts with no neighbour");
+    q = in_service(91, 0), q.value[1] = 640 - 201, judges(call, q, rejected, "a neighbour that the limit takes before");
+    q = in_service(91, 130);
+    q.rule = SOSNYAVIK_LISTINGS, q.buddy_limit = 129, judges(call, q, middle, "buddies by the listings");
+    q = in_service(1, 129), q.x[1] = q.x[2] = q.y[1] = q.y[2] = 64, judges(call, q, two, "buddies at one place");
+    q = in_service(64, 0), q.x[1] = 0, q.y[1] = 64, q.x[2] = 128, q.y[2] = 64;
+    judges(call, q, none, "masts as far off as the radius of buddies");
+    q.buddy_radius = 65, judges(call, q, middle, "masts nearer than the radius of buddies");
+    q.buddy = false, judges(call, q, none, "masts that are not held to their neighbours");
+}
+
+// A post keeps its difference of 60, and two masts beside it that read as much above the first guess have none left
+// after the first scan. What the second scan sets aside has been heard in the first.
+static void buddies_in_two_scans(Call *call) {
+    Results r;
+    Request q = in_service(129, 60);
+    q.x[0] = -64, q.x[1] = 0, q.x[2] = 64, q.y[0] = q.y[1] = q.y[2] = 64;
+    q.value[0] = q.value[1] = q.value[2] = 700;
+    q.scans = q.plan_len = 2, q.radius[1] = 96;
+    must(call(&q, &r) == 0 && r.verdict[0] == 0 && r.grid[0] == 707, "a post that its buddies let pass twice");
+    q.buddy_limit = 59;
+    must(call(&q, &r) == 0 && r.verdict[0] == 22 && r.verdict[1] == 0 && r.verdict[2] == 0,
+         "buddies in the second scan");
+    must(r.grid[0] == 700 && r.support[0] == 3, "the grid after buddies in the second scan");
+    q.scans = 1, must(call(&q, &r) == 0 && r.verdict[0] == 0 && r.grid[0] == 700, "buddies in the first scan");
+    q = in_service(91, 129), q.scans = q.plan_len = 2, q.radius[1] = 96;
+    must(call(&q, &r) == 0 && r.verdict[0] == 21 && r.grid[4] == 638, "a mast that is set aside for good");
+}
+
+// By its true position, 200 units off, and not by the place on the border that it is held to.
+static void buddies_of_a_post(Call *call) {
+    Results r;
+    Request q = in_service(200, 100);
+    q.x[0] = -200, q.x[1] = q.x[2] = 0, q.y[0] = q.y[1] = q.y[2] = 64;
+    q.value[0] = 768, q.value[1] = q.value[2] = 640;
+    must(call(&q, &r) == 0 && r.verdict[0] == 0, "a post too far off to have buddies");
+    q.buddy_radius = 201;
+    must(call(&q, &r) == 0 && r.verdict[0] == 21 && r.verdict[1] == 0 && r.verdict[2] == 0, "a post with buddies");
+}
+
+// The first point hears the first mast, 64 units off with weight 1308, and the second, without weight. The third, too
+// far off to be heard there, helps the first to set the second aside; and then the first is alone.
+static void lone_by_its_buddies(Call *call) {
+    Results r;
+    Request q = by_listings(in_service(512, 100));
+    q.radius[0] = 73, q.buddy = false;
+    q.x[0] = 64, q.y[0] = 0, q.value[0] = 704;
+    q.x[1] = 12, q.y[1] = 72, q.value[1] = 540;
+    q.x[2] = 128, q.y[2] = 128, q.value[2] = 704;
+    must(call(&q, &r) == 0 && r.verdict[1] == 0 && r.grid[0] == 704, "two masts inside a radius");
+    q.buddy = true;
+    must(call(&q, &r) == 0 && r.verdict[1] == 21 && r.grid[0] == 648, "a mast alone when another is set aside");
+    must(r.verdict[0] == 0 && r.verdict[2] == 0 && r.support[0] == 1, "the buddies of a mast that is set aside");
+}
+
+// A request by name that says nothing of buddies has none, and then their numbers are not read.
+static void buddies_where_none_are_given(void) {
+    Results plain, r;
+    struct sosnyavik_request request = by_name(&paper), bare = SOSNYAVIK_REQUEST(), named = SOSNYAVIK_REQUEST(.nx = 3);
+    struct sosnyavik_results whole = {
+        .grid = {r.grid, POINTS}, .support = {r.support, POINTS}, .verdict = {r.verdict, ROWS}};
+    must(!bare.buddy && bare.buddy_radius == 0 && bare.buddy_limit == 0, "buddies where none are given");
+    must(!named.buddy && named.buddy_radius == 0 && named.buddy_limit == 0, "buddies that are not named");
+    request.buddy = bare.buddy, request.buddy_radius = bare.buddy_radius, request.buddy_limit = bare.buddy_limit;
+    must(analyse(&paper, &plain) == 0 && sosnyavik_request_analyse(&request, whole) == 0, "a request without buddies");
+    must(memcmp(&r, &plain, sizeof r) == 0, "the answer where no buddies are given");
+    request.buddy = true;
+    must(sosnyavik_request_analyse(&request, whole) == 393222, "a check by buddies without its numbers");
+}
+
 // A request by name that says nothing of a rule is one by the equations, and without SOSNYAVIK_REQUEST it has none.
 static void rule_where_none_is_given(void) {
     Results plain, r;
@@ -693,7 +846,7 @@ static void refuses_nothing(struct sosnyavik_request request) {
 }
 
 // What is left out of a request is refused, and no station is no mistake.
-static void left_out(uint32_t mode, uint32_t rule) {
+static void left_out(Manner manner) {
     Results r;
     struct sosnyavik_request zeroed, bare = SOSNYAVIK_REQUEST(), empty = by_name(&paper);
     struct sosnyavik_results whole = {.grid = {r.grid, POINTS}, .support = {r.support, POINTS}},
@@ -705,7 +858,8 @@ static void left_out(uint32_t mode, uint32_t rule) {
     bare.nx = bare.ny = 3, bare.first_guess = empty.first_guess;
     must(sosnyavik_request_analyse(&bare, whole) == 0x00050000, "a request without a plan");
     must(bare.mode == SOSNYAVIK_ROUND, "the mode where none is given");
-    bare.mode = mode, bare.rule = rule;
+    bare.mode = manner.mode, bare.rule = manner.rule;
+    bare.buddy = manner.buddy, bare.buddy_radius = empty.buddy_radius, bare.buddy_limit = empty.buddy_limit;
     bare.scans = empty.scans, bare.radius = empty.radius, bare.limit = empty.limit;
     must(sosnyavik_request_analyse(&bare, whole) == 0, "a request without stations");
     must(memcmp(r.grid, paper.first_guess, sizeof r.grid) == 0, "the grid without stations");
@@ -713,10 +867,9 @@ static void left_out(uint32_t mode, uint32_t rule) {
 }
 
 // As by the plain calls with sosnyavik_no_wind, whole, as a window and as a screen.
-static void winds_left_out(uint32_t mode, uint32_t rule) {
+static void winds_left_out(Manner manner) {
     Results whole[2], part[2], blocks[2];
-    Request q = paper;
-    q.mode = mode, q.rule = rule;
+    const Request q = in_manner(paper, manner);
     memset(whole, UNTOUCHED, sizeof whole), memset(part, UNTOUCHED, sizeof part);
     memset(blocks, UNTOUCHED, sizeof blocks);
     must(analyse(&q, &whole[0]) == 0 && window(&q, &part[0]) == 0 && screen(&q, &blocks[0]) == 0, "no winds");
@@ -729,13 +882,13 @@ static void winds_left_out(uint32_t mode, uint32_t rule) {
 }
 
 // A column that is left out beside one that is given is no column, and neither are two that are given with no rows.
-static void one_wind_left_out(uint32_t mode, uint32_t rule) {
+static void one_wind_left_out(Manner manner) {
     Results r;
-    struct sosnyavik_request request = by_name(&paper);
+    const Request q = in_manner(paper, manner);
+    struct sosnyavik_request request = by_name(&q);
     const struct sosnyavik_i32_column u = request.wind_u, v = request.wind_v, none = {NULL, 0};
     const struct sosnyavik_results whole = {
         .grid = {r.grid, POINTS}, .support = {r.support, POINTS}, .verdict = {r.verdict, ROWS}};
-    request.mode = mode, request.rule = rule;
     request.wind_u = none;
     must(sosnyavik_request_analyse(&request, whole) == 0x00040000, "wind_u left out alone");
     request.wind_u = u, request.wind_v = none;
@@ -746,16 +899,16 @@ static void one_wind_left_out(uint32_t mode, uint32_t rule) {
 
 // As many stations as there may be, and one more, which is refused: with winds left out, where there are no more marks
 // than that, and with winds.
-static void most_stations(uint32_t mode, uint32_t rule, bool windy) {
+static void most_stations(Manner manner, bool windy) {
     enum { TOO_MANY = SOSNYAVIK_MOST_STATIONS + 1 };
     static int32_t zeros[TOO_MANY];
     static uint32_t minutes[TOO_MANY], ends[TOO_MANY];
     static uint8_t verdict[TOO_MANY];
     Results r;
-    struct sosnyavik_request request = by_name(&paper);
+    const Request q = in_manner(paper, manner);
+    struct sosnyavik_request request = by_name(&q);
     struct sosnyavik_results whole = {.grid = {r.grid, POINTS}, .support = {r.support, POINTS}};
     memset(ends, UNTOUCHED, sizeof ends);
-    request.mode = mode, request.rule = rule;
     for (size_t rows = SOSNYAVIK_MOST_STATIONS; rows <= TOO_MANY; rows++) {
         request.x = request.y = request.value = (struct sosnyavik_i32_column){zeros, rows};
         request.observed = request.from = (struct sosnyavik_u32_column){minutes, rows};
@@ -771,14 +924,21 @@ static void marks(void) {
         must(sosnyavik_no_wind()[row] == SOSNYAVIK_MISSING, "a mark of sosnyavik_no_wind");
 }
 
-static void in_manner(uint32_t mode, uint32_t rule) {
-    same_by_name(mode, rule);
-    same_as_single_queries(mode, rule);
-    winds_left_out(mode, rule);
-    one_wind_left_out(mode, rule);
-    most_stations(mode, rule, false);
-    most_stations(mode, rule, true);
-    left_out(mode, rule);
+static void try_manner(Manner manner) {
+    same_by_name(manner);
+    same_as_single_queries(manner);
+    winds_left_out(manner);
+    one_wind_left_out(manner);
+    most_stations(manner, false);
+    most_stations(manner, true);
+    left_out(manner);
+}
+
+// Each mode with each rule, with buddies and without.
+static void try_manners(void) {
+    for (uint32_t m = 0; m < 8; m++)
+        try_manner((Manner){m % 2 == 0 ? SOSNYAVIK_ROUND : SOSNYAVIK_ALONG_WIND,
+                            m / 2 % 2 == 0 ? SOSNYAVIK_EQUATIONS : SOSNYAVIK_LISTINGS, m / 4 == 1});
 }
 
 int main(void) {
@@ -790,6 +950,9 @@ int main(void) {
         mistakes_of_rules(analyses[i], paper);
         mistakes_of_rules(windows[i], paper);
         mistakes_of_rules(screens[i], paper);
+        mistakes_with_buddies(analyses[i], paper);
+        mistakes_with_buddies(windows[i], paper);
+        mistakes_with_buddies(screens[i], paper);
         mistakes_of_an_analysis(analyses[i]);
         mistakes_of_a_window(windows[i]);
         mistakes_of_columns(screens[i]);
@@ -800,18 +963,20 @@ int main(void) {
         post_in_two_scans(analyses[i]);
         weights(analyses[i]);
         lone_masts(analyses[i]);
+        buddies(analyses[i]);
+        buddies_in_two_scans(analyses[i]);
+        buddies_of_a_post(analyses[i]);
+        lone_by_its_buddies(analyses[i]);
     }
     readings();
     summaries();
     reading_of_the_example();
     rule_where_none_is_given();
+    buddies_where_none_are_given();
     age_where_none_is_given();
     marks();
-    for (uint32_t rule = SOSNYAVIK_EQUATIONS; rule <= SOSNYAVIK_LISTINGS; rule++) {
-        in_manner(SOSNYAVIK_ROUND, rule);
-        in_manner(SOSNYAVIK_ALONG_WIND, rule);
-    }
-    puts("header: the examples, posts, weights, winds, lone stations by both rules, screens, and the mistakes for "
-         "refusals 1 to 8, answer as include/sosnyavik.h says, by name too");
+    try_manners();
+    puts("header: the examples, posts, weights, winds, lone stations by both rules, buddies, screens, and the mistakes "
+         "for refusals 1 to 8, answer as include/sosnyavik.h says, by name too");
     return 0;
 }

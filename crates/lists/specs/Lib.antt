@@ -10,3 +10,4 @@ pub mod Keep
 pub mod Parted
 pub mod Each
 pub mod Turns
+pub mod Chains

@@ -71,3 +71,16 @@ unfolding upTo
 upTo-size zero f g h = omega arith
 upTo-size (suc n) f g h =
     omega (arith, size-add (upTo (pos 0) _+ℤ_ n f) (f n), upTo-size n f g (λ k l. h k (omega arith)), h n (omega arith))
+
+-- two sums over one index are one
+module _ {S : Type 0} (nil : S) (plus : S → S → S) (nil-plus : (t : S) → plus nil t ≡ t)
+    (assoc : (a b c : S) → plus (plus a b) c ≡ plus a (plus b c)) (comm : (a b : S) → plus a b ≡ plus b a) where
+  exchange : (a b c d : S) → plus (plus a b) (plus c d) ≡ plus (plus a c) (plus b d)
+  exchange a b c d =
+      assoc a b (plus c d) ∙ ap (plus a) (sym (assoc b c d) ∙ ap (λ (t : S). plus t d) (comm b c) ∙ assoc c b d) ∙ sym (assoc a c (plus b d))
+
+  pub upTo-both : (n : ℕ) (f g : ℕ → S) → plus (upTo nil plus n f) (upTo nil plus n g) ≡ upTo nil plus n (λ k. plus (f k) (g k))
+  unfolding upTo
+  upTo-both zero f g = nil-plus nil
+  upTo-both (suc n) f g =
+      exchange (upTo nil plus n f) (f n) (upTo nil plus n g) (g n) ∙ ap (λ (t : S). plus t (plus (f n) (g n))) (upTo-both n f g)

@@ -1,16 +1,17 @@
 // A request as it is handed on: its terms in one struct, its stations as rows of two tables, numbers and minutes; and a window, or the windows of a
 // screen. Each column that a call is lent is read here, once.
 ghost use mathlib.Core.Path.{_≡_};
+ghost use mathlib.Core.Bool.{true};
 ghost use mathlib.Core.List.{[]};
 ghost use Prim.Native.Nat.{_≤_};
 ghost use lib.ListN.{length};
 ghost use Rattle.lists.specs.Tab.{tab};
 ghost use Rattle.lists.specs.Filled.{Filled};
-ghost use Rattle.scheme.specs.Units.{mostSide, mostStations, stationsOf, mostScans};
+ghost use Rattle.scheme.specs.Units.{mostSide, mostStations, stationsOf, mostScans, B, L};
 ghost use Rattle.scheme.specs.Refusals.{windowsOf, pointsOf};
 ghost use Rattle.scheme.specs.Promises.{eightColumns, fourColumns};
-ghost use Rattle.scheme.specs.Accepted.{Equal, OnGrid, EqualScreen};
-ghost use Rattle.request.specs.Tables.{stationIn, windowIn, windowNo, windowsIn};
+ghost use Rattle.scheme.specs.Accepted.{Equal, Checked, OnGrid, EqualScreen};
+ghost use Rattle.request.specs.Tables.{stationIn, planIn, windowIn, windowNo, windowsIn};
 ghost use Rattle.request.specs.Loaded.{First, Termed, numbersAt, minutesAt};
 
 // Places in a row of numbers.
@@ -138,6 +139,22 @@ pub fn terms_of(
         time,
         age,
     }
+}
+
+// B, which is 0 where the buddy check is off.
+pub fn buddy_radius(t: Terms) -> u32
+    requires { ⌜ (t .buddy ≡ true → Checked (planIn t)) ⌝ }
+    ensures { λ r. ⌜ r ≡ B (planIn t) ⌝ }
+{
+    if t.buddy { t.buddy_radius as u32 } else { 0 }
+}
+
+// L, of a check that is on.
+pub fn buddy_limit(t: Terms) -> u32
+    requires { ⌜ Checked (planIn t) ⌝ }
+    ensures { λ r. ⌜ r ≡ L (planIn t) ⌝ }
+{
+    t.buddy_limit as u32
 }
 
 // ---- the tables

@@ -8,6 +8,7 @@ use mathlib.Core.List.{List, [], _∷_}
 use borrow.Author.Tests.{leb-true, not-false}
 use lib.ListN.{length, getD}
 use lib.IntN.{ℤ, pos, negsuc, natAbs}
+use Rattle.integers.specs.Parts.{dn}
 use Rattle.lists.specs.Tests.{and-true}
 use Rattle.lists.specs.Tab.{tab, length-tab, getD-tab, is-tab, map-tab, tab-same}
 use Rattle.scheme.specs.Units.{isMissing, mostSide, stored, fieldOf, step, Station, mostBeyond, guess}
@@ -49,6 +50,12 @@ unfolding nearAxis
 near-small n (pos x) few e = omega (arith, leb-true x (step * (n - 1) + mostBeyond) e)
 near-small n (negsuc x) few e = omega (arith, leb-true (suc x) mostBeyond e)
 
+-- nor beyond its first point
+near-low : (n : ℕ) (x : ℤ) → nearAxis mostBeyond n x ≡ true → dn x ≤ mostBeyond
+unfolding nearAxis
+near-low n (pos x) e = omega arith
+near-low n (negsuc x) e = leb-true (suc x) mostBeyond e
+
 -- the verdict of row k before the first scan
 abbrev pub firstAt : Terms → List (List ℤ) → List (List ℕ) → ℕ → ℕ
 firstAt t numbers minutes k = beforeScans mostBeyond (t .nx) (t .ny) (t .time) (t .age) (stationIn numbers minutes k)
@@ -72,7 +79,13 @@ module _ (t : Terms) (first : List ℤ) (numbers : List (List ℤ)) (minutes : L
   unfolding stationOf
   heard k h e =
       let (there, x, y) = accepted-near (t .nx) (t .ny) (t .time) (t .age) (stationIn numbers minutes k) (sym (verdict-is k h) ∙ e) in
-      record { x = near-small (t .nx) _ (sound .shape .few-columns) x; y = near-small (t .ny) _ (sound .shape .few-rows) y; value = in-range k h .value there }
+      record {
+        x = near-small (t .nx) _ (sound .shape .few-columns) x;
+        y = near-small (t .ny) _ (sound .shape .few-rows) y;
+        x-low = near-low (t .nx) _ x;
+        y-low = near-low (t .ny) _ y;
+        value = in-range k h .value there;
+      }
 
   pub begun : {z : List ℤ} {sup : List ℕ} {len : ℕ} → z ≡ first → len ≡ t .nx * t .ny → sup ≡ tab len (λ k. 0) → Reached t first numbers minutes 0 z sup st
   unfolding afterWithin start guess stored

@@ -7,7 +7,8 @@ use mathlib.Core.List.{List, []}
 use lib.Dec.{ltb}
 use lib.ListN.{length, getD}
 use lib.IntN.{ℤ, pos, natAbs, _-ℤ_}
-use Rattle.scheme.specs.Units.{mostValue, Station, fieldOf, mostStations, mostScans}
+use Rattle.integers.specs.Parts.{dn}
+use Rattle.scheme.specs.Units.{mostValue, Station, fieldOf, mostStations, mostBeyond, mostScans}
 use Rattle.scheme.specs.Verdicts.{onGrid, isAccepted}
 use Rattle.scheme.specs.Value.{sumAt, valueAt}
 use Rattle.scheme.specs.Difference.{difference, afterTest}
@@ -28,6 +29,8 @@ mast row = stationOf row []
 pub record Heard (row : List ℤ) : Type 0 where
   pub x : natAbs (getD row 0 (pos 0)) ≤ mostAlong
   pub y : natAbs (getD row 1 (pos 0)) ≤ mostAlong
+  pub x-low : dn (getD row 0 (pos 0)) ≤ mostBeyond
+  pub y-low : dn (getD row 1 (pos 0)) ≤ mostBeyond
   pub value : natAbs (getD row 2 (pos 0)) ≤ mostValue
 
 -- every accepted row is heard

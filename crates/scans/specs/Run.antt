@@ -64,6 +64,7 @@ module _ {t : Terms} {guess : List ℤ} {numbers : List (List ℤ)} {minutes : L
           len-st = now .holds .long;
           long = long;
           entry = (few-scans, now .sound .plan .scan m turn);
+          checks = now .sound .plan .checks;
           bit-is = bit-is;
           heard = now .heard;
           known = now .sound .plan .known;

@@ -1,6 +1,7 @@
 // The work on an accepted request (document 01, "One scan"): the start, then the scans of the plan, in the slices that the results go to.
 ghost use mathlib.Core.Path.{_≡_};
 ghost use lib.ListN.{length};
+ghost use Rattle.lists.specs.Filled.{Filled};
 ghost use Rattle.scheme.specs.Units.{mostStations, R, E};
 ghost use Rattle.scheme.specs.Scan.{analysis};
 ghost use Rattle.scheme.specs.Promises.{slices};
@@ -9,7 +10,7 @@ ghost use Rattle.request.specs.Tables.{planIn, requestIn};
 ghost use Rattle.scheme.specs.Bounds.{Small};
 ghost use Rattle.scan_point.specs.Round.{Roomy};
 ghost use Rattle.scans.specs.Scanned.{Scanned};
-ghost use Rattle.scans.specs.Ready.{EntryIn, ScanReady, smoothedIf};
+ghost use Rattle.scans.specs.Ready.{EntryIn, ScanReady, BuddiesReady, asideIn, smoothedIf};
 use request::Terms;
 
 // The radius and the limit of scan number m + 1.
@@ -27,6 +28,24 @@ fn limit_of(t: Terms, m: usize) -> u32
     t.limit[m] as u32
 }
 
+// The buddy check, if it is on.
+fn buddies_if(verdict: &mut [u8], d: &[i64; 512], t: Terms, numbers: &[[i32; 5]; 512], scan: u8)
+    requires { ⌜ BuddiesReady t (now numbers) scan (now verdict) (now d) ⌝ }
+    ensures { λ u. ⌜ Filled 0 (asideIn t (now (numbers .entry)) scan (now (verdict .entry)) (now (d .entry))) 0 (t .stations) (now (verdict .entry)) (now (verdict .exit)) ⌝ }
+{
+    if t.buddy {
+        scan_buddies::set_aside(
+            verdict,
+            d,
+            numbers,
+            t.stations,
+            request::buddy_radius(t),
+            request::buddy_limit(t),
+            scan,
+        );
+    }
+}
+
 // Smoothing, if it is on.
 fn smooth_if(z: &mut [i32], t: Terms)
     requires { ⌜ Shaped (t .nx) (t .ny) (length (now z)) × Small (now z) ⌝ }
@@ -37,7 +56,8 @@ fn smooth_if(z: &mut [i32], t: Terms)
     }
 }
 
-// Scan number m + 1, whose bit is 2^m: all stations are judged before any point changes, then all points are corrected, then smoothed.
+// Scan number m + 1, whose bit is 2^m: all stations are judged before any point changes, by the E test and by their buddies, then all points are corrected,
+// then smoothed.
 fn scan(
     z: &mut [i32],
     support: &mut [u8],
@@ -57,7 +77,9 @@ fn scan(
         × (length (now (d .exit)) ≡ mostStations) × Roomy (now (lx .exit)) (now (ly .exit)) (now (ld .exit)) ⌝ }
 {
     let limit = limit_of(t, m);
-    scan_station::judge(guess, z, verdict, d, t, numbers, limit, (m as u8) + 1);
+    let scan = (m as u8) + 1;
+    scan_station::judge(guess, z, verdict, d, t, numbers, limit, scan);
+    buddies_if(verdict, d, t, numbers, scan);
     scan_correct::correct(
         z,
         support,

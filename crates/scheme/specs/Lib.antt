@@ -43,6 +43,7 @@ pub mod Entries
 pub mod Posts
 pub mod Winds
 pub mod Lone
+pub mod BuddyCheck
 pub mod Axes
 pub mod Laws
 pub mod Near

@@ -4,7 +4,7 @@ ghost use mathlib.Core.Path.{_≡_};
 ghost use mathlib.Core.Bool.{cond};
 ghost use Prim.Native.Nat.{_+_, _-_, _*_, _/_, _≤_, min};
 ghost use lib.IntN.{pos, natAbs, _-ℤ_};
-ghost use Rattle.scheme.specs.Units.{mostSide, step, mostPosition, mostRadius, mostBuddyRadius, B};
+ghost use Rattle.scheme.specs.Units.{mostSide, step, mostPosition, mostRadius, mostBuddyRadius};
 ghost use Rattle.scheme.specs.Reach.{reach, widened, onSpan};
 ghost use Rattle.scheme.specs.Most.{mostReach};
 ghost use Rattle.scheme.specs.Accepted.{Shaped, Planned, OnGrid};
@@ -12,14 +12,6 @@ ghost use Rattle.request.specs.Tables.{planIn, windowIn};
 ghost use Rattle.window_spans.specs.Spans.{fromTo, rowOn, Placed, countedRow};
 
 // ---- the reach, and the cut
-
-// B, which is 0 where the buddy check is off.
-fn near_of(t: request::Terms) -> u32
-    requires { ⌜ Planned (planIn t) ⌝ }
-    ensures { λ r. ⌜ r ≡ B (planIn t) ⌝ }
-{
-    if t.buddy { t.buddy_radius as u32 } else { 0 }
-}
 
 // What one scan adds to the reach: R/64 rounded up, plus 1 if smoothing is on. R + B stands for R.
 fn steps(radius: u32, near: u32, smooth: bool) -> usize
@@ -35,7 +27,7 @@ pub fn reach(t: request::Terms) -> usize
     requires { ⌜ Planned (planIn t) ⌝ }
     ensures { λ r. ⌜ (r ≤ mostReach) × (r ≡ reach (planIn t)) ⌝ }
 {
-    let near = near_of(t);
+    let near = request::buddy_radius(t);
     let mut total: usize = 0;
     let mut m: usize = 0;
     while m < t.scans {

@@ -1,7 +1,6 @@
 -- `window_spans::reach` meets its contract. The loop's invariant: the total is that of the scans passed. Assumes nothing.
 use Prim.Native.Nat.{_+_, _-_, _*_, _/_, _≤_}
 use native.Mathlib.Omega.{arith}
-use borrow.Author.Needs.{needs}
 use mathlib.Core.Path.{_≡_, ap, _∙_}
 use lib.ListN.{getD}
 use lib.IntN.{ℤ, pos}
@@ -34,14 +33,14 @@ module _ (c : tie.In-loop Inv-loop μ-loop) where
   radius-back : toZ w32 (ofZ w32 (getD (p .radius) (c .before .loop .m) (pos 0))) ≡ pos (R p (c .before .loop .m))
   radius-back = ap (λ (v : ℤ). toZ w32 (ofZ w32 v)) (scan .radius-is) ∙ bits-back w32 (pos (R p (c .before .loop .m))) (omega (arith, scan .radius-most))
 
-  near-is : c .before .before .near-of .result ≡ B p
-  near-is = c .before .before .near-of .ensures
+  near-is : c .before .before .buddy-radius .result ≡ B p
+  near-is = c .before .before .buddy-radius .ensures
 
   near-most : B p ≤ mostBuddyRadius
   near-most = few-B p (c .before .before .before .pre .checks)
 
-near-of-requires : tie.Need-near-of-requires Inv-loop μ-loop
-near-of-requires c κs = search needs
+buddy-radius-requires : tie.Need-buddy-radius-requires Inv-loop μ-loop
+buddy-radius-requires c κs = c .pre .checks
 
 loop-holds : tie.Need-loop-holds Inv-loop μ-loop
 loop-holds c = (omega arith, omega arith, reach-none (planIn (c .before .args .t1)))
@@ -94,7 +93,7 @@ reach-spec =
     (tie.spec
     Inv-loop
     μ-loop
-    near-of-requires
+    buddy-radius-requires
     loop-holds
     mul-steps
     element-copy-out-steps

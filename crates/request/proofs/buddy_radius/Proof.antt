@@ -1,4 +1,4 @@
--- `window_spans::near_of` meets its contract: B in range is a natural number. Assumes nothing.
+-- `request::buddy_radius` meets its contract: B in range is a natural number. Assumes nothing.
 use native.Mathlib.Omega.{arith}
 use mathlib.Core.Path.{_≡_, ap, _∙_}
 use lib.IntN.{ℤ, pos, natAbs}
@@ -7,14 +7,14 @@ use mir.Val.{toZ, ofZ}
 use Rattle.integers.specs.Words.{bits-back}
 use Rattle.scheme.specs.Units.{B}
 use Rattle.scheme.specs.Accepted.{Checked}
 use Rattle.request.specs.Tables.{planIn}
-use Rattle.window_spans.proofs.near_of.Statement.{statement}
-use Rattle.window_spans.proofs.near_of.Tie as tie
+use Rattle.request.proofs.buddy_radius.Statement.{statement}
+use Rattle.request.proofs.buddy_radius.Tie as tie
 
 -- the check is on
 module _ (c : tie.After-struct-told) where
   check : Checked (planIn (c .before .before .before .args .t))
-  check = c .before .before .before .pre .checks (c .before .before .if1 .taken)
+  check = c .before .before .before  .pre (c .before .before .if1 .taken)
 
   radius-is : toZ w32 (ofZ w32 (c .before .before .before .args .t .«buddy_radius»)) ≡ pos (B (planIn (c .before .before .before .args .t)))
   radius-is =
@@ -31,5 +31,5 @@ returns-2 : tie.Need-returns-2
 unfolding B
 returns-2 c = rw (c .if1 .left)
 
-pub near-of-spec : {M : Type 1} → statement M
-near-of-spec = tie.close (tie.spec cast-result returns returns-2)
+pub buddy-radius-spec : {M : Type 1} → statement M
+buddy-radius-spec = tie.close (tie.spec cast-result returns returns-2)
