@@ -3,6 +3,7 @@ use Prim.Native.Nat.{ℕ, zero, suc, _+_, _*_, _/_, _%_, _^_, _≤_, _<_}
 use native.Mathlib.Omega.{arith}
 use native.Mathlib.Nat.{mul-comm}
 use mathlib.Core.Path.{_≡_, refl, sym, ap, subst, _∙_}
+use mathlib.Core.Bool.{Bool, false, true}
 use mathlib.Core.List.{List, [], _∷_, _++_}
 use borrow.Author.Tests.{le-ltb}
 use lib.ListN.{length, take, drop, length-append, length-map}
@@ -88,8 +89,13 @@ unfolding refusedAt
 number-at number nowhere h = tt
 number-at number (at k) h = h
 
+number-with : (number place : ℕ) (bad : Bool) → 1 ≤ number → Numbered (refusedWith number place bad)
+unfolding refusedWith
+number-with number place false h = tt
+number-with number place true h = h
+
 refusal-numbered : (q : Request) → Numbered (inOrder (fromSix q))
-refusal-numbered q = numbered (more (number-at 6 _ (omega arith)) (more (number-at 7 _ (omega arith)) (more (number-at 8 _ (omega arith)) none)))
+refusal-numbered q = numbered (more (number-at 6 _ (omega arith)) (more (number-with 6 _ _ (omega arith)) (more (number-at 7 _ (omega arith)) (more (number-at 8 _ (omega arith)) none))))
 
 none-if-zero : (f : Refusal) → Numbered f → asOne f ≡ 0 → f ≡ accepted
 none-if-zero accepted h e = refl

@@ -1,4 +1,4 @@
--- What reading the lines before the scans answers, as the definitions of the text say it.
+-- What reading the lines before the scans answers, and the line of the buddy check, as the definitions of the text say it.
 use Prim.Native.Nat.{ℕ, _≤_}
 use mathlib.Core.Path.{_≡_}
 use mathlib.Core.Bool.{Bool}
@@ -6,7 +6,7 @@ use mathlib.Core.List.{List}
 use lib.Dec.{eqb}
 use lib.ListN.{drop}
 use lib.IntN.{ℤ}
-use Rattle.scheme.specs.Units.{leastSide, mostSide, mostScans, roundMode, Request}
+use Rattle.scheme.specs.Units.{leastSide, mostSide, mostScans, roundMode, Buddies, Request}
 use Rattle.scheme.specs.Text.{defaultAge, defaultRule}
 use Rattle.scheme.specs.Text.Reader.{fails, _>>=_, gives, _or_}
 use Rattle.scheme.specs.Text.Pieces.{Piece}
@@ -16,11 +16,12 @@ use Rattle.scheme.specs.RoundTrip.{timeLine, ageLine, smoothLine, ruleLine, sca
 use Rattle.scheme.specs.Accepted.{Ruled}
 use Rattle.request.specs.declared.Terms.{Terms}
 use Rattle.text_head.specs.declared.Head.{Head}
+use Rattle.text_head.specs.declared.Buddy.{Buddy}
 use Rattle.text_head.specs.declared.HeadRead.{HeadRead}
 use Rattle.text_head.specs.declared.HeadRead.the-variants.{Value as HeadValue, NotInForm as NotHead}
 
 -- a line that may be left out, and what it then means
-abbrev pub lineOr : Piece ℕ → ℕ → Text ℕ
+abbrev pub lineOr : {A : Type 0} → Piece A → A → Text A
 lineOr p other = line p or gives other
 
 -- the lines before the scans, and then what they call for
@@ -53,7 +54,26 @@ abbrev pub Heads : List ℕ → HeadRead → Type 0
 Heads s (HeadValue h) = HeadIs s h
 Heads s (NotHead k) = (next : (nx ny time age : ℕ) → Bool → (rule scans : ℕ) → Text Request) → headThen next (1, s) ≡ fails k
 
--- a request whose head was read, as terms
-abbrev pub termsRead : Head → ℕ → (radius limit : List ℤ) → Terms
-termsRead h n radius limit =
-    record { nx = h .nx; ny = h .ny; stations = n; scans = h .scans; radius = radius; limit = limit; smooth = h .smooth; mode = roundMode; rule = h .rule; time = h .time; age = h .age }
+-- what the line of the buddy check says
+abbrev pub buddiesRead : Buddy → Buddies
+buddiesRead b = record { on = b .on; radius = b .radius; limit = b .limit }
+
+-- a request whose head and buddy check were read, as terms
+abbrev pub termsRead : Head → Buddy → ℕ → (radius limit : List ℤ) → Terms
+termsRead h b n radius limit =
+    record {
+      nx = h .nx;
+      ny = h .ny;
+      stations = n;
+      scans = h .scans;
+      radius = radius;
+      limit = limit;
+      smooth = h .smooth;
+      mode = roundMode;
+      rule = h .rule;
+      buddy = b .on;
+      «buddy_radius» = b .radius;
+      «buddy_limit» = b .limit;
+      time = h .time;
+      age = h .age;
+    }

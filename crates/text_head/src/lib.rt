@@ -1,12 +1,15 @@
-// The head of the request text (document 01): the lines before the scans.
+// The head of the request text (document 01): the lines before the scans; and the line of the buddy check (document 02, 7), which stands after
+// them.
 ghost use mathlib.Core.Path.{_≡_};
-ghost use Prim.Native.Nat.{_+_, _≤_};
+ghost use Prim.Native.Nat.{_+_, _≤_, _<_, _^_};
 ghost use lib.ListN.{drop};
+ghost use Rattle.scheme.specs.Units.{noBuddies};
 ghost use Rattle.scheme.specs.Text.Reader.{reads};
 ghost use Rattle.scheme.specs.Text.Pieces.{count};
-ghost use Rattle.scheme.specs.Text.Lines.{number};
-ghost use Rattle.text_head.specs.Head.{lineOr, Heads, termsRead};
+ghost use Rattle.scheme.specs.Text.Lines.{number, buddyLine};
+ghost use Rattle.text_head.specs.Head.{lineOr, Heads, buddiesRead, termsRead};
 use request::Terms;
+use text_lines::EntryRead;
 use text_lines::SizeRead;
 use text_pieces::UnsignedRead;
 
@@ -38,6 +41,15 @@ pub struct Head {
 pub enum HeadRead {
     Value(Head),
     NotInForm(u32),
+}
+
+// What the line of the buddy check says, or that the check is off; the number of the line after it, and its place.
+pub struct Buddy {
+    pub on: bool,
+    pub radius: i32,
+    pub limit: i32,
+    pub line: u32,
+    pub next: usize,
 }
 
 // A line that says one number, in low..high, and may be left out: then it says `other`.
@@ -110,9 +122,32 @@ pub fn head_lines(s: &[u8]) -> HeadRead
     HeadRead::Value(h)
 }
 
-// A request whose head was read, as terms. A text's weights are round.
-pub fn terms_read(h: Head, stations: u32, radius: [i32; 6], limit: [i32; 6]) -> Terms
-    ensures { λ t. ⌜ t ≡ termsRead h stations radius limit ⌝ }
+// The line of the buddy check, which may be left out: then the check is off.
+pub fn buddy_line(s: &[u8], at: usize, line: u32) -> Buddy
+    requires { ⌜ line + 1 < 2 ^ 32 ⌝ }
+    ensures { λ r. ⌜ (lineOr buddyLine noBuddies (line, drop at (now (s .entry))) ≡ reads (buddiesRead r) (r .line, drop (r .next) (now (s .entry)))) × (r .line ≤ line + 1) ⌝ }
+{
+    let EntryRead::Value(radius, limit, next) = text_lines::entry_line(s, at, b"buddy=") else {
+        return Buddy {
+            on: false,
+            radius: 0,
+            limit: 0,
+            line,
+            next: at,
+        };
+    };
+    Buddy {
+        on: true,
+        radius,
+        limit,
+        line: line + 1,
+        next,
+    }
+}
+
+// A request whose head and buddy check were read, as terms. A text's weights are round.
+pub fn terms_read(h: Head, b: Buddy, stations: u32, radius: [i32; 6], limit: [i32; 6]) -> Terms
+    ensures { λ t. ⌜ t ≡ termsRead h b stations radius limit ⌝ }
 {
     Terms {
         nx: h.nx as usize,
@@ -124,6 +159,9 @@ pub fn terms_read(h: Head, stations: u32, radius: [i32; 6], limit: [i32; 6]) -> 
         smooth: h.smooth,
         mode: request::ROUND,
         rule: h.rule,
+        buddy: b.on,
+        buddy_radius: b.radius,
+        buddy_limit: b.limit,
         time: h.time,
         age: h.age,
     }

@@ -6,7 +6,7 @@ ghost use mathlib.Core.List.{[], _∷_};
 ghost use Rattle.scheme.specs.Units.{mostStations};
 ghost use Rattle.scheme.specs.Text.Reader.{_before_};
 ghost use Rattle.scheme.specs.Text.Pieces.{word, count, signed, mark, values};
-ghost use Rattle.scheme.specs.Text.Lines.{number, gridLine, scanLine, rowLine, observation, end};
+ghost use Rattle.scheme.specs.Text.Lines.{number, gridLine, entryLine, rowLine, observation, end};
 ghost use Rattle.text_pieces.specs.Told.{unsignedTold, signedTold, Within};
 ghost use Rattle.text_lines.specs.Station.{stationNumbers, stationMinutes, RowIs, StationIs};
 ghost use Rattle.text_lines.specs.Told.{Sizes, entryTold, valuesTold};
@@ -68,10 +68,11 @@ pub fn grid_line(s: &[u8], at: usize) -> SizeRead
     SizeRead::Value(nx, ny, next)
 }
 
-pub fn scan_line(s: &[u8], at: usize) -> EntryRead
-    ensures { λ r. ⌜ scanLine (drop at (now (s .entry))) ≡ entryTold (now (s .entry)) r ⌝ }
+// A line that says a radius and a limit: that of a scan, and that of the buddy check.
+pub fn entry_line(s: &[u8], at: usize, key: &[u8]) -> EntryRead
+    ensures { λ r. ⌜ entryLine (now (key .entry)) (drop at (now (s .entry))) ≡ entryTold (now (s .entry)) r ⌝ }
 {
-    let WordRead::At(p) = text_pieces::word_at(s, at, b"scan=") else {
+    let WordRead::At(p) = text_pieces::word_at(s, at, key) else {
         return EntryRead::NotInForm;
     };
     let SignedRead::Value(radius, q) = signed_in_line(s, p, b',') else {

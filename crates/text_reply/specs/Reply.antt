@@ -16,6 +16,7 @@ use Rattle.scheme.specs.Accepted.{Formed}
 use Rattle.request.specs.Tables.{stationIn, requestIn}
 use Rattle.request.specs.Loaded.{Held, same-refusal, same-analysis}
 use Rattle.text_head.specs.declared.Head.{Head}
+use Rattle.text_head.specs.declared.Buddy.{Buddy}
 use Rattle.text_head.specs.Head.{Limits, termsRead}
 use Rattle.text_request.specs.declared.RequestRead.{RequestRead}
 use Rattle.text_request.specs.declared.RequestRead.the-variants.{Value, NotInForm}
@@ -39,12 +40,12 @@ module _ (guess radius limit : List ℤ) (numbers : List (List ℤ)) (minutes : 
   pub not-in-form : (read : RequestRead) (line : ℕ) → read ≡ NotInForm line → inForm (requestTold guess radius limit numbers minutes read) ≡ firstTwo 9 line
   not-in-form read line e = rw e
 
-  module _ (h : Head) (n : ℕ) (limits : Limits h) (few : n ≤ mostStations) (points : length guess ≡ mostPoints) (radii : length radius ≡ mostScans) (long : length limit ≡ mostScans) where
+  module _ (h : Head) (b : Buddy) (n : ℕ) (limits : Limits h) (few : n ≤ mostStations) (points : length guess ≡ mostPoints) (radii : length radius ≡ mostScans) (long : length limit ≡ mostScans) where
     abbrev front : List ℤ
     front = take (h .ny * h .nx) guess
 
     -- the terms and tables hold the request that was read
-    held : Held (termsRead h n radius limit) front numbers minutes (requestRead guess radius limit numbers minutes h n)
+    held : Held (termsRead h b n radius limit) front numbers minutes (requestRead guess radius limit numbers minutes h b n)
     held =
         record {
           nx-is = refl;
@@ -57,6 +58,7 @@ module _ (guess radius limit : List ℤ) (numbers : List (List ℤ)) (minutes : 
                 smooth = refl;
                 mode = refl;
                 rule = refl;
+                buddies = refl;
                 radii = λ m l. sym (getD-take (h .scans) radius m (pos 0) l);
                 limits = λ m l. sym (getD-take (h .scans) limit m (pos 0) l);
               };
@@ -64,7 +66,7 @@ module _ (guess radius limit : List ℤ) (numbers : List (List ℤ)) (minutes : 
           age-is = refl;
         }
 
-    pub formed : Formed (requestIn (termsRead h n radius limit) front numbers minutes)
+    pub formed : Formed (requestIn (termsRead h b n radius limit) front numbers minutes)
     formed =
         record {
           shape =
@@ -85,7 +87,7 @@ module _ (guess radius limit : List ℤ) (numbers : List (List ℤ)) (minutes : 
         }
 
     -- and so does the request itself
-    formed-read : Formed (requestRead guess radius limit numbers minutes h n)
+    formed-read : Formed (requestRead guess radius limit numbers minutes h b n)
     formed-read =
         record {
           shape = formed .shape;
@@ -98,18 +100,18 @@ module _ (guess radius limit : List ℤ) (numbers : List (List ℤ)) (minutes : 
           ruled = limits .ruled;
         }
 
-    same-reply : replyText (requestRead guess radius limit numbers minutes h n) ≡ replyText (requestIn (termsRead h n radius limit) front numbers minutes)
+    same-reply : replyText (requestRead guess radius limit numbers minutes h b n) ≡ replyText (requestIn (termsRead h b n radius limit) front numbers minutes)
     unfolding replyText
     same-reply =
         rw (
-          five-accepts (requestRead guess radius limit numbers minutes h n) formed-read,
-          five-accepts (requestIn (termsRead h n radius limit) front numbers minutes) formed,
+          five-accepts (requestRead guess radius limit numbers minutes h b n) formed-read,
+          five-accepts (requestIn (termsRead h b n radius limit) front numbers minutes) formed,
           same-refusal held,
           same-analysis held,
         )
 
-    pub in-form : (read : RequestRead) → read ≡ Value h n
-        → inForm (requestTold guess radius limit numbers minutes read) ≡ replyText (requestIn (termsRead h n radius limit) front numbers minutes)
+    pub in-form : (read : RequestRead) → read ≡ Value h b n
+        → inForm (requestTold guess radius limit numbers minutes read) ≡ replyText (requestIn (termsRead h b n radius limit) front numbers minutes)
     in-form read e = rw e same-reply
 
 -- ---- what is written

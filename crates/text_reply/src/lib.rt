@@ -23,9 +23,9 @@ fn reply_to_read(
 {
     match read {
         RequestRead::NotInForm(line) => text_print::first_two(out, 0, 9, line),
-        RequestRead::Value(h, stations) => {
+        RequestRead::Value(h, b, stations) => {
             let points = (h.ny as usize) * (h.nx as usize);
-            let t = text_head::terms_read(h, stations, radius, limit);
+            let t = text_head::terms_read(h, b, stations, radius, limit);
             text_answer::reply_to(t, &guess[..points], numbers, minutes, out)
         }
     }

@@ -8,7 +8,8 @@ ghost use Rattle.scheme.specs.Text.Lines.{rowLine};
 ghost use Rattle.scheme.specs.Text.Order.{rows};
 ghost use Rattle.text_head.specs.Head.{Limits};
 ghost use Rattle.text_request.specs.Told.{linesTold, ScansAre, StationRows};
-ghost use Rattle.text_request.specs.Whole.{GridIs, StationsAre, BodyIs, RequestIs};
+ghost use Rattle.text_request.specs.Whole.{StationsAre, PointsAre, BodyIs, RequestIs};
+use text_head::Buddy;
 use text_head::Head;
 use text_head::HeadRead;
 use text_lines::EntryRead;
@@ -21,9 +22,9 @@ enum LinesRead {
     NotInForm(u32),
 }
 
-// What the head says and how many stations there are, or the first line not in form.
+// What the head and the line of the buddy check say and how many stations there are, or the first line not in form.
 pub enum RequestRead {
-    Value(Head, u32),
+    Value(Head, Buddy, u32),
     NotInForm(u32),
 }
 
@@ -43,7 +44,7 @@ fn scan_lines(
     let mut p = at;
     let mut i: usize = 0;
     while i < n {
-        let EntryRead::Value(r, e, next) = text_lines::scan_line(s, p) else {
+        let EntryRead::Value(r, e, next) = text_lines::entry_line(s, p, b"scan=") else {
             return LinesRead::NotInForm(line + i as u32);
         };
         radius[i] = r;
@@ -97,37 +98,19 @@ fn station_lines(
 
 // ---- the whole request: each part where the one before ended
 
-// The scans and the first guess.
-fn grid_lines(
-    s: &[u8],
-    h: Head,
-    guess: &mut [i32],
-    radius: &mut [i32; 6],
-    limit: &mut [i32; 6],
-) -> LinesRead
-    requires { ⌜ Limits h × (length (now guess) ≡ mostPoints) × (length (now radius) ≡ mostScans) × (length (now limit) ≡ mostScans) ⌝ }
-    ensures { λ r. ⌜ GridIs (now (s .entry)) h (now (guess .exit)) (now (radius .exit)) (now (limit .exit)) r ⌝ }
-{
-    match scan_lines(s, h.next, h.line, h.scans as usize, radius, limit) {
-        LinesRead::NotInForm(k) => LinesRead::NotInForm(k),
-        LinesRead::Next(p) => {
-            row_lines(s, p, h.line + h.scans, h.nx as usize, h.ny as usize, guess)
-        }
-    }
-}
-
 // The stations, in the lines after the first guess, and nothing after them.
 fn stations_at(
     s: &[u8],
     at: usize,
     h: Head,
+    b: Buddy,
     numbers: &mut [[i32; 5]; 512],
     minutes: &mut [[u32; 3]; 512],
 ) -> RequestRead
-    requires { ⌜ Limits h × (length (now numbers) ≡ mostStations) × (length (now minutes) ≡ mostStations) ⌝ }
-    ensures { λ r. ⌜ StationsAre (now (s .entry)) at h (now (numbers .exit)) (now (minutes .exit)) r ⌝ }
+    requires { ⌜ Limits h × (b .line ≤ 14) × (length (now numbers) ≡ mostStations) × (length (now minutes) ≡ mostStations) ⌝ }
+    ensures { λ r. ⌜ StationsAre (now (s .entry)) at h b (now (numbers .exit)) (now (minutes .exit)) r ⌝ }
 {
-    let line = h.line + h.scans + h.ny;
+    let line = b.line + h.ny;
     let UnsignedRead::Value(count, p) = text_lines::number_line(s, at, b"stations=", 0, 512) else {
         return RequestRead::NotInForm(line);
     };
@@ -137,8 +120,26 @@ fn stations_at(
             if next < s.len() {
                 return RequestRead::NotInForm(line + 1 + count);
             }
-            RequestRead::Value(h, count)
+            RequestRead::Value(h, b, count)
         }
+    }
+}
+
+// The first guess and the stations, after a head and a plan in form.
+fn points_at(
+    s: &[u8],
+    h: Head,
+    b: Buddy,
+    guess: &mut [i32],
+    numbers: &mut [[i32; 5]; 512],
+    minutes: &mut [[u32; 3]; 512],
+) -> RequestRead
+    requires { ⌜ Limits h × (b .line ≤ 14) × (length (now guess) ≡ mostPoints) × (length (now numbers) ≡ mostStations) × (length (now minutes) ≡ mostStations) ⌝ }
+    ensures { λ r. ⌜ PointsAre (now (s .entry)) h b (now (guess .exit)) (now (numbers .exit)) (now (minutes .exit)) r ⌝ }
+{
+    match row_lines(s, b.next, b.line, h.nx as usize, h.ny as usize, guess) {
+        LinesRead::NotInForm(k) => RequestRead::NotInForm(k),
+        LinesRead::Next(p) => stations_at(s, p, h, b, numbers, minutes),
     }
 }
 
@@ -155,9 +156,12 @@ fn body(
     requires { ⌜ Limits h × (length (now guess) ≡ mostPoints) × (length (now radius) ≡ mostScans) × (length (now limit) ≡ mostScans) × (length (now numbers) ≡ mostStations) × (length (now minutes) ≡ mostStations) ⌝ }
     ensures { λ r. ⌜ BodyIs (now (s .entry)) h (now (guess .exit)) (now (radius .exit)) (now (limit .exit)) (now (numbers .exit)) (now (minutes .exit)) r ⌝ }
 {
-    match grid_lines(s, h, guess, radius, limit) {
+    match scan_lines(s, h.next, h.line, h.scans as usize, radius, limit) {
         LinesRead::NotInForm(k) => RequestRead::NotInForm(k),
-        LinesRead::Next(p) => stations_at(s, p, h, numbers, minutes),
+        LinesRead::Next(p) => {
+            let b = text_head::buddy_line(s, p, h.line + h.scans);
+            points_at(s, h, b, guess, numbers, minutes)
+        }
     }
 }
 

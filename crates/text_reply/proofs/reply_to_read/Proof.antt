@@ -23,7 +23,7 @@ module _ (c : tie.After-read2) where
   abbrev h : Head
   h = c .read2 .given .0 .0
 
-  fits : Limits h × (c .read2 .given .0 .1 .0 ≤ mostStations)
+  fits : Limits h × (c .read2 .given .0 .1 .1 .0 ≤ mostStations)
   fits = subst Fits (c .read2 .given .1) (start .pre .0)
 
   in-guess : h .ny * h .nx ≤ length (start .args .guess .now)
@@ -61,7 +61,7 @@ reply-to-requires : tie.Need-reply-to-requires
 reply-to-requires c κs =
     let k = c .before .before .before .before .before .before in
     let a = start k .args in (
-      rw (c .before .before .terms-read .ensures) (formed (a .guess .now) (a .radius) (a .limit) (a .numbers .now) (a .minutes .now) (h k) (k .read2 .given .0 .1 .0) (fits k .0) (fits k .1) (start k .pre .1) (start k .pre .2) (start k .pre .3)),
+      rw (c .before .before .terms-read .ensures) (formed (a .guess .now) (a .radius) (a .limit) (a .numbers .now) (a .minutes .now) (h k) (k .read2 .given .0 .1 .0) (k .read2 .given .0 .1 .1 .0) (fits k .0) (fits k .1) (start k .pre .1) (start k .pre .2) (start k .pre .3)),
       start k .pre .4,
     )
 
@@ -86,7 +86,7 @@ returns-2 c =
     let a = s .args in
     let t = c .before .before .before .before .before .terms-read in
     stands-as (a .out .now)
-    (in-form (a .guess .now) (a .radius) (a .limit) (a .numbers .now) (a .minutes .now) (h k) (k .read2 .given .0 .1 .0) (fits k .0) (fits k .1) (s .pre .1) (s .pre .2) (s .pre .3) (a .read) (k .read2 .given .1)
+    (in-form (a .guess .now) (a .radius) (a .limit) (a .numbers .now) (a .minutes .now) (h k) (k .read2 .given .0 .1 .0) (k .read2 .given .0 .1 .1 .0) (fits k .0) (fits k .1) (s .pre .1) (s .pre .2) (s .pre .3) (a .read) (k .read2 .given .1)
     ∙ ap (λ (u : Terms). replyText (requestIn u (take (h k .ny * h k .nx) (a .guess .now)) (a .numbers .now) (a .minutes .now))) (sym (t .ensures)))
     (c .before .before .reply-to .ensures)
 

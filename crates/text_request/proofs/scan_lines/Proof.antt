@@ -22,17 +22,20 @@ abbrev scans : ℕ → Text (List Entry)
 scans n = lines n scanLine
 
 abbrev Inv-loop : tie.InvT-loop
-Inv-loop s at line n radius₀ limit₀ p₀ i₀ radius limit p i = (i ≤ n) × (length radius ≡ mostScans) × (length limit ≡ mostScans) × Reached scans s (drop at s) n line i p (tab i (entryAt radius limit))
+Inv-loop s at line n radius₀ limit₀ p₀ i₀ key radius limit p i = (i ≤ n) × (length radius ≡ mostScans) × (length limit ≡ mostScans) × Reached scans s (drop at s) n line i p (tab i (entryAt radius limit))
 
 abbrev μ-loop : tie.MeasureT-loop
-μ-loop s at line n radius₀ limit₀ p₀ i₀ radius limit p i = n - i
+μ-loop s at line n radius₀ limit₀ p₀ i₀ key radius limit p i = n - i
 
 loop-holds : tie.Need-loop-holds Inv-loop μ-loop
 unfolding tab
 loop-holds c = let s = c .before in let a = s .args in (omega arith, s .pre .2, s .pre .3, begin scans (a .s .now) (drop (a .at) (a .s .now)) (a .n) (a .line) (a .at) refl)
 
-scan-line-requires : tie.Need-scan-line-requires Inv-loop μ-loop
-scan-line-requires c κs = search needs
+slice-aggregate-entry-line : tie.Need-slice-aggregate-entry-line Inv-loop μ-loop
+slice-aggregate-entry-line c = search needs
+
+entry-line-requires : tie.Need-entry-line-requires Inv-loop μ-loop
+entry-line-requires c κs = search needs
 
 enum-known-r : tie.Need-enum-known-r Inv-loop μ-loop
 enum-known-r c = search needs
@@ -40,19 +43,19 @@ enum-known-r c = search needs
 enum-told : tie.Need-enum-told Inv-loop μ-loop
 enum-told c = search needs
 
-cast-t14 : tie.Need-cast-t14 Inv-loop μ-loop
-cast-t14 c = search needs
+cast-t17 : tie.Need-cast-t17 Inv-loop μ-loop
+cast-t17 c = search needs
 
-add-t15 : tie.Need-add-t15 Inv-loop μ-loop
-add-t15 c = search needs
+add-t18 : tie.Need-add-t18 Inv-loop μ-loop
+add-t18 c = search needs
 
 returns : tie.Need-returns Inv-loop μ-loop
 returns c =
-    let l = c .before .before .before .before in
+    let l = c .before .before .before .before .before in
     let a = l .before .before .args in
     record {
       said = stop scans (a .s .now) (drop (a .at) (a .s .now)) (a .n) (a .line) (l .loop .i) (l .loop .p) _ (omega arith) (l .loop .inv .3)
-          (lines-stop scanLine (drop (l .loop .p) (a .s .now)) (c .before .before .scan-line .ensures ∙ ap (entryTold (a .s .now)) (c .enum-told .given .1)));
+          (lines-stop scanLine (drop (l .loop .p) (a .s .now)) (c .before .before .entry-line .ensures ∙ ap (entryTold (a .s .now)) (c .enum-told .given .1)));
       radii = l .loop .inv .1;
       limits = l .loop .inv .2;
     }
@@ -77,7 +80,7 @@ loop-less c = search needs
 
 loop-again : tie.Need-loop-again Inv-loop μ-loop
 loop-again c =
-    let l = c .before .before .before .before .before in
+    let l = c .before .before .before .before .before .before in
     let a = l .before .before .args in
     let v = c .before .r .given in
     let f : SFits w32 (v .0 .0) = record { sfits = c .known-told .given .0 .1 } in
@@ -87,7 +90,7 @@ loop-again c =
       length-set (l .loop .radius) (l .loop .i) (v .0 .0) ∙ l .loop .inv .1,
       length-set (l .loop .limit) (l .loop .i) (v .0 .1 .0) ∙ l .loop .inv .2,
       turn scans (a .s .now) (drop (a .at) (a .s .now)) (a .n) (a .line) (l .loop .i) (l .loop .p) _ (omega arith) (l .loop .inv .3) (v .0 .1 .1 .0) _ _
-          (lines-more scanLine (drop (l .loop .p) (a .s .now)) (drop (v .0 .1 .1 .0) (a .s .now)) _ (c .before .before .before .scan-line .ensures ∙ ap (entryTold (a .s .now)) (v .1)))
+          (lines-more scanLine (drop (l .loop .p) (a .s .now)) (drop (v .0 .1 .1 .0) (a .s .now)) _ (c .before .before .before .entry-line .ensures ∙ ap (entryTold (a .s .now)) (v .1)))
           (entry-stored (l .loop .i) (l .loop .radius) (l .loop .limit) (v .0 .0) (v .0 .1 .0) (omega arith) (omega arith)),
     )
 
@@ -109,11 +112,12 @@ scan-lines-spec =
     Inv-loop
     μ-loop
     loop-holds
-    scan-line-requires
+    slice-aggregate-entry-line
+    entry-line-requires
     enum-known-r
     enum-told
-    cast-t14
-    add-t15
+    cast-t17
+    add-t18
     returns
     mul-r
     element-set-from-r

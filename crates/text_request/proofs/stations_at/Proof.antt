@@ -22,14 +22,11 @@ module _ (c : tie.After-count) where
   few : c .count .given .0 .0 ≤ mostStations
   few = subst (Within 0 mostStations) (c .count .given .1) (c .before .before .number-line .ensures .1) .1
 
-  bounded : start .args .h .line + start .args .h .scans + start .args .h .ny + 1 + c .count .given .0 .0 < 2 ^ 32
-  bounded = let l = start .pre .0 in omega (arith, few, l .line, l .scans-few, l .few-rows)
+  bounded : start .args .b .line + start .args .h .ny + 1 + c .count .given .0 .0 < 2 ^ 32
+  bounded = let l = start .pre .0 in omega (arith, few, start .pre .1, l .few-rows)
 
 add-line : tie.Need-add-line
 add-line c = search needs
-
-add-line-2 : tie.Need-add-line-2
-add-line-2 c = search needs
 
 slice-aggregate-number-line : tie.Need-slice-aggregate-number-line
 slice-aggregate-number-line c = search needs
@@ -46,7 +43,7 @@ enum-told c = search needs
 returns : tie.Need-returns
 returns c =
     let a = c .before .before .before .before .before .before .before .args in
-    no-count (a .s .now) (a .at) (a .h) (a .numbers .now) (a .minutes .now) (c .before .before .number-line .ensures .0 ∙ ap (unsignedTold (a .s .now)) (c .enum-told .given .1))
+    no-count (a .s .now) (a .at) (a .h) (a .b) (a .numbers .now) (a .minutes .now) (c .before .before .number-line .ensures .0 ∙ ap (unsignedTold (a .s .now)) (c .enum-told .given .1))
 
 add-station-lines : tie.Need-add-station-lines
 add-station-lines c = search needs
@@ -58,7 +55,7 @@ station-lines-requires : tie.Need-station-lines-requires
 station-lines-requires c κs =
     let k = c .before .before .before in
     let s = start k in
-    (bounded k, few k, s .pre .1, s .pre .2)
+    (bounded k, few k, s .pre .2, s .pre .3)
 
 enum-known-k : tie.Need-enum-known-k
 enum-known-k c = search needs
@@ -66,39 +63,38 @@ enum-known-k c = search needs
 enum-known-next : tie.Need-enum-known-next
 enum-known-next c = search needs
 
-add-t23 : tie.Need-add-t23
-add-t23 c = search needs
-
 add-t24 : tie.Need-add-t24
-add-t24 c = let k = c .before .before .before .before .before .before .before .before in omega (arith, bounded k)
+add-t24 c = search needs
+
+add-t25 : tie.Need-add-t25
+add-t25 c = let k = c .before .before .before .before .before .before .before .before in omega (arith, bounded k)
 
 returns-2 : tie.Need-returns-2
 returns-2 c =
     let k = c .before .before .before .before .before .before .before .before in
     let a = start k .args in
     let r = c .before .before .before .before .station-lines in
-    too-long (a .s .now) (a .at) (a .h) _ _ (k .count .given .0 .0) (k .count .given .0 .1 .0) (count-read k) (few k) (r .result) (r .ensures) (c .before .before .next .given .0 .0) (c .before .before .next .given .1) (c .if1 .taken)
+    too-long (a .s .now) (a .at) (a .h) (a .b) _ _ (k .count .given .0 .0) (k .count .given .0 .1 .0) (count-read k) (few k) (r .result) (r .ensures) (c .before .before .next .given .0 .0) (c .before .before .next .given .1) (c .if1 .taken)
 
 returns-3 : tie.Need-returns-3
 returns-3 c =
     let k = c .before .before .before .before .before .before .before in
     let a = start k .args in
     let r = c .before .before .before .station-lines in
-    no-station (a .s .now) (a .at) (a .h) _ _ (k .count .given .0 .0) (k .count .given .0 .1 .0) (count-read k) (few k) (r .result) (r .ensures) (c .before .k .given .0 .0) (c .before .k .given .1)
+    no-station (a .s .now) (a .at) (a .h) (a .b) _ _ (k .count .given .0 .0) (k .count .given .0 .1 .0) (count-read k) (few k) (r .result) (r .ensures) (c .before .k .given .0 .0) (c .before .k .given .1)
 
 returns-4 : tie.Need-returns-4
 returns-4 c =
     let k = c .before .before .before .before .before .before .before .before in
     let a = start k .args in
     let r = c .before .before .before .before .station-lines in
-    stations-are (a .s .now) (a .at) (a .h) _ _ (k .count .given .0 .0) (k .count .given .0 .1 .0) (count-read k) (few k) (r .result) (r .ensures) (c .before .before .next .given .0 .0) (c .before .before .next .given .1) (c .if1 .left)
+    stations-are (a .s .now) (a .at) (a .h) (a .b) _ _ (k .count .given .0 .0) (k .count .given .0 .1 .0) (count-read k) (few k) (r .result) (r .ensures) (c .before .before .next .given .0 .0) (c .before .before .next .given .1) (c .if1 .left)
 
 pub stations-at-spec : {M : Type 1} → statement M
 stations-at-spec =
     tie.close
     (tie.spec
     add-line
-    add-line-2
     slice-aggregate-number-line
     number-line-requires
     enum-known-count
@@ -109,8 +105,8 @@ stations-at-spec =
     station-lines-requires
     enum-known-k
     enum-known-next
-    add-t23
     add-t24
+    add-t25
     returns-2
     returns-3
     returns-4)
