@@ -1,10 +1,11 @@
-//! The independent second program: document 01 with requests 1 to 6 of
+//! The independent second program: document 01 with requests 1 to 7 of
 //! document 02, worked out plainly, to be compared number for number with the
 //! proved implementation.
 
 #![forbid(unsafe_code)]
 
 pub mod bridge;
+pub mod buddy;
 pub mod call;
 pub mod cases;
 pub mod compare;
