@@ -7,6 +7,8 @@ use crate::generate::{
     big_call, edge_call, flavour, guess_at, order_limits, push_station, small_call, tune_limits,
     untuned_call, Flavour, TURNS,
 };
+use crate::generate_buddies::{befriend, near_at_hand};
+use crate::generate_links::{lay_links, will_link};
 use crate::generate_posts::move_beyond_the_cut;
 use crate::generate_rims::add_on_a_rim;
 use crate::generate_rules::add_round_a_point;
@@ -48,6 +50,7 @@ pub fn window(seed: u64, index: u64) -> (Call, Window) {
 /// its cut, and winds.
 fn with_window(rng: &mut Rng, make: fn(&mut Rng) -> Call, place: Place) -> (Call, Window) {
     let mut call = make(rng);
+    let linked = will_link(rng, &mut call);
     let window = place(rng, call.nx, call.ny);
     move_to_the_cut(rng, &mut call, &window);
     move_beyond_the_cut(rng, &mut call, &window);
@@ -59,6 +62,11 @@ fn with_window(rng: &mut Rng, make: fn(&mut Rng) -> Call, place: Place) -> (Call
         order_limits(rng, &mut call);
     }
     add_round_a_point(rng, &mut call, &window);
+    if linked {
+        lay_links(&mut rng.beside().beside().beside(), &mut call, &window);
+    } else {
+        befriend(rng, &mut call, &window);
+    }
     blow(rng, &mut call, &window);
     call.grid_len = window.area();
     call.support_len = window.area();
@@ -79,7 +87,7 @@ pub fn roomy_call(rng: &mut Rng) -> Call {
 }
 
 /// The call with at most one of these numbers of scans, and radii at most one
-/// of these.
+/// of these, that of its check too.
 pub fn shortened(rng: &mut Rng, mut call: Call, scans: &[usize], radii: &[i32]) -> Call {
     let (all, most) = (call.scans as usize, rng.pick(scans));
     call.radius.drain(all.min(most)..all);
@@ -87,6 +95,7 @@ pub fn shortened(rng: &mut Rng, mut call: Call, scans: &[usize], radii: &[i32]) 
     call.scans = all.min(most) as u32;
     let longest = rng.pick(radii);
     call.radius.iter_mut().for_each(|radius| *radius = (*radius).min(longest));
+    near_at_hand(&mut call, longest.min(128));
     call
 }
 
@@ -197,7 +206,7 @@ pub fn lay_chain(rng: &mut Rng, call: &mut Call, window: &Window) {
 
 /// A point of the window's edge, and the direction from there to an edge of
 /// the cut that is not the grid's border.
-fn way_out(rng: &mut Rng, call: &Call, window: &Window) -> Option<(i32, i32, i32, i32)> {
+pub fn way_out(rng: &mut Rng, call: &Call, window: &Window) -> Option<(i32, i32, i32, i32)> {
     let cut = widened(call, window, reach(call));
     let at = |end: u32| 64 * end as i32;
     let column = at(window.left + rng.up_to(window.right - window.left));
@@ -217,7 +226,7 @@ fn way_out(rng: &mut Rng, call: &Call, window: &Window) -> Option<(i32, i32, i32
 
 /// How far from a point, along a grid line, a station stands that has a weight
 /// there: past the radius's last whole step, if it has one there.
-fn farthest_heard(rng: &mut Rng, radius: i32) -> i32 {
+pub fn farthest_heard(rng: &mut Rng, radius: i32) -> i32 {
     let square = |size: i32| i64::from(size) * i64::from(size);
     let heard = |distance: &i32| weight(square(radius), square(*distance)) > 0;
     let farthest = (0..radius).rev().find(heard).unwrap_or(0);

@@ -185,7 +185,7 @@ struct Found {
     correction: [bool; 8],
     beside: [bool; 3],
     rim: bool,
-    verdicts: [bool; 17],
+    verdicts: [bool; 27],
     post: [bool; 2],
     wind: [bool; 2],
     change: [bool; 2],
