@@ -2,12 +2,13 @@
 //! so that the verdict of one of them tells how the buddy check is done.
 
 use crate::call::{Call, Window};
+use crate::damage::set_rows;
 use crate::generate::{guess_at, whole_grid};
 use crate::generate_buddies::set_limit;
 use crate::generate_rims::offset;
 use crate::generate_rules::{bury, drop_inside, lengthen, push};
 use crate::rng::Rng;
-use crate::units::{BORDER, BUDDY_RADIUS, LIMIT, MOST_STATIONS};
+use crate::units::{BORDER, BUDDY_RADIUS, LIMIT, LISTINGS, MOST_STATIONS};
 
 #[derive(Clone, Copy, PartialEq, Eq)]
 enum Company {
@@ -46,7 +47,7 @@ const ALL: [Company; 32] = [
     OddThird,
     Chain,
     Pair,
-    Pair,
+    SamePlace,
     Exact,
     Exact,
     Exact,
@@ -81,7 +82,8 @@ const LIMITS: [i32; 8] = [0, 1, 2, 10, 57, 300, 5_000, 100_000];
 const LONGEST_OF_POSTS: i32 = 150;
 /// The most scans of a plan, and a check so short that companies for all of them fit.
 const SCANS: usize = 6;
-const LONGEST_IN_TURN: i32 = 20;
+const LONGEST_IN_TURN: i32 = 14;
+const LONGEST_OF_TWO: i32 = 50;
 /// Any shorter, and there are no places near one and far from another.
 const SHORTEST: i32 = 8;
 
@@ -117,7 +119,7 @@ fn bound_radius(call: &mut Call, least: i32, most: i32) -> i32 {
 }
 
 /// Which way values may go from a place without leaving their range.
-fn way(call: &Call, place: (i32, i32)) -> i32 {
+pub fn way(call: &Call, place: (i32, i32)) -> i32 {
     if guess_at(call, place.0, place.1) > 0 {
         -1
     } else {
@@ -159,6 +161,10 @@ fn gather_on_grid(rng: &mut Rng, call: &mut Call, part: &Window, company: Compan
     };
     drop_inside(call, at, 2 * radius_of(call));
     set_limit(call, limit.into());
+    if company == SamePlace && rng.one_in(2) {
+        // There is nobody else.
+        set_rows(call, 0);
+    }
     if company != Rejected {
         let widest = members.iter().map(|member| member.1.abs()).max().unwrap_or(0);
         call.limit[0] = call.limit[0].max(widest);
@@ -322,6 +328,7 @@ fn gather_posts(rng: &mut Rng, call: &mut Call, frame: &Frame, company: Company)
     let far = rng.between(radius * 5 / 7 + 1, radius - 1);
     let limit = rng.pick(&LIMITS).max(1);
     match company {
+        Forsaken if call.rule() == LISTINGS => leave_alone(rng, call, frame, limit),
         Forsaken => forsake(rng, call, frame, far, limit),
         SetAsideBefore => set_aside_before(rng, call, frame, far, limit),
         Dead(_) => past_the_border(rng, call, frame, radius, limit),
@@ -351,7 +358,7 @@ fn post(call: &mut Call, frame: &Frame, members: &[(i32, i32, i32)], limit: i32,
 /// The first has three neighbours whose sum is right; in a scan the limit rejects one, and
 /// the two that are left it differs from. The others have no neighbour but the first.
 fn forsake(rng: &mut Rng, call: &mut Call, frame: &Frame, far: i32, limit: i32) {
-    let scan = rng.below(6);
+    let scan = rng.below(SCANS);
     lengthen(call, scan + 1);
     let d = limit + 1 + rng.between(0, limit / 2);
     let out = rng.between(1, 60);
@@ -360,34 +367,55 @@ fn forsake(rng: &mut Rng, call: &mut Call, frame: &Frame, far: i32, limit: i32) 
     call.limit[scan] = rng.between(d, 3 * d - 1);
 }
 
-/// The same, somewhere in each of many scans: what is rejected falls from one to the next,
-/// and so do the limits. Companies stand side by side along the border.
+/// The same, and a point that hears the first and one post more, which is alone there once
+/// the first is set aside.
+fn leave_alone(rng: &mut Rng, call: &mut Call, frame: &Frame, limit: i32) {
+    let scan = rng.below(SCANS);
+    lengthen(call, scan + 1);
+    let radius = bound_radius(call, SHORTEST, LONGEST_OF_TWO);
+    let far = rng.between(radius * 5 / 7 + 1, radius - 1);
+    let d = limit + 1 + rng.between(0, limit / 2);
+    let out = radius + rng.between(6, 20);
+    let lone = (0, rng.between(1, 6), rng.between(40, 40 + 3 * d));
+    let members = [lone, (0, out, d), (far, out, 0), (0, out + far, 0), (-far, out, 3 * d)];
+    drop_inside(call, frame.place, out + 2);
+    post(call, frame, &members, limit, scan);
+    call.limit[scan] = rng.between(d.max(lone.2), (3 * d - 1).max(lone.2));
+    // The radius of that scan goes as far as the first, and to no other.
+    call.radius[..scan].iter_mut().for_each(|before| *before = (*before).max(out + 2));
+    call.radius[scan..].iter_mut().for_each(|later| *later = (*later).min(out + 2));
+    call.radius[scan] = out + 2;
+}
+
+/// The same in each of many scans: what is rejected falls from one to the next, and so do
+/// the limits. Companies stand side by side along the border.
 pub fn forsake_in_turn(rng: &mut Rng, call: &mut Call, part: &Window) {
     let whole = whole_grid(call);
     let frame = beyond_a_side(rng, call, part).or_else(|| beyond_a_side(rng, call, &whole));
-    let Some(frame) = frame.filter(|_| call.x.len() + 4 * SCANS <= MOST_STATIONS) else {
+    let Some(frame) = frame.filter(|_| call.x.len() + 6 * SCANS <= MOST_STATIONS) else {
         return;
     };
     lengthen(call, SCANS);
     let radius = bound_radius(call, SHORTEST, LONGEST_IN_TURN);
     let far = rng.between(radius * 5 / 7 + 1, radius - 1);
     let (limit, out) = (rng.pick(&LIMITS).max(10), rng.between(1, 20));
-    let d = limit + 1 + rng.between(0, limit / 2);
-    let rejected: Vec<i32> =
-        (0..=SCANS as i32).map(|scan| 3 * d + limit - scan * limit / 4).collect();
+    let rejected = |scan: usize| 7 * limit - scan as i32 * limit / 4;
     let mut members = Vec::new();
-    for (scan, last) in rejected[..SCANS].iter().enumerate().filter(|_| !rng.one_in(6)) {
-        let at = (2 * far + radius + 1) * (scan as i32 - 2);
-        members.extend([
-            (at, out, d),
-            (at + far, out, 0),
-            (at, out + far, 0),
-            (at - far, out, *last),
-        ]);
+    for scan in 0..SCANS {
+        let at = (3 * far + radius + 1) * (scan as i32 - 2);
+        let follows = rng.one_in(3);
+        let beside = if follows { limit + 1 } else { 0 };
+        let forsaken = [(at, out, 2 * limit), (at + far, out, beside)];
+        let others = [(at, out + far, 0), (at - far, out, rejected(scan))];
+        // With the first gone, the second has two left that it differs from.
+        let follower = [(at + far, out + far, 0), (at + 2 * far, out, 0)];
+        let all = [forsaken, others, follower].concat();
+        let many = if follows { 6 } else { 4 };
+        members.extend(all.into_iter().take(if rng.one_in(6) { 0 } else { many }));
     }
     post(call, &frame, &members, limit, SCANS - 1);
     for scan in 0..SCANS {
-        call.limit[scan] = rng.between(rejected[scan + 1], rejected[scan] - 1);
+        call.limit[scan] = rng.between(rejected(scan + 1), rejected(scan) - 1);
     }
 }
 

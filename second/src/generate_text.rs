@@ -47,7 +47,9 @@ pub fn text(seed: u64, index: u64) -> (Vec<u8>, Option<Sort>) {
         }
         _ if turn == CHECK_HARMS && index / TURNS % RANDOM_EVERY > 0 => {
             let mut text = written(rng, small_call);
-            damage_buddies::break_line(rng, &mut text, index / TURNS);
+            // The turns before it that were not random.
+            let way = index / TURNS - index / TURNS / RANDOM_EVERY - 1;
+            damage_buddies::break_line(rng, &mut text, way);
             (text, None)
         }
         _ if index % LIMIT_EVERY == 5 => {

@@ -7,9 +7,9 @@ use crate::generate::{
     big_call, edge_call, flavour, guess_at, order_limits, push_station, small_call, tune_limits,
     untuned_call, Flavour, TURNS,
 };
-use crate::generate_buddies::{befriend, near_at_hand};
-use crate::generate_links::{lay_links, will_link};
-use crate::generate_posts::move_beyond_the_cut;
+use crate::generate_buddies::near_at_hand;
+use crate::generate_links::{befriend_or_link, will_link};
+use crate::generate_posts::{add_beyond_a_corner, move_beyond_the_cut};
 use crate::generate_rims::add_on_a_rim;
 use crate::generate_rules::add_round_a_point;
 use crate::generate_winds::blow;
@@ -61,12 +61,9 @@ fn with_window(rng: &mut Rng, make: fn(&mut Rng) -> Call, place: Place) -> (Call
         tune_limits(rng, &mut call);
         order_limits(rng, &mut call);
     }
+    add_beyond_a_corner(rng, &mut call);
     add_round_a_point(rng, &mut call, &window);
-    if linked {
-        lay_links(&mut rng.beside().beside().beside(), &mut call, &window);
-    } else {
-        befriend(rng, &mut call, &window);
-    }
+    befriend_or_link(rng, &mut call, &window, linked);
     blow(rng, &mut call, &window);
     call.grid_len = window.area();
     call.support_len = window.area();
@@ -226,7 +223,7 @@ pub fn way_out(rng: &mut Rng, call: &Call, window: &Window) -> Option<(i32, i32,
 
 /// How far from a point, along a grid line, a station stands that has a weight
 /// there: past the radius's last whole step, if it has one there.
-pub fn farthest_heard(rng: &mut Rng, radius: i32) -> i32 {
+fn farthest_heard(rng: &mut Rng, radius: i32) -> i32 {
     let square = |size: i32| i64::from(size) * i64::from(size);
     let heard = |distance: &i32| weight(square(radius), square(*distance)) > 0;
     let farthest = (0..radius).rev().find(heard).unwrap_or(0);

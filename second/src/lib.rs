@@ -6,8 +6,10 @@
 
 pub mod bridge;
 pub mod buddy;
+pub mod buddy_sorts;
 pub mod call;
 pub mod cases;
+pub mod company_sorts;
 pub mod compare;
 pub mod damage;
 pub mod damage_buddies;
