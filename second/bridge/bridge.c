@@ -7,11 +7,12 @@
  *
  *   0, greet     nothing. The answer is GREETING.
  *   1, analyse   whether empty slices get null; the byte that fills results and guards; nx, ny, scans, smooth, mode,
- *                rule, time, age; whether the winds are given; whether the rule is; the eleven columns in the order of
- *                enum column_name; the lengths of grid, support and verdict. Winds that are not given are empty columns
- *                here, and a rule that is not given is 0; both are left to the header's default. The answer is what the
- *                archive returned, the flags, and grid, support and verdict as they are then.
- *   2, window    the same, with left, right, top and bottom after whether the rule is given, and without verdict.
+ *                rule, buddy, buddy_radius, buddy_limit, time, age; whether the winds are given; whether the rule is;
+ *                whether the buddy check is; the eleven columns in the order of enum column_name; the lengths of grid,
+ *                support and verdict. Winds that are not given are empty columns here, a rule that is not given is 0,
+ *                and a check that is not given is anything; all are left to the header's default. The answer is what
+ *                the archive returned, the flags, and grid, support and verdict as they are then.
+ *   2, window    the same, with left, right, top and bottom after whether the check is given, and without verdict.
  *   3, kind      whether empty slices get null; nx, ny, x, y; the column field; the column support, of bytes. The
  *                answer is what the archive returned, and the flags.
  *   4, value     the same. The answer is the double as it lies in memory, and the flags.
@@ -128,7 +129,34 @@ static void take_columns(struct request *q, bool null) {
     q->screen.bottom = unsigned_column(&in[BOTTOM]);
 }
 
-/* Every member comes, but for winds and a rule that are not given: these are left to their default. */
+/* The three members of the check, as they come. */
+struct buddy {
+    bool on;
+    int32_t radius, limit;
+};
+
+static struct buddy take_buddy(void) {
+    struct buddy buddy;
+    buddy.on = take_number() != 0;
+    buddy.radius = (int32_t)take_number();
+    buddy.limit = (int32_t)take_number();
+    return buddy;
+}
+
+/* Winds, a rule and a buddy check that are not given are left to their default. */
+static bool take_given(struct request *q, uint32_t rule, struct buddy buddy) {
+    bool with_winds = take_number() != 0;
+    if (take_number() != 0)
+        q->asked.rule = rule;
+    if (take_number() != 0) {
+        q->asked.buddy = buddy.on;
+        q->asked.buddy_radius = buddy.radius;
+        q->asked.buddy_limit = buddy.limit;
+    }
+    return with_winds;
+}
+
+/* Every member comes, but for those that are not given. */
 static struct request take_request(enum function function) {
     struct request q = {.asked = SOSNYAVIK_REQUEST(),
                         .columns_lent = function == WINDOWS ? COLUMNS : LEFT,
@@ -141,11 +169,10 @@ static struct request take_request(enum function function) {
     q.asked.smooth = take_number() != 0;
     q.asked.mode = take_number();
     uint32_t rule = take_number();
+    struct buddy buddy = take_buddy();
     q.asked.time = take_number();
     q.asked.age = take_number();
-    bool with_winds = take_number() != 0;
-    if (take_number() != 0)
-        q.asked.rule = rule;
+    bool with_winds = take_given(&q, rule, buddy);
     if (function == WINDOW)
         q.ends = take_ends();
     take_columns(&q, null);

@@ -2,7 +2,7 @@
 //! runs on any processor, so its calls are made by a program of their own,
 //! the bridge, over pipes. `bridge/bridge.c` has the protocol.
 
-use crate::call::{Call, Query, Screen, Window, Winds};
+use crate::call::{Buddy, Call, Query, Screen, Window, Winds};
 use crate::compare::{Answer, Results, Subject};
 use crate::patterned::BYTE_PATTERN;
 use crate::running::{put_numbers, read_number, Greeting, Lasting};
@@ -158,13 +158,16 @@ fn put_opening(bytes: &mut Vec<u8>, function: u32, empty: Empty) {
     put_numbers(bytes, &[function, null, BYTE_PATTERN.into()]);
 }
 
-/// A rule that is left out is sent as 0, which is none; that it is left out is said
-/// after.
+/// A rule that is left out is sent as 0, which is none, and a buddy check that is left
+/// out as one that is on, with what it may not have; that they are left out is said after.
 fn put_plain(bytes: &mut Vec<u8>, call: &Call) {
+    let Buddy { on, radius, limit } = call.buddy.unwrap_or(Buddy::on(-1, -1));
     put_numbers(bytes, &[call.nx, call.ny, call.scans]);
     put_numbers(bytes, &[call.smooth.into(), call.mode, call.rule.unwrap_or(0)]);
+    put_numbers(bytes, &[on.into(), radius as u32, limit as u32]);
     put_numbers(bytes, &[call.time, call.age]);
     put_numbers(bytes, &[call.winds.is_some().into(), call.rule.is_some().into()]);
+    put_numbers(bytes, &[call.buddy.is_some().into()]);
 }
 
 /// Wind columns that are left out are sent as empty ones; that they are has been
@@ -265,6 +268,7 @@ mod tests {
             smooth: true,
             mode: 12,
             rule: Some(24),
+            buddy: Some(Buddy { on: true, radius: -25, limit: 26 }),
             time: 13,
             age: 14,
             ..Call::default()
@@ -276,11 +280,12 @@ mod tests {
         let call = call();
         let results = Results { grid: &mut [0; 15], support: &mut [0; 16], verdict: &mut [0; 17] };
         let null = numbers_of(&analyse_request(&call, &results, Empty::Null));
-        assert_eq!(null[..13], [1, 1, 0xA5, 1, 2, 10, 1, 12, 24, 13, 14, 1, 1]);
-        assert_eq!(null[13..20], [1, 3_u32.wrapping_neg(), 2, 4, 0x8000_0000, 1, 5]);
-        assert_eq!(null[20..29], [1, 6, 2, 7, u32::MAX, 1, 8, 1, 9]);
-        assert_eq!(null[29..34], [1, 21_u32.wrapping_neg(), 2, 22, 23]);
-        assert_eq!(null[34..], [1, 11, 0, 15, 16, 17]);
+        assert_eq!(null[..9], [1, 1, 0xA5, 1, 2, 10, 1, 12, 24]);
+        assert_eq!(null[9..17], [1, 25_u32.wrapping_neg(), 26, 13, 14, 1, 1, 1]);
+        assert_eq!(null[17..24], [1, 3_u32.wrapping_neg(), 2, 4, 0x8000_0000, 1, 5]);
+        assert_eq!(null[24..33], [1, 6, 2, 7, u32::MAX, 1, 8, 1, 9]);
+        assert_eq!(null[33..38], [1, 21_u32.wrapping_neg(), 2, 22, 23]);
+        assert_eq!(null[38..], [1, 11, 0, 15, 16, 17]);
         let dangling = numbers_of(&analyse_request(&call, &results, Empty::Dangling));
         assert_eq!((dangling[1], &dangling[2..]), (0, &null[2..]));
     }
@@ -292,9 +297,9 @@ mod tests {
             numbers_of(&analyse_request(&Call { winds, ..call() }, &results, Empty::Null))
         };
         let (left_out, empty) = (sent(None), sent(Some(Winds::default())));
-        assert_eq!((left_out[11], empty[11]), (0, 1));
-        assert_eq!((left_out.len(), &left_out[12..]), (empty.len(), &empty[12..]));
-        assert_eq!(empty[29..], [0, 0, 1, 11, 0, 0, 0, 0]);
+        assert_eq!((left_out[14], empty[14]), (0, 1));
+        assert_eq!((left_out.len(), &left_out[15..]), (empty.len(), &empty[15..]));
+        assert_eq!(empty[33..], [0, 0, 1, 11, 0, 0, 0, 0]);
     }
 
     #[test]
@@ -303,7 +308,7 @@ mod tests {
             let results = Results { grid: &mut [], support: &mut [], verdict: &mut [] };
             let numbers =
                 numbers_of(&analyse_request(&Call { rule, ..call() }, &results, Empty::Null));
-            (numbers[8], numbers[12], numbers.len())
+            (numbers[8], numbers[15], numbers.len())
         };
         let (rule, given, length) = sent(None);
         assert_eq!((rule, given), (0, 0));
@@ -314,14 +319,28 @@ mod tests {
     }
 
     #[test]
+    fn a_check_that_is_left_out_is_told_from_one_that_is_off() {
+        let sent = |buddy: Option<Buddy>| {
+            let results = Results { grid: &mut [], support: &mut [], verdict: &mut [] };
+            let call = Call { buddy, ..call() };
+            let numbers = numbers_of(&analyse_request(&call, &results, Empty::Null));
+            (numbers[9..12].to_vec(), numbers[16], numbers.len())
+        };
+        let (numbers, given, length) = sent(None);
+        assert_eq!((numbers, given), (vec![1, u32::MAX, u32::MAX], 0), "none may be read");
+        assert_eq!(sent(Some(Buddy::default())), (vec![0; 3], 1, length));
+        assert_eq!(sent(Some(Buddy::on(1, 2))), (vec![1, 1, 2], 1, length));
+    }
+
+    #[test]
     fn a_window_query_adds_its_ends_and_has_no_verdicts() {
         let window = Window::new(18, 19, 20, u32::MAX);
         let results = Results { grid: &mut [0; 15], support: &mut [0; 16], verdict: &mut [] };
         let whole = numbers_of(&analyse_request(&call(), &results, Empty::Null));
         let part = numbers_of(&window_request(&call(), &window, &results, Empty::Null));
-        assert_eq!((part[0], &part[1..13]), (2, &whole[1..13]));
-        assert_eq!(part[13..17], [18, 19, 20, u32::MAX]);
-        assert_eq!(part[17..], whole[13..whole.len() - 1]);
+        assert_eq!((part[0], &part[1..17]), (2, &whole[1..17]));
+        assert_eq!(part[17..21], [18, 19, 20, u32::MAX]);
+        assert_eq!(part[21..], whole[17..whole.len() - 1]);
     }
 
     #[test]

@@ -36,6 +36,23 @@ impl Winds {
     }
 }
 
+/// The three arguments of the buddy check, good or bad. Where it is off, neither of
+/// its numbers is read.
+#[derive(Clone, Copy, Debug, Default, PartialEq, Eq)]
+pub struct Buddy {
+    pub on: bool,
+    /// B
+    pub radius: i32,
+    /// L
+    pub limit: i32,
+}
+
+impl Buddy {
+    pub fn on(radius: i32, limit: i32) -> Self {
+        Buddy { on: true, radius, limit }
+    }
+}
+
 /// The raw arguments of a whole analysis, a window query or a screen, good or
 /// bad.
 /// Of the result slices only the lengths matter to the outcome.
@@ -59,6 +76,8 @@ pub struct Call {
     pub mode: u32,
     /// Where it is left out, it is the default.
     pub rule: Option<u32>,
+    /// Where it is left out, it is off.
+    pub buddy: Option<Buddy>,
     pub time: u32,
     pub age: u32,
     pub grid_len: usize,
@@ -75,6 +94,11 @@ impl Call {
     /// The rule that is asked for, good or bad.
     pub fn rule(&self) -> u32 {
         self.rule.unwrap_or(DEFAULT_RULE)
+    }
+
+    /// The buddy check that is asked for, good or bad; none where it is off.
+    pub fn check(&self) -> Option<Buddy> {
+        self.buddy.filter(|buddy| buddy.on)
     }
 
     /// The wind of a row, none where it is missing; it means something once

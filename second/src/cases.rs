@@ -1,6 +1,7 @@
 //! Five kinds of comparison: analysis, window, reading, summary, text. Two more,
 //! windows and smoothing, are in `screen_case` and `field_case`.
 
+use crate::buddy_sorts;
 use crate::call::{Analysis, Call, Query, Refusal, Window};
 use crate::compare::{read, Answer, Case, Results, Subject};
 use crate::generate;
@@ -27,7 +28,7 @@ use crate::wind_sorts;
 use crate::window::{pick, whole};
 use crate::write::{listing, printf_form, rerun_form};
 
-const VERDICTS: [u32; 12] = [0, 1, 2, 3, 4, 5, 11, 12, 13, 14, 15, 16];
+const VERDICTS: [u32; 18] = [0, 1, 2, 3, 4, 5, 11, 12, 13, 14, 15, 16, 21, 22, 23, 24, 25, 26];
 
 /// The floors of the kinds that run the scheme.
 pub fn scheme_floors(accepted: u64, big: u64, refusals: &[u32]) -> Vec<Floor> {
@@ -59,8 +60,8 @@ pub fn count_scheme(outcome: Result<(&Call, &Analysis), &Refusal>, tally: &mut T
     }
 }
 
-/// What only C calls have: winds, a mode, and any rule, with the windows that are asked
-/// for.
+/// What only C calls have: winds, a mode, any rule, and a check that is off or bad, with
+/// the windows that are asked for.
 pub fn count_winds_and_rules(
     call: &Call,
     windows: &[Window],
@@ -75,6 +76,16 @@ pub fn count_winds_and_rules(
         Ok(analysis) => rule_sorts::of_accepted(call, analysis, windows),
         Err(refusal) => rule_sorts::of_refused(call, refusal),
     });
+    tally.add_sorts(&match outcome {
+        Ok(analysis) => buddy_sorts::of_accepted(call, analysis, windows),
+        Err(refusal) => buddy_sorts::of_refused(call, refusal),
+    });
+}
+
+/// The floors of what windows and screens have of these.
+pub fn call_floors() -> Vec<Floor> {
+    let rules = [rule_sorts::window_floors(), buddy_sorts::window_floors()].concat();
+    [wind_sorts::window_floors(), rules].concat()
 }
 
 /// What is wrong with an accepted answer, whatever it is compared with.
@@ -160,7 +171,7 @@ impl Case for AnalysisCase {
         let scheme = scheme_floors(10_000, 300, &[1, 3, 4, 5, 6, 7, 8]);
         let posts = post_sorts::call_floors();
         let others = [weight_sorts::floors(), smoothing_sorts::floors()].concat();
-        let winds = [wind_sorts::floors(), rule_sorts::floors()].concat();
+        let winds = [wind_sorts::floors(), rule_sorts::floors(), buddy_sorts::floors()].concat();
         [scheme, length_floors(), posts, others, winds].concat()
     }
 }
@@ -238,7 +249,7 @@ impl Case for WindowCase {
         let empty = vec![Floor::times("empty slice", 2, 50)];
         let posts = [post_sorts::call_floors(), post_sorts::window_floors(50)].concat();
         let others = [weight_sorts::window_floors(), smoothing_sorts::window_floors(8)].concat();
-        let winds = [wind_sorts::window_floors(), rule_sorts::window_floors()].concat();
+        let winds = call_floors();
         [scheme, length_floors(), empty, sorts::floors(), posts, others, winds].concat()
     }
 }
@@ -367,6 +378,10 @@ impl Case for TextCase {
             Ok((call, analysis)) => rule_sorts::of_accepted(call, analysis, &[]),
             Err(refusal) => rule_sorts::of_text(&self.text, refusal),
         });
+        tally.add_sorts(&match expected {
+            Ok((call, analysis)) => buddy_sorts::of_accepted(call, analysis, &[]),
+            Err(refusal) => buddy_sorts::of_text(&self.text, refusal),
+        });
         tally.add_sorts(self.harm.as_slice());
     }
 
@@ -408,7 +423,8 @@ impl Case for TextCase {
     fn floors() -> Vec<Floor> {
         let scheme = scheme_floors(10_000, 300, &[6, 7, 8, 9, 10]);
         let stations = [post_sorts::text_floors(), weight_sorts::floors()].concat();
-        let others = [smoothing_sorts::floors(), rule_sorts::text_floors()].concat();
+        let rules = [rule_sorts::text_floors(), buddy_sorts::text_floors()].concat();
+        let others = [smoothing_sorts::floors(), rules].concat();
         [scheme, text_sorts::floors(), harm::floors(), stations, others].concat()
     }
 }

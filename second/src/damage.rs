@@ -3,6 +3,7 @@
 //! texts.
 
 use crate::call::{Call, Query, Window, Winds};
+use crate::damage_buddies::{break_by_buddy, push_check};
 use crate::damage_rules::break_by_rule;
 use crate::damage_winds::break_by_wind;
 use crate::rng::Rng;
@@ -13,9 +14,12 @@ const BAD_VALUES: [i32; 4] = [1_000_001, -1_000_001, i32::MAX, i32::MIN + 1];
 const EDGE_VALUES: [i32; 4] = [1_000_000, -1_000_000, MISSING, 32_767];
 
 /// Breaks a call so that it earns a refusal, sometimes in a second way too. Winds,
-/// modes and rules have their turns, and second faults of their own.
+/// modes, rules and checks have their turns, and second faults of their own.
 pub fn break_call(rng: &mut Rng, call: &mut Call, number: u32, turn: u64) {
-    if break_by_rule(rng, call, number, turn) || break_by_wind(rng, call, number, turn) {
+    let broken = break_by_rule(rng, call, number, turn)
+        || break_by_wind(rng, call, number, turn)
+        || break_by_buddy(rng, call, number, turn);
+    if broken {
         return;
     }
     break_one(rng, call, number);
@@ -241,6 +245,7 @@ pub fn push_to_bounds(rng: &mut Rng, call: &mut Call) {
             _ => set_row(rng, call, past),
         }
     }
+    push_check(&mut rng.beside(), call);
 }
 
 /// A result of a window query with another length: that of the whole grid, if

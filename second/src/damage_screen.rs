@@ -4,6 +4,7 @@
 
 use crate::call::{Call, Screen, Window};
 use crate::damage::{bad_ends, break_call, break_one, wrong_length, BAD_ENDS};
+use crate::damage_buddies::break_by_buddy;
 use crate::damage_rules::break_by_rule;
 use crate::damage_winds::break_by_wind;
 use crate::rng::Rng;
@@ -32,9 +33,11 @@ pub fn break_screen(
             break_the_rest(rng, &mut call);
         }
         3 => break_results(rng, &mut call, &screen.windows(), way),
-        // A way to break a rule or a wind comes seldom, and no bad window is to hide it.
+        // A way to break a rule, a wind or a check comes seldom, and no bad window is to
+        // hide it.
         _ if break_by_rule(rng, &mut call, number, way) => (),
         _ if break_by_wind(rng, &mut call, number, way) => (),
+        _ if break_by_buddy(rng, &mut call, number, way) => (),
         _ => {
             if rng.one_in(3) {
                 break_windows_too(rng, &call, &mut screen);

@@ -2,12 +2,14 @@
 //! schedule over the index. `generate_window` and `generate_screen` place windows
 //! on such calls, `generate_text` writes them out as texts, `generate_posts` sets
 //! stations beyond the border, `generate_rims` some at the rim of a radius,
-//! `generate_rules` some that are alone with a point or nearly so, and
+//! `generate_rules` some that are alone with a point or nearly so,
+//! `generate_buddies` some that agree or disagree with those near them, and
 //! `generate_winds` gives them winds, which no text has; `generate_query` makes
 //! readings and summaries, and `generate_field` single fields.
 
 use crate::call::{Call, Window};
 use crate::damage;
+use crate::generate_buddies::{any_buddy, befriend, near_at_hand};
 use crate::generate_posts::beyond;
 use crate::generate_rims::add_on_a_rim;
 use crate::generate_rules::{add_round_a_point, any_rule, thin_out};
@@ -84,6 +86,7 @@ pub fn big_call(rng: &mut Rng) -> Call {
         // Most big ones have short radii: they take less time and the cuts
         // of their windows are smaller than the grid.
         call.radius.iter_mut().for_each(|radius| *radius = 1 + *radius / 4);
+        near_at_hand(&mut call, 100);
     }
     call
 }
@@ -120,6 +123,7 @@ pub fn call_of(rng: &mut Rng, nx: u32, ny: u32, stations: usize) -> Call {
     tune_limits(rng, &mut call);
     order_limits(rng, &mut call);
     add_round_a_point(rng, &mut call, &whole);
+    befriend(rng, &mut call, &whole);
     call.fit_results();
     call
 }
@@ -138,6 +142,7 @@ pub fn untuned_call(rng: &mut Rng, nx: u32, ny: u32, stations: usize) -> Call {
         scans: rng.pick(&[1, 2, 2, 3, 4, 5, 6, 6, 6]),
         smooth: rng.one_in(2),
         rule: any_rule(beside),
+        buddy: any_buddy(&mut beside.beside(), spread),
         time,
         age,
         ..Call::default()

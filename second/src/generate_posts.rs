@@ -43,7 +43,8 @@ pub fn distance(rng: &mut Rng) -> i32 {
 }
 
 /// Adds a station beyond a corner, by two of the distances, to an eighth of the
-/// requests. Screens have few stations, and seldom one at each of these places.
+/// requests. Windows and screens have few stations, and seldom one at each of these
+/// places.
 pub fn add_beyond_a_corner(rng: &Rng, call: &mut Call) {
     // The sources before it are those of the rims and of the points.
     let rng = &mut rng.beside().beside().beside();

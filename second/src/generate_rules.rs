@@ -225,7 +225,7 @@ fn reject_one_of_two(rng: &mut Rng, call: &mut Call, scan: usize) {
 }
 
 /// At least so many scans, the last of them like the last there was.
-fn lengthen(call: &mut Call, all: usize) {
+pub fn lengthen(call: &mut Call, all: usize) {
     let scans = call.scans as usize;
     if scans < all {
         let (radius, limit) = (call.radius[scans - 1], call.limit[scans - 1]);
@@ -300,7 +300,7 @@ fn quiet_point(
     })
 }
 
-fn drop_inside(call: &mut Call, point: (i32, i32), radius: i32) {
+pub fn drop_inside(call: &mut Call, point: (i32, i32), radius: i32) {
     for row in (0..call.x.len()).rev().filter(|row| *row < MOST_STATIONS) {
         if is_inside(call, row, point, radius) {
             call.x.remove(row);
@@ -383,7 +383,7 @@ fn tie(rng: &mut Rng, point: (i32, i32), place: (i32, i32), radius: i32, most: i
 }
 
 /// Adds a row that takes part, with a difference from the first guess.
-fn push(call: &mut Call, (x, y): (i32, i32), difference: i32) {
+pub fn push(call: &mut Call, (x, y): (i32, i32), difference: i32) {
     let value = guess_at(call, x, y).saturating_add(difference);
     push_station(call, x, y, value.clamp(*VALUE.start(), *VALUE.end()));
 }
@@ -438,7 +438,7 @@ fn put_beside(
 
 /// Makes the last row one with the verdict, or one whose observation is missing where
 /// the minutes have no room for that.
-fn bury(call: &mut Call, verdict: u8) {
+pub fn bury(call: &mut Call, verdict: u8) {
     let (time, age, last) = (call.time, call.age, call.x.len() - 1);
     let oldest = time.checked_sub(age).and_then(|oldest| oldest.checked_sub(1));
     match verdict {

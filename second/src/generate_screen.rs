@@ -8,6 +8,7 @@ use crate::generate::{
     big_call, edge_call, flavour, order_limits, small_call, tune_limits, untuned_call, whole_grid,
     Flavour, BIG_EVERY, TURNS,
 };
+use crate::generate_links::{befriend_or_link, will_link};
 use crate::generate_posts::{add_beyond_a_corner, move_beyond_the_cut};
 use crate::generate_rims::add_on_a_rim;
 use crate::generate_rules::add_round_a_point;
@@ -80,6 +81,7 @@ fn valid(rng: &mut Rng) -> (Call, Screen) {
 /// edges of the cuts of some, and winds.
 fn with_screen(rng: &mut Rng, make: Make, lay: Lay) -> (Call, Screen) {
     let mut call = make(rng);
+    let linked = will_link(rng, &mut call);
     let windows = lay(rng, &call);
     let chained = !windows.is_empty() && rng.one_in(2);
     if !windows.is_empty() {
@@ -99,6 +101,7 @@ fn with_screen(rng: &mut Rng, make: Make, lay: Lay) -> (Call, Screen) {
     let whole = whole_grid(&call);
     let part = windows.first().unwrap_or(&whole);
     add_round_a_point(rng, &mut call, part);
+    befriend_or_link(rng, &mut call, part, linked && !windows.is_empty());
     blow(rng, &mut call, part);
     (call.grid_len, call.support_len) = (points(&windows), points(&windows));
     (call, Screen::new(&windows))

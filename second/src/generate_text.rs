@@ -1,8 +1,9 @@
 //! The generator of request texts: generated calls written out, long ones of
 //! all sizes up to the limit, and texts that are harmed.
 
-use crate::call::Call;
+use crate::call::{Buddy, Call};
 use crate::damage::break_one;
+use crate::damage_buddies::{self, break_in_text};
 use crate::damage_rules::break_line;
 use crate::damage_text::break_text;
 use crate::generate::{
@@ -20,10 +21,13 @@ const LIMIT_EVERY: u64 = 97;
 const LONG_EVERY: u64 = 23;
 /// The refusals that the damaged turns aim at. In the first of them texts are
 /// harmed in turn, whatever else the index would ask for, and in the last the line of
-/// the rule; in the last but one, texts are harmed at random.
+/// the rule; in the last but one, the line of the check, and every so often texts are
+/// harmed at random.
 const DAMAGES: [u32; 11] = [9, 9, 9, 9, 9, 6, 7, 8, 10, 9, 9];
 const HARMS: u64 = 5;
+const CHECK_HARMS: u64 = 9;
 const RULE_HARMS: u64 = 10;
+const RANDOM_EVERY: u64 = 4;
 
 /// A request text, and the harm that was done to it in turn.
 pub fn text(seed: u64, index: u64) -> (Vec<u8>, Option<Sort>) {
@@ -41,16 +45,23 @@ pub fn text(seed: u64, index: u64) -> (Vec<u8>, Option<Sort>) {
             break_line(rng, &mut text, index / TURNS);
             (text, None)
         }
+        _ if turn == CHECK_HARMS && index / TURNS % RANDOM_EVERY > 0 => {
+            let mut text = written(rng, small_call);
+            // The turns before it that were not random.
+            let way = index / TURNS - index / TURNS / RANDOM_EVERY - 1;
+            damage_buddies::break_line(rng, &mut text, way);
+            (text, None)
+        }
         _ if index % LIMIT_EVERY == 5 => {
             let past = index / LIMIT_EVERY % 2;
             (text_of_length(rng, MOST_TEXT + past as usize), None)
         }
         _ if index % LONG_EVERY == 7 => (long_text(rng, index / LONG_EVERY), None),
-        other => (unharmed(rng, other), None),
+        other => (unharmed(rng, other, index / TURNS), None),
     }
 }
 
-fn unharmed(rng: &mut Rng, flavour: Flavour) -> Vec<u8> {
+fn unharmed(rng: &mut Rng, flavour: Flavour, turn: u64) -> Vec<u8> {
     match flavour {
         Flavour::Big => written(rng, big_call),
         Flavour::Valid => written(rng, small_call),
@@ -71,7 +82,9 @@ fn unharmed(rng: &mut Rng, flavour: Flavour) -> Vec<u8> {
         }
         Flavour::Damaged(number) => {
             let mut call = small_call(rng);
-            break_one(rng, &mut call, number);
+            if !break_in_text(rng, &mut call, number, turn) {
+                break_one(rng, &mut call, number);
+            }
             text_form(rng, &call).unwrap_or_default()
         }
     }
@@ -98,6 +111,7 @@ fn harmless(rng: &mut Rng) -> Vec<u8> {
     let guess = call.first_guess[0];
     push_station(&mut call, 0, 0, guess);
     call.rule = Some(call.rule());
+    call.buddy = call.check().or(Some(Buddy::on(100, 300)));
     call.fit_results();
     let style = Style { marks_as_digits: rng.one_in(3), age_left_out: false };
     request_text(&call, style).unwrap_or_default()

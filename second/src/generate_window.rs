@@ -7,7 +7,9 @@ use crate::generate::{
     big_call, edge_call, flavour, guess_at, order_limits, push_station, small_call, tune_limits,
     untuned_call, Flavour, TURNS,
 };
-use crate::generate_posts::move_beyond_the_cut;
+use crate::generate_buddies::near_at_hand;
+use crate::generate_links::{befriend_or_link, will_link};
+use crate::generate_posts::{add_beyond_a_corner, move_beyond_the_cut};
 use crate::generate_rims::add_on_a_rim;
 use crate::generate_rules::add_round_a_point;
 use crate::generate_winds::blow;
@@ -48,6 +50,7 @@ pub fn window(seed: u64, index: u64) -> (Call, Window) {
 /// its cut, and winds.
 fn with_window(rng: &mut Rng, make: fn(&mut Rng) -> Call, place: Place) -> (Call, Window) {
     let mut call = make(rng);
+    let linked = will_link(rng, &mut call);
     let window = place(rng, call.nx, call.ny);
     move_to_the_cut(rng, &mut call, &window);
     move_beyond_the_cut(rng, &mut call, &window);
@@ -58,7 +61,9 @@ fn with_window(rng: &mut Rng, make: fn(&mut Rng) -> Call, place: Place) -> (Call
         tune_limits(rng, &mut call);
         order_limits(rng, &mut call);
     }
+    add_beyond_a_corner(rng, &mut call);
     add_round_a_point(rng, &mut call, &window);
+    befriend_or_link(rng, &mut call, &window, linked);
     blow(rng, &mut call, &window);
     call.grid_len = window.area();
     call.support_len = window.area();
@@ -79,7 +84,7 @@ pub fn roomy_call(rng: &mut Rng) -> Call {
 }
 
 /// The call with at most one of these numbers of scans, and radii at most one
-/// of these.
+/// of these, that of its check too.
 pub fn shortened(rng: &mut Rng, mut call: Call, scans: &[usize], radii: &[i32]) -> Call {
     let (all, most) = (call.scans as usize, rng.pick(scans));
     call.radius.drain(all.min(most)..all);
@@ -87,6 +92,7 @@ pub fn shortened(rng: &mut Rng, mut call: Call, scans: &[usize], radii: &[i32]) 
     call.scans = all.min(most) as u32;
     let longest = rng.pick(radii);
     call.radius.iter_mut().for_each(|radius| *radius = (*radius).min(longest));
+    near_at_hand(&mut call, longest.min(128));
     call
 }
 
@@ -197,7 +203,7 @@ pub fn lay_chain(rng: &mut Rng, call: &mut Call, window: &Window) {
 
 /// A point of the window's edge, and the direction from there to an edge of
 /// the cut that is not the grid's border.
-fn way_out(rng: &mut Rng, call: &Call, window: &Window) -> Option<(i32, i32, i32, i32)> {
+pub fn way_out(rng: &mut Rng, call: &Call, window: &Window) -> Option<(i32, i32, i32, i32)> {
     let cut = widened(call, window, reach(call));
     let at = |end: u32| 64 * end as i32;
     let column = at(window.left + rng.up_to(window.right - window.left));

@@ -9,12 +9,12 @@ use crate::tally::Floor;
 /// The least of each harm to each line or field in a full run.
 const LEAST: u64 = 10;
 
-const KEYS: [&str; 10] =
-    ["grid", "time", "age", "smooth", "rule", "scans", "scan", "row", "stations", "st"];
+const KEYS: [&str; 11] =
+    ["grid", "time", "age", "smooth", "rule", "scans", "scan", "buddy", "row", "stations", "st"];
 
 macro_rules! by_line {
     ($harm:literal) => {
-        concat!($harm, " (grid, time, age, smooth, rule, scans, scan, row, stations, st)")
+        concat!($harm, " (grid, time, age, smooth, rule, scans, scan, buddy, row, stations, st)")
     };
 }
 
@@ -22,7 +22,7 @@ macro_rules! by_field {
     ($harm:literal) => {
         concat!(
             $harm,
-            " (nx, ny, time, age, smooth, rule, scans, R, E, row, stations, \
+            " (nx, ny, time, age, smooth, rule, scans, R, E, B, L, row, stations, \
              x, y, value, observed, from, until)"
         )
     };
@@ -72,7 +72,7 @@ const fn minute(key: usize, at: usize) -> Field {
     Field { key, at, range: U32, of_type: U32 }
 }
 
-const FIELDS: [Field; 17] = [
+const FIELDS: [Field; 19] = [
     number(0, 0, 2, 64),
     number(0, 1, 2, 64),
     minute(1, 0),
@@ -82,17 +82,19 @@ const FIELDS: [Field; 17] = [
     number(5, 0, 1, 6),
     number(6, 0, 1, 1024),
     number(6, 1, 0, 2_000_000),
-    number(7, 0, -1_000_000, 1_000_000),
-    number(8, 0, 0, 512),
-    number(9, 0, -1_000_000, 1_000_000),
-    number(9, 1, -1_000_000, 1_000_000),
-    number(9, 2, -1_000_000, 1_000_000),
-    minute(9, 3),
-    minute(9, 4),
-    minute(9, 5),
+    number(7, 0, 1, 512),
+    number(7, 1, 0, 2_000_000),
+    number(8, 0, -1_000_000, 1_000_000),
+    number(9, 0, 0, 512),
+    number(10, 0, -1_000_000, 1_000_000),
+    number(10, 1, -1_000_000, 1_000_000),
+    number(10, 2, -1_000_000, 1_000_000),
+    minute(10, 3),
+    minute(10, 4),
+    minute(10, 5),
 ];
 /// Any point of a row may be harmed, not its first alone.
-const ROW: usize = 7;
+const ROW: usize = 8;
 
 /// The new way to write a field, from the old one.
 type NumberHarm = fn(&mut Rng, &Field, &[u8]) -> Vec<u8>;
@@ -128,7 +130,7 @@ pub fn floors() -> Vec<Floor> {
 }
 
 /// Harms a request text in the way whose turn it is. Every kind of line must
-/// be there, `age`, `rule` and a station too.
+/// be there, `age`, `rule`, `buddy` and a station too.
 pub fn harm(rng: &mut Rng, text: &mut Vec<u8>, turn: u64) -> Sort {
     let turn = (turn % turns() as u64) as usize;
     let of_lines = LINE_HARMS.len() * KEYS.len();

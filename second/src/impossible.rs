@@ -6,13 +6,15 @@ use crate::post_sorts::is_post;
 use crate::scan::{weight, weight_at};
 use crate::scheme::run;
 use crate::units::{EQUATIONS, ROUND, WEIGHT_SCALE};
-use crate::verdicts::REJECTED;
+use crate::verdicts::{ended_in, ACCEPTED, REJECTED, SET_ASIDE};
 use crate::weight_sorts::{each_point, is_small, Around};
 
 /// A post's D is the same in every scan. So a scan that rejects it has a limit
 /// below those of all scans before, which let it pass.
 pub fn late_rejection(call: &Call, verdict: &[u8]) -> Option<String> {
-    let rejected = |row: &usize| verdict[*row] > REJECTED && is_post(call, *row, verdict[*row]);
+    let by_limit = REJECTED + 1..=SET_ASIDE;
+    let rejected =
+        |row: &usize| by_limit.contains(&verdict[*row]) && is_post(call, *row, verdict[*row]);
     let rows = (0..verdict.len()).filter(rejected);
     let mut scans = rows.map(|row| (row, usize::from(verdict[row] - REJECTED) - 1));
     let (row, scan) = scans.find(|(_, scan)| {
@@ -68,7 +70,10 @@ pub fn moved_by_rule(call: &Call, analysis: &Analysis) -> Option<String> {
     let other = run(&Call { rule: Some(EQUATIONS), ..call.clone() });
     let first = |of: &Analysis| {
         let support: Vec<u8> = of.support.iter().map(|byte| byte & 1).collect();
-        let at_once = |verdict: &u8| if *verdict > REJECTED + 1 { 0 } else { *verdict };
+        let at_once = |verdict: &u8| match ended_in(*verdict) {
+            Some(1..) => ACCEPTED,
+            _ => *verdict,
+        };
         (support, of.verdict.iter().map(at_once).collect::<Vec<u8>>())
     };
     let unlike = first(analysis) != first(&other);

@@ -1,14 +1,18 @@
-//! The independent second program: document 01 with requests 1 to 6 of
+//! The independent second program: document 01 with requests 1 to 7 of
 //! document 02, worked out plainly, to be compared number for number with the
 //! proved implementation.
 
 #![forbid(unsafe_code)]
 
 pub mod bridge;
+pub mod buddy;
+pub mod buddy_sorts;
 pub mod call;
 pub mod cases;
+pub mod company_sorts;
 pub mod compare;
 pub mod damage;
+pub mod damage_buddies;
 pub mod damage_rules;
 pub mod damage_screen;
 pub mod damage_text;
@@ -17,7 +21,10 @@ pub mod field;
 pub mod field_case;
 pub mod field_sorts;
 pub mod generate;
+pub mod generate_buddies;
+pub mod generate_company;
 pub mod generate_field;
+pub mod generate_links;
 pub mod generate_posts;
 pub mod generate_query;
 pub mod generate_rims;

@@ -6,7 +6,7 @@ use crate::scan::{difference, weight};
 use crate::sorts::{floors_of, named, sides, Sort};
 use crate::tally::Floor;
 use crate::units::{BORDER, STEP};
-use crate::verdicts::{ACCEPTED, OFF_GRID, REJECTED};
+use crate::verdicts::{ended_in, takes_part, ACCEPTED, OFF_GRID, SET_ASIDE};
 use crate::window::{reach, widened};
 
 /// How far out stations must be seen beyond every side and every corner: by
@@ -76,8 +76,7 @@ fn out(call: &Call, row: usize) -> (i32, i32) {
 
 /// Whether a row stands beyond the border and takes part, by its verdict.
 pub fn is_post(call: &Call, row: usize, verdict: u8) -> bool {
-    let takes_part = verdict == ACCEPTED || verdict > REJECTED;
-    takes_part && out(call, row) != (0, 0)
+    takes_part(verdict) && out(call, row) != (0, 0)
 }
 
 /// The sorts of the stations of an accepted request.
@@ -114,12 +113,13 @@ fn of_post(call: &Call, row: usize, verdict: u8) -> Vec<Sort> {
     let accepted = verdict == ACCEPTED;
     let whole = Window::new(0, call.nx - 1, 0, call.ny - 1);
     let heard = accepted && is_heard(call, row, &whole);
-    let rejected = [verdict == REJECTED + 1, verdict > REJECTED + 1];
+    // By its limit; what its neighbours do is counted in `buddy_sorts`.
+    let rejecting = ended_in(verdict).filter(|_| verdict < SET_ASIDE);
+    let rejected = [rejecting == Some(0), rejecting > Some(0)];
     let size = difference(call, &call.first_guess, row).abs();
-    let rejecting = (!accepted).then(|| limits[usize::from(verdict - REJECTED) - 1]);
     let exact = [
         accepted && limits.iter().any(|limit| i64::from(*limit) == size),
-        rejecting.is_some_and(|limit| i64::from(limit) + 1 == size),
+        rejecting.is_some_and(|scan| i64::from(limits[scan]) + 1 == size),
     ];
     let falls = limits.windows(2).any(|pair| pair[1] < pair[0]);
     let equal = limits.iter().all(|limit| *limit == limits[0]);

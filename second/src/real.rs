@@ -1,9 +1,9 @@
 //! The stations of source document 002 as requests: real positions and values,
 //! on that document's grid, under limits that reject none, some and most of
-//! them; once with the round weight and once along winds, which are made up; and
-//! each under both rules.
+//! them; once with the round weight and once along winds, which are made up; each
+//! under both rules; and with a buddy check, under several B and L.
 
-use crate::call::{Analysis, Call, Query, Screen, Window, Winds};
+use crate::call::{Analysis, Buddy, Call, Query, Screen, Window, Winds};
 use crate::cases::{AnalysisCase, ReadingCase, SummaryCase, TextCase, WindowCase};
 use crate::post_sorts::is_post;
 use crate::scheme::{run, run_in};
@@ -13,7 +13,9 @@ use crate::units::{
     ALONG_WIND, DEFAULT_AGE, EQUATIONS, HUNDREDTHS, LISTINGS, MISSING, MOST_STATIONS, MOST_WINDOWS,
     NO_END, ROUND,
 };
+use crate::verdicts::{REJECTED, SET_ASIDE};
 use crate::write::{written_out, Style};
+use std::ops::Range;
 
 /// What `data/README.md` describes.
 pub const DATA: &str = include_str!("../../data/stations-002.csv");
@@ -71,19 +73,28 @@ struct Plan {
     limits: [i32; 4],
     rejects: &'static str,
     holds: fn(usize, usize) -> bool,
+    /// B and L with the round weight, and along the winds.
+    checks: [(i32, i32); 2],
 }
 
 const PLANS: [Plan; 3] = [
-    Plan { limits: [500_000; 4], rejects: "none", holds: |rejected, _| rejected == 0 },
+    Plan {
+        limits: [500_000; 4],
+        rejects: "none",
+        holds: |rejected, _| rejected == 0,
+        checks: [(512, 100_000), (64, 20_000)],
+    },
     Plan {
         limits: [200_000, 120_000, 80_000, 50_000],
         rejects: "some",
         holds: |rejected, of| rejected > 0 && 2 * rejected <= of,
+        checks: [(100, 30_000), (257, 60_000)],
     },
     Plan {
         limits: [40_000, 20_000, 10_000, 5_000],
         rejects: "most",
         holds: |rejected, of| 2 * rejected > of,
+        checks: [(160, 4_000), (320, 10_000)],
     },
 ];
 
@@ -135,6 +146,15 @@ fn listed(call: Call) -> Call {
     Call { rule: Some(LISTINGS), ..call }
 }
 
+/// The call with one of the plan's buddy checks.
+fn checked(call: Call, plan: &Plan) -> Call {
+    let (radius, limit) = plan.checks[usize::from(call.mode == ALONG_WIND)];
+    Call { buddy: Some(Buddy::on(radius, limit)), ..call }
+}
+
+/// What becomes of a plan's call before it is run.
+type Dress = fn(Call, &Plan) -> Call;
+
 /// A request over as many stations as a request may have, its analysis, and a
 /// line on what its limits reject and its weights gain.
 struct Accepted {
@@ -145,31 +165,34 @@ struct Accepted {
 
 impl Accepted {
     /// Fails if the limits do not reject what they are to.
-    fn new(
-        stations: &[Station],
-        plan: &Plan,
-        smooth: bool,
-        dress: fn(Call) -> Call,
-    ) -> Result<Self, String> {
-        let call = dress(call(&stations[..MOST_STATIONS.min(stations.len())], plan, smooth));
+    fn new(stations: &[Station], plan: &Plan, smooth: bool, dress: Dress) -> Result<Self, String> {
+        let call = dress(call(&stations[..MOST_STATIONS.min(stations.len())], plan, smooth), plan);
         let analysis = run(&call);
         let verdicts = analysis.verdict.iter().copied().enumerate();
         let part: Vec<(usize, u8)> = verdicts.filter(|(_, verdict)| *verdict != 5).collect();
         let posts = part.iter().filter(|(row, verdict)| is_post(&call, *row, *verdict)).count();
-        let (rejected, of) = (part.iter().filter(|(_, verdict)| *verdict > 10).count(), part.len());
+        let within = |range: Range<u8>| part.iter().filter(|one| range.contains(&one.1)).count();
+        let (rejected, aside) = (within(REJECTED..SET_ASIDE), within(SET_ASIDE..u8::MAX));
+        let of = part.len();
         let (gained, moved) = (gained(&call, &analysis), moved(&call, &analysis));
-        let alone = alone(&call, &analysis);
-        let Plan { limits, rejects, holds } = plan;
+        let (alone, company) = (alone(&call, &analysis), company(&call, &analysis, aside));
+        let Plan { limits, rejects, holds, .. } = plan;
         let switch = if smooth { "on" } else { "off" };
         let said = format!(
             "limits {limits:?}, smoothing {switch}: {rejected} of {of} rejected; \
              {posts} of the {of} are posts; \
-             points that gain support over a run in hundredths: {gained}{moved}{alone}"
+             points that gain support over a run in hundredths: {gained}{moved}{alone}{company}"
         );
-        if holds(rejected, of) {
+        // Whom a check sets aside no limit has to reject.
+        let fits = match call.check() {
+            None => holds(rejected, of),
+            Some(_) => 0 < aside && 2 * aside < of,
+        };
+        if fits {
             Ok(Accepted { call, analysis, said })
         } else {
-            Err(format!("{said}; {rejects} were to be rejected: choose other limits in real.rs"))
+            let what = if call.check().is_some() { "some to be set aside" } else { rejects };
+            Err(format!("{said}; {what} were to be rejected: choose other limits in real.rs"))
         }
     }
 
@@ -214,6 +237,20 @@ fn alone(call: &Call, analysis: &Analysis) -> String {
     }
     let other = run(&Call { rule: Some(EQUATIONS), ..call.clone() });
     format!("; points that rule 1 leaves otherwise: {}", unlike(analysis, &other))
+}
+
+/// What is said of the stations that a buddy check sets aside, and of the points that
+/// it moves otherwise; nothing where it is off.
+fn company(call: &Call, analysis: &Analysis, aside: usize) -> String {
+    let Some(Buddy { radius, limit, .. }) = call.check() else {
+        return String::new();
+    };
+    let other = run(&Call { buddy: None, ..call.clone() });
+    let points = unlike(analysis, &other);
+    format!(
+        "; set aside by a check of {radius},{limit}: {aside}; \
+         points that no check leaves otherwise: {points}"
+    )
 }
 
 /// How many points have another value.
@@ -283,15 +320,19 @@ pub struct Cases {
 
 impl Cases {
     pub fn new(stations: &[Station]) -> Result<Self, String> {
-        let round = accepted(stations, |call| call)?;
-        let along = accepted(stations, blown)?;
-        let round_listed = accepted(stations, listed)?;
-        let along_listed = accepted(stations, |call| listed(blown(call)))?;
-        let accepted = || round.iter().chain(&along).chain(&round_listed).chain(&along_listed);
+        let round = accepted(stations, |call, _| call)?;
+        let along = accepted(stations, |call, _| blown(call))?;
+        let round_listed = accepted(stations, |call, _| listed(call))?;
+        let along_listed = accepted(stations, |call, _| listed(blown(call)))?;
+        let round_checked = accepted(stations, checked)?;
+        let along_checked = accepted(stations, |call, plan| checked(listed(blown(call)), plan))?;
+        let all = [&round, &along, &round_listed, &along_listed, &round_checked, &along_checked];
+        let accepted = || all.into_iter().flatten();
         let too_many = call(stations, &PLANS[0], false);
         let plain = |text| TextCase { text, harm: None };
         let too_long = written_out(&too_many, Style::default()).into_bytes();
-        let texts = round.iter().chain(&round_listed).map(Accepted::text).chain([too_long]);
+        let texts = round.iter().chain(&round_listed).chain(&round_checked);
+        let texts = texts.map(Accepted::text).chain([too_long]);
         let analyses = accepted().map(|one| one.call.clone()).chain([too_many.clone()]);
         let each_window =
             accepted().flat_map(|one| windows().map(|window| windowed(one.call.clone(), window)));
@@ -312,7 +353,7 @@ impl Cases {
 }
 
 /// Every plan with smoothing off and on, its calls with winds or as they are.
-fn accepted(stations: &[Station], dress: fn(Call) -> Call) -> Result<Vec<Accepted>, String> {
+fn accepted(stations: &[Station], dress: Dress) -> Result<Vec<Accepted>, String> {
     let plans = PLANS.iter().flat_map(|plan| [(plan, false), (plan, true)]);
     plans.map(|(plan, smooth)| Accepted::new(stations, plan, smooth, dress)).collect()
 }

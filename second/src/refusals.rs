@@ -3,7 +3,8 @@
 use crate::call::{Call, Refusal, Window, Winds};
 use crate::field::Shape;
 use crate::units::{
-    LIMIT, MISSING, MODES, MOST_STATIONS, POSITION, RADIUS, RULES, SCANS, SIDE, VALUE, WIND,
+    BUDDY_LIMIT, BUDDY_RADIUS, LIMIT, MISSING, MODES, MOST_STATIONS, OF_THE_CHECK, POSITION,
+    RADIUS, RULES, SCANS, SIDE, VALUE, WIND,
 };
 
 pub type Checked = Result<(), Refusal>;
@@ -56,6 +57,7 @@ pub fn check_request(call: &Call) -> Checked {
     demand(MODES.contains(&call.mode), 5, 0)?;
     demand(RULES.contains(&call.rule()), 5, 0)?;
     check_plan(call)?;
+    check_buddy(call)?;
     check_first_guess(call)?;
     check_stations(call)
 }
@@ -83,6 +85,15 @@ fn check_plan(call: &Call) -> Checked {
         demand(good, 6, scan)?;
     }
     Ok(())
+}
+
+/// "B or L out of range is 6 with place 6, after the scans", and where the check is off
+/// "neither is read".
+fn check_buddy(call: &Call) -> Checked {
+    let good = call.check().is_none_or(|check| {
+        BUDDY_RADIUS.contains(&check.radius) && BUDDY_LIMIT.contains(&check.limit)
+    });
+    demand(good, 6, OF_THE_CHECK)
 }
 
 fn check_first_guess(call: &Call) -> Checked {

@@ -1,5 +1,6 @@
 //! One scan: differences and the E test, weights, corrections, smoothing.
 
+use crate::buddy::agreeing;
 use crate::call::Call;
 use crate::field::Shape;
 use crate::units::{rounded, ALONG_WIND, CELL, LISTINGS, STEP, WEIGHT_SCALE};
@@ -9,6 +10,7 @@ use crate::verdicts::{ACCEPTED, REJECTED};
 /// difference D and the wind that its weight goes by, if it goes by one.
 #[derive(Clone, Copy, Debug)]
 pub struct Accepted {
+    pub row: usize,
     pub x: i64,
     pub y: i64,
     pub wind: Option<(i64, i64)>,
@@ -19,7 +21,7 @@ impl Accepted {
     pub fn new(call: &Call, row: usize, difference: i64) -> Self {
         let (x, y) = (call.x[row].into(), call.y[row].into());
         let wind = call.wind(row).filter(|_| call.mode == ALONG_WIND);
-        Accepted { x, y, wind, difference }
+        Accepted { row, x, y, wind, difference }
     }
 
     /// The station's offset from a point.
@@ -43,10 +45,17 @@ pub fn rounded_at(shape: Shape, field: &[i32], x: i32, y: i32) -> i64 {
     rounded(shape.interpolation_sum(field, x, y), CELL)
 }
 
-/// Judges every station against the field as the scan finds it and gives
-/// those still accepted. `scan` counts from 0. A rejected row never returns,
-/// because only rows with verdict 0 are looked at.
+/// Judges every station, first by itself and then by its neighbours, and gives those
+/// still accepted.
 pub fn judge(call: &Call, field: &[i32], scan: usize, verdict: &mut [u8]) -> Vec<Accepted> {
+    let survivors = survivors(call, field, scan, verdict);
+    agreeing(call, scan, survivors, verdict)
+}
+
+/// The E test: judges every station against the field as the scan finds it and gives
+/// those that pass. `scan` counts from 0. A row that was rejected or set aside never
+/// returns, because only rows with verdict 0 are looked at.
+pub fn survivors(call: &Call, field: &[i32], scan: usize, verdict: &mut [u8]) -> Vec<Accepted> {
     let mut accepted = Vec::new();
     for (row, verdict) in verdict.iter_mut().enumerate() {
         if *verdict != ACCEPTED {

@@ -2,14 +2,13 @@
 
 use crate::call::{Analysis, Call, Refusal, Screen};
 use crate::cases::{
-    count_scheme, count_winds_and_rules, length_floors, number_of, scheme_floors, unlike_code,
-    wrong_by_itself,
+    call_floors, count_scheme, count_winds_and_rules, length_floors, number_of, scheme_floors,
+    unlike_code, wrong_by_itself,
 };
 use crate::compare::{Case, Results, Subject};
 use crate::generate_screen;
 use crate::patterned::{Patterned, BYTE_PATTERN, GRID_PATTERN};
 use crate::post_sorts;
-use crate::rule_sorts;
 use crate::screen::{one_after_the_other, points, whole};
 use crate::screen_sorts;
 use crate::shrink_screen;
@@ -17,7 +16,6 @@ use crate::smoothing_sorts;
 use crate::tally::{Floor, Tally};
 use crate::text;
 use crate::weight_sorts;
-use crate::wind_sorts;
 use crate::write::listing;
 
 #[derive(Clone, Debug, PartialEq, Eq)]
@@ -87,7 +85,7 @@ impl Case for ScreenCase {
         let empty = vec![Floor::times("empty slice", 2, 50)];
         let stations = [post_sorts::screen_floors(), weight_sorts::window_floors()].concat();
         let smoothing = smoothing_sorts::window_floors(120);
-        let winds = [wind_sorts::window_floors(), rule_sorts::window_floors()].concat();
+        let winds = call_floors();
         let screens = screen_sorts::floors();
         [scheme, length_floors(), empty, screens, winds, stations, smoothing].concat()
     }

@@ -1,10 +1,10 @@
 //! The shrinker: from a failing case to a small one that still fails.
 
-use crate::call::{Call, Query, Window, Winds};
+use crate::call::{Buddy, Call, Query, Window, Winds};
 use crate::compare::Case;
 use crate::refusals::is_on_grid;
 use crate::text::parse;
-use crate::units::{MISSING, MODES, NO_END, ROUND, RULES};
+use crate::units::{BUDDY_LIMIT, BUDDY_RADIUS, MISSING, MODES, NO_END, ROUND, RULES};
 use crate::write::{request_text, Style};
 use std::iter::successors;
 use std::ops::Range;
@@ -239,6 +239,8 @@ pub fn simpler(call: &Call) -> impl Iterator<Item = Call> + '_ {
         Call { winds: None, mode: ROUND, ..call.clone() },
         Call { winds: None, ..call.clone() },
         Call { rule: None, ..call.clone() },
+        Call { buddy: None, ..call.clone() },
+        Call { buddy: call.check(), ..call.clone() },
         at_level_zero(call),
         in_service_for_good(call),
     ];
@@ -247,6 +249,7 @@ pub fn simpler(call: &Call) -> impl Iterator<Item = Call> + '_ {
         .filter(move |simpler| simpler != call)
         .chain(lower_modes(call))
         .chain(lower_rules(call))
+        .chain(lower_checks(call))
         .chain(weaker_winds(call))
         .chain(nearer(call, |call| &mut call.first_guess, 0))
         .chain(nearer(call, |call| &mut call.radius, 64))
@@ -273,6 +276,20 @@ fn lower_rules(call: &Call) -> impl Iterator<Item = Call> + '_ {
         |rule: &u32, given: u32| *rule < given && (RULES.contains(rule) || !RULES.contains(&given));
     let lower = rules.filter(move |rule| call.rule.is_some_and(|given| is_lower(rule, given)));
     lower.map(|rule| Call { rule: Some(rule), ..call.clone() })
+}
+
+/// Buddy checks with B or L nearer to the least that it may be.
+fn lower_checks(call: &Call) -> impl Iterator<Item = Call> + '_ {
+    let nearer = |number: i32, least: i32| {
+        closer(number.into(), least.into()).map(move |nearer| nearer as i32)
+    };
+    let checks = call.buddy.into_iter().flat_map(move |buddy| {
+        let radii = nearer(buddy.radius, *BUDDY_RADIUS.start());
+        let limits = nearer(buddy.limit, *BUDDY_LIMIT.start());
+        let radii = radii.map(move |radius| Buddy { radius, ..buddy });
+        radii.chain(limits.map(move |limit| Buddy { limit, ..buddy }))
+    });
+    checks.map(|buddy| Call { buddy: Some(buddy), ..call.clone() })
 }
 
 /// Calls without the wind of a row, or with one of its numbers nearer to zero.

@@ -1,6 +1,6 @@
 //! Request text in, answer text out, byte for byte.
 
-use crate::call::{Analysis, Call, Refusal};
+use crate::call::{Analysis, Buddy, Call, Refusal};
 use crate::scheme::analyse;
 use crate::units::{DEFAULT_AGE, MISSING, MOST_STATIONS, MOST_TEXT, NO_END, RULES, SCANS, SIDE};
 use std::fmt::Display;
@@ -54,6 +54,10 @@ pub fn parse(text: &[u8]) -> Result<Call, Refusal> {
         let plan = lines.numbers::<i32>("scan", 2)?;
         call.radius.push(plan[0]);
         call.limit.push(plan[1]);
+    }
+    if lines.rest.starts_with(b"buddy=") {
+        let numbers = lines.numbers::<i32>("buddy", 2)?;
+        call.buddy = Some(Buddy::on(numbers[0], numbers[1]));
     }
     for _ in 0..call.ny {
         let row = lines.numbers::<i32>("row", call.nx as usize)?;

@@ -29,6 +29,14 @@ pub const POSITION: RangeInclusive<i32> = -1_000_000..=1_000_000;
 pub const SCANS: RangeInclusive<u32> = 1..=6;
 pub const RADIUS: RangeInclusive<i32> = 1..=1024;
 pub const LIMIT: RangeInclusive<i32> = 0..=2_000_000;
+/// Of the buddy check, B: how near a neighbour is.
+pub const BUDDY_RADIUS: RangeInclusive<i32> = 1..=512;
+/// L: by how much a station may differ from the mean of its neighbours.
+pub const BUDDY_LIMIT: RangeInclusive<i32> = 0..=2_000_000;
+/// A station with fewer neighbours than this is not judged by them.
+pub const LEAST_NEIGHBOURS: usize = 2;
+/// The place of refusal 6 where the buddy check is at fault and no scan is.
+pub const OF_THE_CHECK: usize = 6;
 /// Each of a wind's two numbers, where it is not missing.
 pub const WIND: RangeInclusive<i32> = -100..=100;
 /// Mode 0: the round weight.

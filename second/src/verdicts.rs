@@ -11,6 +11,19 @@ pub const TOO_OLD: u8 = 4;
 pub const OFF_GRID: u8 = 5;
 /// A station rejected in scan k, counted from 1, gets this plus k.
 pub const REJECTED: u8 = 10;
+/// A station that its neighbours set aside in scan k gets this plus k.
+pub const SET_ASIDE: u8 = 20;
+
+/// The scan, counted from 0, that rejected a station or set it aside.
+pub fn ended_in(verdict: u8) -> Option<usize> {
+    let by = if verdict > SET_ASIDE { SET_ASIDE } else { REJECTED };
+    verdict.checked_sub(by + 1).map(usize::from)
+}
+
+/// Whether a station takes part, at least in the first scan until that judges it.
+pub fn takes_part(verdict: u8) -> bool {
+    verdict == ACCEPTED || ended_in(verdict).is_some()
+}
 
 /// A station off the grid by more than the border on either axis takes no
 /// part.

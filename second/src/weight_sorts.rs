@@ -13,7 +13,7 @@ use crate::scheme::run_in;
 use crate::sorts::{floors_in_order, floors_of, named, Sort};
 use crate::tally::Floor;
 use crate::units::{HUNDREDTHS, RADIUS, STEP, WEIGHT_SCALE};
-use crate::verdicts::{ACCEPTED, REJECTED};
+use crate::verdicts::{ended_in, ACCEPTED};
 
 const GAINED: &str = "point with support that hundredths would not give (in the first scan, later)";
 const GAINED_INSIDE: &str =
@@ -92,10 +92,11 @@ pub fn is_small(call: &Call) -> bool {
 }
 
 /// The stations that a scan, counted from 0, accepted: those that no scan up to it
-/// rejected. What they differ by is no matter here.
+/// rejected or set aside. What they differ by is no matter here.
 fn accepted_in(call: &Call, scan: usize, verdict: &[u8]) -> Vec<Accepted> {
     let rows = (0..verdict.len()).filter(|row| {
-        verdict[*row] == ACCEPTED || usize::from(verdict[*row]) > usize::from(REJECTED) + scan + 1
+        let verdict = verdict[*row];
+        verdict == ACCEPTED || ended_in(verdict).is_some_and(|last| last > scan)
     });
     rows.map(|row| Accepted::new(call, row, 0)).collect()
 }

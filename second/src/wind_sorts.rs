@@ -12,7 +12,7 @@ use crate::tally::Floor;
 use crate::units::{
     ALONG_WIND, BORDER, HUNDREDTHS, MISSING, MODES, MOST_STATIONS, ROUND, RULES, WEIGHT_SCALE, WIND,
 };
-use crate::verdicts::{before_first_scan, ACCEPTED, REJECTED};
+use crate::verdicts::{before_first_scan, takes_part, ACCEPTED};
 use crate::weight_sorts::{each_point, is_small, Around};
 use crate::window::{pick, reach, rows_on, widened};
 
@@ -128,8 +128,7 @@ pub fn of_accepted(call: &Call, analysis: &Analysis, windows: &[Window]) -> Vec<
 fn taking_part(call: &Call, verdict: &[u8]) -> [bool; 9] {
     let most = i64::from(*WIND.end());
     let mut found = [false; 9];
-    let rows =
-        (0..verdict.len()).filter(|row| verdict[*row] == ACCEPTED || verdict[*row] > REJECTED);
+    let rows = (0..verdict.len()).filter(|row| takes_part(verdict[*row]));
     for row in rows {
         let sort = match call.wind(row) {
             None => 0,

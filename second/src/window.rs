@@ -33,12 +33,15 @@ pub fn pick(shape: Shape, analysis: &Analysis, window: &Window) -> WindowAnswer 
     answer
 }
 
-/// How far, in grid steps, a point's answer can depend on others.
+/// How far, in grid steps, a point's answer can depend on others. With the buddy check
+/// on, "R + B stands for R".
 pub fn reach(call: &Call) -> u32 {
+    let farther = call.check().map_or(0, |check| check.radius.unsigned_abs());
     let radii = &call.radius[..call.scans as usize];
     radii
         .iter()
-        .map(|radius| radius.unsigned_abs().div_ceil(STEP as u32) + u32::from(call.smooth))
+        .map(|radius| radius.unsigned_abs() + farther)
+        .map(|radius| radius.div_ceil(STEP as u32) + u32::from(call.smooth))
         .sum()
 }
 

@@ -17,7 +17,8 @@ pub struct Style {
 
 /// The request text of a call. A text cannot say the faults of refusals 1 to
 /// 5, it has no plan entries past the scan count, and it stays with the round
-/// weight and without winds. A rule that is left out has no line.
+/// weight and without winds. A rule that is left out has no line, and neither has a buddy
+/// check that is off.
 pub fn request_text(call: &Call, style: Style) -> Option<Vec<u8>> {
     let sayable = match check_analysis(call) {
         Ok(()) => true,
@@ -38,6 +39,9 @@ pub fn written_out(call: &Call, style: Style) -> String {
     text += &line("scans", &[call.scans]);
     for (radius, limit) in call.radius.iter().zip(&call.limit).take(call.scans as usize) {
         text += &line("scan", &[radius, limit]);
+    }
+    if let Some(check) = call.check() {
+        text += &line("buddy", &[check.radius, check.limit]);
     }
     for row in call.first_guess.chunks(call.nx as usize) {
         text += &line("row", row);
@@ -70,10 +74,11 @@ fn station_line(call: &Call, row: usize, style: Style) -> String {
 }
 
 /// The call in a form that can be run again. A text would lose plan entries
-/// past the scan count.
+/// past the scan count, and a buddy check that is given and off.
 pub fn rerun_form(call: &Call) -> String {
     let scans = call.scans as usize;
-    let all_read = call.radius.len() <= scans && call.limit.len() <= scans;
+    let plan_read = call.radius.len() <= scans && call.limit.len() <= scans;
+    let all_read = plan_read && call.buddy == call.check();
     match request_text(call, Style::default()) {
         Some(text) if all_read => String::from_utf8_lossy(&text).into_owned(),
         _ => listing(call),
@@ -81,9 +86,13 @@ pub fn rerun_form(call: &Call) -> String {
 }
 
 /// Every argument on a line of its own, in the order of the C calls. Wind
-/// columns and a rule that are left out have no lines.
+/// columns, a rule and a buddy check that are left out have no lines.
 pub fn listing(call: &Call) -> String {
     let winds = call.winds.iter().map(|winds| line("wind_u", &winds.u) + &line("wind_v", &winds.v));
+    let buddy = call.buddy.iter().map(|buddy| {
+        let numbers = [buddy.radius, buddy.limit];
+        line("buddy", &[buddy.on]) + &line("buddy_radius,buddy_limit", &numbers)
+    });
     [
         line("nx,ny", &[call.nx, call.ny]),
         line("first_guess", &call.first_guess),
@@ -100,6 +109,7 @@ pub fn listing(call: &Call) -> String {
         line("smooth", &[call.smooth]),
         line("mode", &[call.mode]),
         call.rule.map(|rule| line("rule", &[rule])).unwrap_or_default(),
+        buddy.collect(),
         line("time,age", &[call.time, call.age]),
         line(
             "grid_len,support_len,verdict_len",

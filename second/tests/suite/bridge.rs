@@ -1,7 +1,7 @@
 //! The bridge itself, built for this processor around a stub of the archive.
 
 use second::bridge::{Bridge, Empty};
-use second::call::{Call, Query, Screen, Window, Winds};
+use second::call::{Buddy, Call, Query, Screen, Window, Winds};
 use second::compare::{Answer, Results, Subject};
 use std::process::Command;
 use std::sync::OnceLock;
@@ -38,6 +38,7 @@ fn call(time: u32) -> Call {
         smooth: true,
         mode: 105,
         rule: Some(110),
+        buddy: Some(Buddy::on(-113, 114)),
         time,
         age: 104,
         ..Call::default()
@@ -45,13 +46,13 @@ fn call(time: u32) -> Call {
 }
 
 fn answer(bridge: &Bridge, time: u32) -> (Answer<u32>, Vec<i32>, Vec<u8>, Vec<u8>) {
-    let (mut grid, mut support, mut verdict) = (vec![5; 48], vec![5; 3], vec![5; 2]);
+    let (mut grid, mut support, mut verdict) = (vec![5; 51], vec![5; 3], vec![5; 2]);
     let results = Results { grid: &mut grid, support: &mut support, verdict: &mut verdict };
     (bridge.analyse(&call(time), results), grid, support, verdict)
 }
 
 fn window_answer(bridge: &Bridge, time: u32) -> (Answer<u32>, Vec<i32>, Vec<u8>) {
-    let (mut grid, mut support) = (vec![5; 48], vec![5; 3]);
+    let (mut grid, mut support) = (vec![5; 51], vec![5; 3]);
     let results = Results { grid: &mut grid, support: &mut support, verdict: &mut [] };
     (bridge.window(&call(time), &Window::new(105, 106, 107, u32::MAX), results), grid, support)
 }
@@ -67,18 +68,18 @@ fn screen() -> Screen {
 }
 
 fn windows_answer(bridge: &Bridge, time: u32) -> (Answer<u32>, Vec<i32>, Vec<u8>) {
-    let (mut grid, mut support) = (vec![5; 58], vec![5; 3]);
+    let (mut grid, mut support) = (vec![5; 61], vec![5; 3]);
     let results = Results { grid: &mut grid, support: &mut support, verdict: &mut [] };
     (bridge.windows(&call(time), &screen(), results), grid, support)
 }
 
 /// What the stub says of a call's plain numbers and columns.
 fn assert_told(grid: &[i32]) {
-    assert_eq!(grid[..8], [101, 102, 103, 1, 105, 110, 0, 104]);
-    assert_eq!(grid[8..20], [3, -201, 301, 4, -202, 302, 5, -203, 303, 6, i32::MIN, 304]);
-    assert_eq!(grid[20..29], [7, 205, 305, 8, 206, 306, 9, 207, -1]);
-    assert_eq!(grid[29..35], [2, -210, -310, 3, 211, 311]);
-    assert_eq!(grid[35..41], [2, 208, 308, 1, 209, 209]);
+    assert_eq!(grid[..11], [101, 102, 103, 1, 105, 110, 1, -113, 114, 0, 104]);
+    assert_eq!(grid[11..23], [3, -201, 301, 4, -202, 302, 5, -203, 303, 6, i32::MIN, 304]);
+    assert_eq!(grid[23..32], [7, 205, 305, 8, 206, 306, 9, 207, -1]);
+    assert_eq!(grid[32..38], [2, -210, -310, 3, 211, 311]);
+    assert_eq!(grid[38..44], [2, 208, 308, 1, 209, 209]);
 }
 
 #[test]
@@ -86,9 +87,9 @@ fn every_argument_and_result_crosses_the_bridge() {
     let (code, grid, support, verdict) = answer(&start(Empty::Null), 0);
     assert_eq!((code, support, verdict), (Ok(0), vec![1; 3], vec![2; 2]));
     assert_told(&grid);
-    assert_eq!(grid[41..44], [48, 3, 2], "the lengths of the results");
+    assert_eq!(grid[44..47], [51, 3, 2], "the lengths of the results");
     let untouched = i32::from_ne_bytes([0xA5; 4]);
-    assert_eq!(grid[44..], [untouched; 4], "as they were before the call");
+    assert_eq!(grid[47..], [untouched; 4], "as they were before the call");
 }
 
 #[test]
@@ -96,8 +97,8 @@ fn a_window_query_crosses_the_bridge() {
     let (code, grid, support) = window_answer(&start(Empty::Null), 0);
     assert_eq!((code, support), (Ok(0), vec![1; 3]));
     assert_told(&grid);
-    assert_eq!(grid[41..43], [48, 3], "the lengths of the results");
-    assert_eq!(grid[44..], [105, 106, 107, -1], "the ends");
+    assert_eq!(grid[44..46], [51, 3], "the lengths of the results");
+    assert_eq!(grid[47..], [105, 106, 107, -1], "the ends");
 }
 
 #[test]
@@ -105,18 +106,47 @@ fn a_screen_crosses_the_bridge() {
     let (code, grid, support) = windows_answer(&start(Empty::Null), 0);
     assert_eq!((code, support), (Ok(0), vec![1; 3]));
     assert_told(&grid);
-    assert_eq!(grid[41..43], [58, 3], "the lengths of the results");
+    assert_eq!(grid[44..46], [61, 3], "the lengths of the results");
     let ends = [1, 105, 105, 2, 106, 111, 3, 107, 112, 4, 108, -1];
-    assert_eq!(grid[46..], ends, "the length, the first and the last of each column of ends");
+    assert_eq!(grid[49..], ends, "the length, the first and the last of each column of ends");
 }
 
 /// The lengths of the wind columns and their first numbers, as the archive gets
 /// them, and how many of its addresses are null.
 fn winds_of(empty: Empty, winds: Option<Winds>) -> (Answer<u32>, [i32; 4]) {
-    let mut grid = vec![5; 48];
+    let mut grid = vec![5; 51];
     let results = Results { grid: &mut grid, support: &mut [0], verdict: &mut [0] };
     let code = start(empty).analyse(&Call { winds, ..call(0) }, results);
-    (code, [grid[29], grid[32], grid[30], grid[33]])
+    (code, [grid[32], grid[35], grid[33], grid[36]])
+}
+
+/// What the stub says of a call by each of the three functions.
+fn told_by_each(bridge: &Bridge, call: &Call) -> [Vec<i32>; 3] {
+    let mut grids = [vec![5; 51], vec![5; 51], vec![5; 61]];
+    let [whole, window, windows] = &mut grids;
+    let results = |grid| Results { grid, support: &mut [], verdict: &mut [] };
+    let codes = [
+        bridge.analyse(call, results(whole)),
+        bridge.window(call, &Window::new(1, 2, 3, 4), results(window)),
+        bridge.windows(call, &screen(), results(windows)),
+    ];
+    assert!(codes.iter().all(Result::is_ok), "{codes:?}");
+    grids
+}
+
+/// A check that is left out is the header's to fill in; any other is handed on, also
+/// one that is off.
+#[test]
+fn a_check_that_is_left_out_is_off_to_the_archive() {
+    let bridge = start(Empty::Null);
+    let told = |buddy: Option<Buddy>| {
+        told_by_each(&bridge, &Call { buddy, ..call(0) }).map(|grid| grid[6..9].to_vec())
+    };
+    assert_eq!(told(None), [const { [0; 3] }; 3]);
+    for (on, radius, limit) in [(false, 0, 0), (false, i32::MIN, -1), (true, 512, i32::MAX)] {
+        let said = [on.into(), radius, limit];
+        assert_eq!(told(Some(Buddy { on, radius, limit })), [said; 3]);
+    }
 }
 
 /// A rule that is left out is the header's to fill in; any other is handed on, bad
@@ -124,19 +154,8 @@ fn winds_of(empty: Empty, winds: Option<Winds>) -> (Answer<u32>, [i32; 4]) {
 #[test]
 fn a_rule_that_is_left_out_is_the_default_to_the_archive() {
     let bridge = start(Empty::Null);
-    let told = |rule: Option<u32>| {
-        let call = Call { rule, ..call(0) };
-        let mut grids = [vec![5; 48], vec![5; 48], vec![5; 58]];
-        let [whole, window, windows] = &mut grids;
-        let results = |grid| Results { grid, support: &mut [], verdict: &mut [] };
-        let codes = [
-            bridge.analyse(&call, results(whole)),
-            bridge.window(&call, &Window::new(1, 2, 3, 4), results(window)),
-            bridge.windows(&call, &screen(), results(windows)),
-        ];
-        assert!(codes.iter().all(Result::is_ok), "{codes:?}");
-        grids.map(|grid| grid[5])
-    };
+    let told =
+        |rule: Option<u32>| told_by_each(&bridge, &Call { rule, ..call(0) }).map(|grid| grid[5]);
     assert_eq!(told(None), [1; 3]);
     for (rule, said) in [(0, 0), (1, 1), (2, 2), (3, 3), (u32::MAX, -1)] {
         assert_eq!(told(Some(rule)), [said; 3]);

@@ -1,6 +1,7 @@
 //! The tests of the second program, in one binary.
 
 mod bridge;
+mod buddies;
 mod command;
 mod faulty;
 mod faulty_fields;

@@ -18,6 +18,8 @@ use second::units::HUNDREDTHS;
 const GRID: Shape = Shape { nx: 21, ny: 27 };
 const GAIN: &str = "points that gain support over a run in hundredths";
 const ALONE: &str = "points that rule 1 leaves otherwise";
+const CHECK: &str = "set aside by a check of";
+const COMPANY: &str = "points that no check leaves otherwise";
 const MOVED: &str = "points that mode 0 leaves otherwise";
 
 fn cases() -> Cases {
@@ -110,12 +112,18 @@ fn the_cases_are_counted() {
         &format!("322 of 405 rejected; 88 of the 405 are posts; {GAIN}: 10; {ALONE}: 122\n"),
         &format!("{GAIN}: 0; {MOVED}: 550; {ALONE}: 327\n"),
         &format!("327 of 405 rejected; 88 of the 405 are posts; {GAIN}: 1; {MOVED}: 516\n"),
-        "\nreal analysis, 25 cases\n",
-        "\nreal window, 817 cases\n",
-        "\nreal windows, 242 cases\n",
+        &format!("{CHECK} 512,100000: 56; {COMPANY}: 565\n"),
+        &format!("{CHECK} 64,20000: 46; {COMPANY}: 567\n"),
+        &format!("82 of 405 rejected; 88 of the 405 are posts; {GAIN}: 1; {CHECK} 100,30000: 36; "),
+        &format!("{CHECK} 257,60000: 18; {COMPANY}: 567\n"),
+        &format!("200 of 405 rejected; 88 of the 405 are posts; {GAIN}: 6; {CHECK} 160,4000: 176; "),
+        &format!("{ALONE}: 361; {CHECK} 320,10000: 129; {COMPANY}: 549\n"),
+        "\nreal analysis, 37 cases\n",
+        "\nreal window, 1225 cases\n",
+        "\nreal windows, 362 cases\n",
         "\nreal reading, 3072 cases\n",
         "\nreal summary, 6 cases\n",
-        "\nreal text, 13 cases\n",
+        "\nreal text, 19 cases\n",
     ] {
         assert!(out.contains(said), "{said} is not in {out}");
     }

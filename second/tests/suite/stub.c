@@ -70,7 +70,8 @@ static uint32_t answer_analysis(const struct sosnyavik_request *q, struct sosnya
         return nulls;
 
     int32_t numbers[] = {(int32_t)q->nx,   (int32_t)q->ny,   (int32_t)q->scans, q->smooth,
-                         (int32_t)q->mode, (int32_t)q->rule, (int32_t)q->time,  (int32_t)q->age};
+                         (int32_t)q->mode, (int32_t)q->rule, q->buddy,          q->buddy_radius,
+                         q->buddy_limit,   (int32_t)q->time, (int32_t)q->age};
     memcpy(results.grid.at, numbers, sizeof numbers);
     int32_t *to = results.grid.at + sizeof numbers / sizeof *numbers;
     for (size_t c = 0; c < COLUMNS; c++)
