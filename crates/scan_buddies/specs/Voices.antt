@@ -2,15 +2,15 @@
 use Prim.Native.Nat.{ℕ, zero, suc, _+_, _*_, _≤_, _<_}
 use native.Mathlib.Omega.{arith}
 use native.Mathlib.Nat.{add-comm}
-use mathlib.Core.Path.{_≡_, refl, sym, ap, ap₂, _∙_}
+use mathlib.Core.Path.{_≡_, refl, ap, ap₂, _∙_}
 use mathlib.Core.Logic.{_⊎_, inl, inr}
 use mathlib.Core.Bool.{Bool, true, false, cond, _&&_}
 use borrow.Author.Tests.{lt-ltb, le-ltb, le-leb, lt-leb, eq-eqb, ne-eqb}
 use lib.Dec.{leb, ltb, eqb}
-use lib.IntN.{ℤ, pos, natAbs, _+ℤ_, _-ℤ_, +ℤ-comm}
+use lib.IntN.{ℤ, natAbs, _+ℤ_, _-ℤ_, +ℤ-comm}
 use Rattle.integers.specs.Parts.{eq-parts, add-parts, minus-parts}
 use Rattle.integers.specs.Sizes.{size-add, size-minus}
-use Rattle.lists.specs.Tests.{lt-or-le, true-or-false, cond-both}
+use Rattle.lists.specs.Tests.{lt-or-le, cond-both}
 use Rattle.lists.specs.Sums.{upTo, upTo-same, upTo-both}
 use Rattle.lists.specs.Chains.{sumOf, Walked}
 use Rattle.scheme.specs.Units.{mostLimit}
@@ -132,13 +132,14 @@ from-few cell n low high f h = sum-of-most n (λ j. cond (between low high (cell
     here j l (inl p) = cond-both (OfAtMost 1) (between low high (cell j)) (f j) silence (λ e. h j l p) (λ e. of-none 1)
     here j l (inr p) = rw (beyond-them low high (cell j) p) (of-none 1)
 
--- and so are those passed on a walk
+-- a sum less its second part
 size-first : (a b : ℤ) → natAbs a ≤ natAbs (a +ℤ b) + natAbs b
 size-first a b = omega (arith, size-minus (a +ℤ b) b, ap natAbs back)
   where
     back : (a +ℤ b) -ℤ b ≡ a
     back = eq-parts ((a +ℤ b) -ℤ b) a (omega (arith, minus-parts (a +ℤ b) b, add-parts a b))
 
+-- and so are those passed on a walk
 pub walked-few : (cell : ℕ → ℕ) (c n r m : ℕ) (f : ℕ → Heard) (h all : Heard) → ((j : ℕ) → j < n → cell j < c + 1 → OfAtMost 1 (f j)) → OfAtMost m all
     → Walked silence both cell c f n r h all → OfAtMost (m + n) h
 walked-few cell c n r m f h all some few w =

@@ -10,7 +10,7 @@ ghost use Rattle.lists.specs.Chains.{Chained};
 ghost use Rattle.scheme.specs.Units.{mostStations, mostScans, mostLimit, mostBuddyRadius};
 ghost use Rattle.scheme.specs.Weight.{squares};
 ghost use Rattle.scheme.specs.Buddies.{both, isOdd, afterBuddies};
-ghost use Rattle.scan_buddies.specs.Aside.{xOf, yOf, heardAt, asideAt, OnAxis, Standing, AllStanding, AsideReady};
+ghost use Rattle.scan_buddies.specs.Aside.{xOf, yOf, heardAt, asideAt, OnAxis, Standing, AsideReady};
 ghost use Rattle.scan_buddies.specs.Voices.{told, OfAtMost, fromCells};
 ghost use Rattle.scan_buddies.specs.Cells.{leastSide, cells, kinds, sideOf, cellAlong, cellOf, cellFor, cellAt, Survivors, Chains};
 ghost use Rattle.scan_buddies.specs.Nine.{voice, three};

@@ -1,6 +1,6 @@
 -- `scan_buddies::hears` meets its contract. The loop's invariant: those in the rows of cells passed are heard; the three rows hold all that the station
 -- hears. Assumes nothing.
-use Prim.Native.Nat.{ℕ, _+_, _-_, _*_, _≤_, _<_}
+use Prim.Native.Nat.{ℕ, _+_, _-_, _*_, _≤_}
 use native.Mathlib.Omega.{arith}
 use mathlib.Core.Path.{_≡_, sym, ap, _∙_}
 use mathlib.Core.List.{List, []}
@@ -8,7 +8,7 @@ use lib.ListN.{getD}
 use Rattle.scheme.specs.Units.{mostStations}
 use Rattle.scheme.specs.Buddies.{Heard, both}
 use Rattle.scan_buddies.specs.Voices.{told, OfAtMost, of-none, of-more}
-use Rattle.scan_buddies.specs.Cells.{across, cells, cellOf, cellAt, Survivors, Chains}
+use Rattle.scan_buddies.specs.Cells.{across, cells, cellOf, cellAt, Survivors}
 use Rattle.scan_buddies.specs.Nine.{voice, three, rowsOf, rows-none, rows-next, Framed, cell-framed, nine-are-all}
 use Rattle.scan_buddies.specs.Walks.{with-cells}
 use Rattle.scan_buddies.proofs.hears.Statement.{statement}

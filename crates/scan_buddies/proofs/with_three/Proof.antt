@@ -1,5 +1,5 @@
 -- `scan_buddies::with_three` meets its contract. The loop's invariant: those in the cells passed are heard. Assumes nothing.
-use Prim.Native.Nat.{ℕ, _+_, _-_, _*_, _≤_, _<_}
+use Prim.Native.Nat.{ℕ, _+_, _-_, _*_, _≤_}
 use native.Mathlib.Omega.{arith}
 use mathlib.Core.Path.{_≡_, sym, ap, _∙_}
 use mathlib.Core.List.{List}
@@ -7,7 +7,7 @@ use Rattle.scheme.specs.Units.{mostStations}
 use Rattle.scheme.specs.Buddies.{Heard, both}
 use Rattle.scheme.specs.Adding.{both-silence}
 use Rattle.scan_buddies.specs.Voices.{told, OfAtMost, fromCells, from-none, from-more}
-use Rattle.scan_buddies.specs.Cells.{cellAt, Survivors, Chains}
+use Rattle.scan_buddies.specs.Cells.{cellAt, Survivors}
 use Rattle.scan_buddies.specs.Nine.{voice}
 use Rattle.scan_buddies.specs.Walks.{with-cells}
 use Rattle.scan_buddies.proofs.with_three.Statement.{statement}

@@ -1,15 +1,13 @@
 -- `scan_buddies::with_voice` meets its contract: no sum leaves its type. Assumes nothing.
-use Prim.Native.Nat.{ℕ, _+_, _*_, _≤_, _<_}
+use Prim.Native.Nat.{_*_, _≤_, _<_}
 use native.Mathlib.Omega.{arith}
 use native.Mathlib.Nat.{mul-le-mul}
 use borrow.Author.Needs.{needs}
-use mathlib.Core.Path.{_≡_, sym, ap, _∙_}
-use mathlib.Core.List.{List, []}
+use mathlib.Core.Path.{_≡_, sym}
 use lib.ListN.{getD}
 use lib.IntN.{ℤ, pos, natAbs, _+ℤ_}
 use mir.Syntax.{w64}
 use mir.Val.{toZ, ofZ}
-use mir.Facts.{toZ-ofZ}
 use Rattle.integers.specs.Sizes.{size-add}
 use Rattle.integers.specs.Words.{fits-size, bits-back}
 use Rattle.scheme.specs.Buddies.{Heard, silence, both}
