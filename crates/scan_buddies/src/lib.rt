@@ -199,14 +199,6 @@ fn hears(
     s
 }
 
-// |z|.
-fn size_of(z: i64) -> u64
-    requires { ⌜ natAbs z ≤ 2 * mostStations * mostLimit ⌝ }
-    ensures { λ r. ⌜ r ≡ natAbs z ⌝ }
-{
-    if z < 0 { (-z) as u64 } else { z as u64 }
-}
-
 // Whether a station of difference d is odd beside the neighbours that it hears.
 fn is_odd(limit: u32, d: i64, count: u32, sum: i64) -> bool
     requires { ⌜ (natAbs d ≤ mostLimit) × OfAtMost mostStations (told count sum) ⌝ }
@@ -216,7 +208,7 @@ fn is_odd(limit: u32, d: i64, count: u32, sum: i64) -> bool
         return false;
     }
     let gap = (count as i64) * d - sum;
-    (count as u64) * (limit as u64) < size_of(gap)
+    (count as u64) * (limit as u64) < rounding::size_of(gap)
 }
 
 // The verdict of row k after the buddy check of a scan.

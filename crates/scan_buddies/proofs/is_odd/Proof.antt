@@ -61,7 +61,7 @@ mul-result : tie.Need-mul-result
 mul-result c = record { fits = omega (arith, allowed-small (c .before)) }
 
 size-of-requires : tie.Need-size-of-requires
-size-of-requires c κs = let s = c .before in rw (gap-back s) (gap-small s)
+size-of-requires c κs = let s = c .before in rw (gap-back s) (omega (arith, gap-small s))
 
 returns-2 : tie.Need-returns-2
 unfolding isOdd
