@@ -483,7 +483,7 @@ extern "C" {
 **     several kinds of calls needs the largest of their numbers, and what its
 **     own frames and the system take.
 */
-#define SOSNYAVIK_STACK_ANALYSE 36864
+#define SOSNYAVIK_STACK_ANALYSE 40960
 #define SOSNYAVIK_STACK_WINDOW 98304
 #define SOSNYAVIK_STACK_WINDOWS 98304
 #define SOSNYAVIK_STACK_READING 1024

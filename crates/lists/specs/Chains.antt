@@ -2,7 +2,6 @@
 -- number is kept as one more than it is, so that 0 ends a chain.
 use Prim.Native.Nat.{ℕ, zero, suc, _+_, _≤_, _<_}
 use native.Mathlib.Omega.{arith}
-use native.Mathlib.Numerals.{add-one}
 use mathlib.Core.Path.{_≡_, refl, sym, ap, _∙_}
 use mathlib.Core.Logic.{_⊎_, inl, inr}
 use mathlib.Core.Bool.{true, false, cond}
@@ -28,11 +27,11 @@ pub record Chained (kind : ℕ → ℕ) (kinds n : ℕ) (heads next : List ℕ) 
 unfoldable pub sumOf : {S : Type 0} → S → (S → S → S) → (kind : ℕ → ℕ) (c : ℕ) → (ℕ → S) → ℕ → S
 sumOf nil plus kind c f n = upTo nil plus n (λ k. cond (eqb (kind k) c) (f k) nil)
 
--- a chain is walked down to r, and those passed give so-far
-pub record Walked {S : Type 0} (nil : S) (plus : S → S → S) (kind : ℕ → ℕ) (c : ℕ) (f : ℕ → S) (n r : ℕ) (so-far : S) : Type 0 where
+-- a chain is walked down to r: those passed give so-far, and with the others it is all
+pub record Walked {S : Type 0} (nil : S) (plus : S → S → S) (kind : ℕ → ℕ) (c : ℕ) (f : ℕ → S) (n r : ℕ) (so-far all : S) : Type 0 where
   pub no-more : r ≤ n
   pub in-chain : last kind c r ≡ r
-  pub sum : plus so-far (sumOf nil plus kind c f r) ≡ sumOf nil plus kind c f n
+  pub sum : plus so-far (sumOf nil plus kind c f r) ≡ all
 
 -- ---- laws
 
@@ -109,7 +108,7 @@ module _ (kind : ℕ → ℕ) (kinds : ℕ) where
 
 -- ---- and one walks them
 
-module _ {S : Type 0} (nil : S) (plus : S → S → S) (nil-plus : (t : S) → plus nil t ≡ t) (plus-nil : (t : S) → plus t nil ≡ t)
+module _ {S : Type 0} (nil : S) (plus : S → S → S) (plus-nil : (t : S) → plus t nil ≡ t)
     (assoc : (a b c : S) → plus (plus a b) c ≡ plus a (plus b c)) (comm : (a b : S) → plus a b ≡ plus b a) (kind : ℕ → ℕ) (c : ℕ) (f : ℕ → S) where
   abbrev sumTo : ℕ → S
   sumTo = sumOf nil plus kind c f
@@ -131,30 +130,31 @@ module _ {S : Type 0} (nil : S) (plus : S → S → S) (nil-plus : (t : S) → p
       go (inl e) h = let s = last-here kind c k (eqb-true (kind k) c e) in ap sumTo s
       go (inr e) h = let s = last-before kind c k (eqb-false (kind k) c e) in ap sumTo s ∙ h ∙ sym (sum-other k (eqb-false (kind k) c e))
 
-  pub walk-start : (n : ℕ) → Walked nil plus kind c f n (last kind c n) nil
-  walk-start n = record { no-more = last-most kind c n; in-chain = last-again kind c n; sum = nil-plus _ ∙ sum-last n }
+  -- from what was there before
+  pub walk-start : (n : ℕ) (before : S) → Walked nil plus kind c f n (last kind c n) before (plus before (sumTo n))
+  walk-start n before = record { no-more = last-most kind c n; in-chain = last-again kind c n; sum = ap (plus before) (sum-last n) }
 
-  pub walk-turn : (n r k : ℕ) (so-far : S) → r ≡ suc k → Walked nil plus kind c f n r so-far
-      → (kind k ≡ c) × Walked nil plus kind c f n (last kind (kind k) k) (plus so-far (f k))
-  walk-turn n r k so-far er w = (here, subst-kind)
+  pub walk-turn : (n r k : ℕ) (so-far all : S) → r ≡ suc k → Walked nil plus kind c f n r so-far all
+      → (kind k ≡ c) × Walked nil plus kind c f n (last kind (kind k) k) (plus so-far (f k)) all
+  walk-turn n r k so-far all er w = (here, subst-kind)
     where
       here : kind k ≡ c
       here = in-kind kind c k (rw er at (w .in-chain))
 
-      rest : plus (plus so-far (f k)) (sumTo (last kind c k)) ≡ sumTo n
+      rest : plus (plus so-far (f k)) (sumTo (last kind c k)) ≡ all
       rest =
           ap (plus (plus so-far (f k))) (sum-last k) ∙ assoc so-far (f k) (sumTo k)
           ∙ ap (plus so-far) (comm (f k) (sumTo k) ∙ sym (sum-here k here)) ∙ sym (ap (λ (i : ℕ). plus so-far (sumTo i)) er) ∙ w .sum
 
-      next : Walked nil plus kind c f n (last kind c k) (plus so-far (f k))
+      next : Walked nil plus kind c f n (last kind c k) (plus so-far (f k)) all
       next = record { no-more = omega (arith, last-most kind c k, w .no-more); in-chain = last-again kind c k; sum = rest }
 
-      subst-kind : Walked nil plus kind c f n (last kind (kind k) k) (plus so-far (f k))
+      subst-kind : Walked nil plus kind c f n (last kind (kind k) k) (plus so-far (f k)) all
       subst-kind = rw here next
 
   sum-none : sumTo 0 ≡ nil
   unfolding sumOf upTo
   sum-none = refl
 
-  pub walk-end : (n r : ℕ) (so-far : S) → r ≡ 0 → Walked nil plus kind c f n r so-far → so-far ≡ sumTo n
-  walk-end n r so-far e w = sym (plus-nil so-far) ∙ ap (plus so-far) (sym (ap sumTo e ∙ sum-none)) ∙ w .sum
+  pub walk-end : (n r : ℕ) (so-far all : S) → r ≡ 0 → Walked nil plus kind c f n r so-far all → so-far ≡ all
+  walk-end n r so-far all e w = sym (plus-nil so-far) ∙ ap (plus so-far) (sym (ap sumTo e ∙ sum-none)) ∙ w .sum

@@ -75,8 +75,10 @@ module _ {A B : Type 0} (turn : A → B) (f : A → List A → A) (f' : B → Li
   unfolding eachFrom
   each-from-turned ws [] = refl
   each-from-turned ws (a ∷ xs) =
-      cc (ap (f' (turn a)) (sym (map-append turn ws xs)) ∙ same a (ws ++ xs),
-      ap (λ (zs : List B). eachFrom f' zs (map turn xs)) (sym (map-append turn ws (a ∷ []))) ∙ each-from-turned (ws ++ (a ∷ [])) xs)
+      cc (
+        ap (f' (turn a)) (sym (map-append turn ws xs)) ∙ same a (ws ++ xs),
+        ap (λ (zs : List B). eachFrom f' zs (map turn xs)) (sym (map-append turn ws (a ∷ []))) ∙ each-from-turned (ws ++ (a ∷ [])) xs,
+      )
 
   pub each-turned : (xs : List A) → each f' (map turn xs) ≡ map turn (each f xs)
   unfolding each

@@ -1,4 +1,4 @@
-// Weighted sums on i64, and their rounded quotient (document 01, "One scan", Rounding).
+// Weighted sums on i64, their rounded quotient (document 01, "One scan", Rounding), and sizes.
 ghost use mathlib.Core.Path.{_≡_};
 ghost use Prim.Native.Nat.{_*_, _≤_, _<_};
 ghost use lib.IntN.{pos, natAbs, _+ℤ_, _*ℤ_};
@@ -33,4 +33,12 @@ pub fn rounded(n: i64, d: u32) -> i64
     } else {
         (twice + half) / divisor
     }
+}
+
+// |z|.
+pub fn size_of(z: i64) -> u64
+    requires { ⌜ natAbs z ≤ 4611686018427387904 ⌝ }
+    ensures { λ r. ⌜ r ≡ natAbs z ⌝ }
+{
+    if z < 0 { (-z) as u64 } else { z as u64 }
 }

@@ -1,16 +1,16 @@
 -- What a station hears of the survivors in its own cell and the eight around it is what it hears of all.
-use Prim.Native.Nat.{ℕ, _+_, _-_, _*_, _≤_, _<_}
+use Prim.Native.Nat.{ℕ, _+_, _*_, _≤_, _<_}
 use native.Mathlib.Omega.{arith}
-use mathlib.Core.Path.{_≡_, refl, sym, ap, _∙_}
+use mathlib.Core.Path.{_≡_, refl, ap, _∙_}
 use mathlib.Core.Logic.{_⊎_, inl, inr}
-use mathlib.Core.Bool.{Bool, true, false, cond, _&&_}
+use mathlib.Core.Bool.{Bool, true, false, cond}
 use mathlib.Core.List.{List, []}
-use borrow.Author.Tests.{eqb-true, eqb-false, eq-eqb, ne-eqb, lt-ltb, le-ltb}
+use borrow.Author.Tests.{eqb-true, eq-eqb, ne-eqb, lt-ltb, le-ltb}
 use lib.Dec.{eqb}
 use lib.ListN.{getD}
-use lib.IntN.{ℤ, pos, natAbs, _-ℤ_}
+use lib.IntN.{ℤ, pos, _-ℤ_}
 use Rattle.lists.specs.Tests.{lt-or-le, true-or-false, cond-same, cond-both}
-use Rattle.lists.specs.Sums.{upTo, upTo-same, upTo-both}
+use Rattle.lists.specs.Sums.{upTo, upTo-next, upTo-same, upTo-both}
 use Rattle.scheme.specs.Verdicts.{isAccepted}
 use Rattle.scheme.specs.Weight.{squares, inside}
 use Rattle.scheme.specs.Buddies.{Heard, silence, both}
@@ -28,14 +28,33 @@ near radius numbers k j =
 unfoldable pub voice : (radius : ℕ) (numbers : List (List ℤ)) (ds : List ℤ) (k j : ℕ) → Heard
 voice radius numbers ds k j = cond (eqb j k) silence (cond (near radius numbers k j) (told 1 (getD ds j (pos 0))) silence)
 
--- the three cells from one on, and three such rows of cells
+-- the three cells from one on, and so many such rows of cells
 abbrev pub three : (cell : ℕ → ℕ) (n first : ℕ) → (ℕ → Heard) → Heard
 three cell n first f = fromCells cell n first (first + 3) f
 
-abbrev pub nine : (cell : ℕ → ℕ) (n first : ℕ) → (ℕ → Heard) → Heard
-nine cell n first f = both (both (three cell n first f) (three cell n (first + across) f)) (three cell n (first + 2 * across) f)
+unfoldable pub rowsOf : (cell : ℕ → ℕ) (n first rows : ℕ) → (ℕ → Heard) → Heard
+rowsOf cell n first rows f = upTo silence both rows (λ r. three cell n (first + r * across) f)
 
 -- ---- laws
+
+three-rows : (cell : ℕ → ℕ) (n first : ℕ) (f : ℕ → Heard)
+    → rowsOf cell n first 3 f ≡ both (both (three cell n first f) (three cell n (first + across) f)) (three cell n (first + 2 * across) f)
+unfolding rowsOf upTo
+three-rows cell n first f =
+    let here : ℕ → Heard = λ i. three cell n i f in
+    let none : first + 0 * across ≡ first = omega arith in
+    let one : first + 1 * across ≡ first + across = omega arith in
+    ap (λ (h : Heard). both (both h (here (first + 1 * across))) (here (first + 2 * across))) (silence-both (here (first + 0 * across)) ∙ ap here none)
+    ∙ ap (λ (i : ℕ). both (both (here first) (here i)) (here (first + 2 * across))) one
+
+-- a row of cells more
+pub rows-none : (cell : ℕ → ℕ) (n first : ℕ) (f : ℕ → Heard) → rowsOf cell n first 0 f ≡ silence
+unfolding rowsOf upTo
+rows-none cell n first f = refl
+
+pub rows-next : (cell : ℕ → ℕ) (n first rows : ℕ) (f : ℕ → Heard) → rowsOf cell n first (rows + 1) f ≡ both (rowsOf cell n first rows f) (three cell n (first + rows * across) f)
+unfolding rowsOf
+rows-next cell n first rows f = upTo-next silence both rows (λ r. three cell n (first + r * across) f)
 
 module _ (radius : ℕ) (numbers : List (List ℤ)) (ds : List ℤ) (k : ℕ) where
   pub voice-small : (j : ℕ) {row : List ℤ} → Standing row (getD ds j (pos 0)) → OfAtMost 1 (voice radius numbers ds k j)
@@ -213,13 +232,14 @@ module _ (radius : ℕ) (numbers : List (List ℤ)) (ds : List ℤ) (heads next 
           rw (other-cell radius numbers st j e, other-says radius numbers ds k st j e)
           (past-rows b cells (v j) (omega (arith, first, cell-framed radius row (here .x) (here .y) .most)))
 
-  pub nine-are-all : nine (cellAt radius numbers st) n b v ≡ heardAt radius numbers st ds n k
+  pub nine-are-all : rowsOf (cellAt radius numbers st) n b 3 v ≡ heardAt radius numbers st ds n k
   unfolding fromCells heardAt
   nine-are-all =
       let at = cellAt radius numbers st in
       let one : ℕ → Heard = λ j. cond (between b (b + 3) (at j)) (v j) silence in
       let two : ℕ → Heard = λ j. cond (between (b + across) (b + across + 3) (at j)) (v j) silence in
       let third : ℕ → Heard = λ j. cond (between (b + 2 * across) (b + 2 * across + 3) (at j)) (v j) silence in
-      ap (λ (h : Heard). both h (upTo silence both n third)) (upTo-both silence both silence-both both-assoc both-comm n one two)
+      three-rows at n b v
+      ∙ ap (λ (h : Heard). both h (upTo silence both n third)) (upTo-both silence both silence-both both-assoc both-comm n one two)
       ∙ upTo-both silence both silence-both both-assoc both-comm n (λ j. both (one j) (two j)) third
       ∙ upTo-same silence both n _ (said radius numbers st ds k) row-heard

@@ -2,15 +2,15 @@
 use Prim.Native.Nat.{ℕ, zero, suc, _+_, _*_, _≤_, _<_}
 use native.Mathlib.Omega.{arith}
 use native.Mathlib.Nat.{add-comm}
-use mathlib.Core.Path.{_≡_, refl, sym, ap, ap₂, _∙_}
+use mathlib.Core.Path.{_≡_, refl, ap, ap₂, _∙_}
 use mathlib.Core.Logic.{_⊎_, inl, inr}
 use mathlib.Core.Bool.{Bool, true, false, cond, _&&_}
 use borrow.Author.Tests.{lt-ltb, le-ltb, le-leb, lt-leb, eq-eqb, ne-eqb}
 use lib.Dec.{leb, ltb, eqb}
-use lib.IntN.{ℤ, pos, natAbs, _+ℤ_, _-ℤ_, +ℤ-comm}
+use lib.IntN.{ℤ, natAbs, _+ℤ_, _-ℤ_, +ℤ-comm}
 use Rattle.integers.specs.Parts.{eq-parts, add-parts, minus-parts}
 use Rattle.integers.specs.Sizes.{size-add, size-minus}
-use Rattle.lists.specs.Tests.{lt-or-le, true-or-false, cond-both}
+use Rattle.lists.specs.Tests.{lt-or-le, cond-both}
 use Rattle.lists.specs.Sums.{upTo, upTo-same, upTo-both}
 use Rattle.lists.specs.Chains.{sumOf, Walked}
 use Rattle.scheme.specs.Units.{mostLimit}
@@ -39,11 +39,8 @@ of-one d h = record { few = omega arith; small = omega arith }
 pub of-more : (n m : ℕ) (h : Heard) → n ≤ m → OfAtMost n h → OfAtMost m h
 of-more n m h l p = record { few = omega (arith, p .few); small = omega (arith, p .small) }
 
-pub of-twice : (n : ℕ) (h : Heard) → OfAtMost n h → OfAtMost (2 * n) h
-of-twice n h p = of-more n (2 * n) h (omega arith) p
-
-pub of-both : (n : ℕ) (a b : Heard) → OfAtMost n a → OfAtMost n b → OfAtMost (2 * n) (both a b)
-of-both n a b p q =
+pub of-both : (n m : ℕ) (a b : Heard) → OfAtMost n a → OfAtMost m b → OfAtMost (n + m) (both a b)
+of-both n m a b p q =
     record { few = omega (arith, p .few, q .few); small = omega (arith, size-add (a .sum) (b .sum), p .small, q .small) }
 
 pub sum-of-most : (n : ℕ) (f : ℕ → Heard) → ((j : ℕ) → j < n → OfAtMost 1 (f j)) → OfAtMost n (upTo silence both n f)
@@ -93,18 +90,28 @@ from-join cell n low mid high f h l =
     here a v (inr p) q (inl r) = rw (beyond-them low mid a p, among-them mid high a p r, among-them low high a (omega arith) r) (silence-both v)
     here a v (inr p) q (inr r) = rw (beyond-them low mid a p, beyond-them mid high a r, beyond-them low high a r) (silence-both silence)
 
-pub from-three : (cell : ℕ → ℕ) (n a : ℕ) (f : ℕ → Heard)
-    → both (both (fromCells cell n a (a + 1) f) (fromCells cell n (a + 1) (a + 1 + 1) f)) (fromCells cell n (a + 2) (a + 2 + 1) f) ≡ fromCells cell n a (a + 3) f
-from-three cell n a f =
-    ap₂ both (ap (λ (m : ℕ). both (fromCells cell n a (a + 1) f) (fromCells cell n (a + 1) m f)) two ∙ from-join cell n a (a + 1) (a + 2) f (omega arith) (omega arith))
-    (ap (λ (m : ℕ). fromCells cell n (a + 2) m f) three)
-    ∙ from-join cell n a (a + 2) (a + 3) f (omega arith) (omega arith)
-  where
-    two : a + 1 + 1 ≡ a + 2
-    two = omega arith
+-- one more cell, with what was heard before
+pub from-more : (cell : ℕ → ℕ) (n low i : ℕ) (f : ℕ → Heard) (before h h' : Heard) → h ≡ both before (fromCells cell n low (low + i) f)
+    → h' ≡ both h (fromCells cell n (low + i) (low + i + 1) f) → h' ≡ both before (fromCells cell n low (low + (i + 1)) f)
+from-more cell n low i f before h h' e e' =
+    let last : low + i + 1 ≡ low + (i + 1) = omega arith in
+    e' ∙ ap (λ (t : Heard). both t (fromCells cell n (low + i) (low + i + 1) f)) e
+    ∙ both-assoc before (fromCells cell n low (low + i) f) (fromCells cell n (low + i) (low + i + 1) f)
+    ∙ ap (both before) (from-join cell n low (low + i) (low + i + 1) f (omega arith) (omega arith) ∙ ap (λ (high : ℕ). fromCells cell n low high f) last)
 
-    three : a + 2 + 1 ≡ a + 3
-    three = omega arith
+-- none
+nobody : (n : ℕ) → upTo silence both n (λ j. silence) ≡ silence
+unfolding upTo
+nobody zero = refl
+nobody (suc n) = ap (λ (h : Heard). both h silence) (nobody n)
+
+pub from-none : (cell : ℕ → ℕ) (n low high : ℕ) (f : ℕ → Heard) → high ≡ low → fromCells cell n low high f ≡ silence
+unfolding fromCells
+from-none cell n low high f e = upTo-same silence both n _ (λ j. silence) (λ j h. here (cell j) (f j) (lt-or-le (cell j) low)) ∙ nobody n
+  where
+    here : (a : ℕ) (v : Heard) → (a < low) ⊎ (low ≤ a) → cond (between low high a) v silence ≡ silence
+    here a v (inl p) = rw (below-them low high a p)
+    here a v (inr p) = rw (beyond-them low high a (omega arith))
 
 -- one cell, whose chain is walked
 pub from-one : (cell : ℕ → ℕ) (n c : ℕ) (f : ℕ → Heard) → sumOf silence both cell c f n ≡ fromCells cell n c (c + 1) f
@@ -125,26 +132,27 @@ from-few cell n low high f h = sum-of-most n (λ j. cond (between low high (cell
     here j l (inl p) = cond-both (OfAtMost 1) (between low high (cell j)) (f j) silence (λ e. h j l p) (λ e. of-none 1)
     here j l (inr p) = rw (beyond-them low high (cell j) p) (of-none 1)
 
--- and so are those passed on a walk
+-- a sum less its second part
 size-first : (a b : ℤ) → natAbs a ≤ natAbs (a +ℤ b) + natAbs b
 size-first a b = omega (arith, size-minus (a +ℤ b) b, ap natAbs back)
   where
     back : (a +ℤ b) -ℤ b ≡ a
     back = eq-parts ((a +ℤ b) -ℤ b) a (omega (arith, minus-parts (a +ℤ b) b, add-parts a b))
 
-pub walked-few : (cell : ℕ → ℕ) (c n r : ℕ) (f : ℕ → Heard) (h : Heard) → ((j : ℕ) → j < n → cell j < c + 1 → OfAtMost 1 (f j))
-    → Walked silence both cell c f n r h → (h .count ≤ n) × (natAbs (h .sum) ≤ 2 * n * mostLimit)
-walked-few cell c n r f h some w =
-    (omega (arith, count-is, all .few), omega (arith, size-first (h .sum) (sumOf silence both cell c f r .sum), ap natAbs sum-is, all .small, rest .small, w .no-more))
+-- and so are those passed on a walk
+pub walked-few : (cell : ℕ → ℕ) (c n r m : ℕ) (f : ℕ → Heard) (h all : Heard) → ((j : ℕ) → j < n → cell j < c + 1 → OfAtMost 1 (f j)) → OfAtMost m all
+    → Walked silence both cell c f n r h all → OfAtMost (m + n) h
+walked-few cell c n r m f h all some few w =
+    record {
+      few = omega (arith, count-is, few .few);
+      small = omega (arith, size-first (h .sum) (sumOf silence both cell c f r .sum), ap natAbs sum-is, few .small, rest .small, w .no-more);
+    }
   where
-    all : OfAtMost n (sumOf silence both cell c f n)
-    all = rw (from-one cell n c f) (from-few cell n c (c + 1) f some)
-
     rest : OfAtMost r (sumOf silence both cell c f r)
     rest = rw (from-one cell r c f) (from-few cell r c (c + 1) f (λ j l. some j (omega (arith, w .no-more))))
 
-    count-is : h .count + sumOf silence both cell c f r .count ≡ sumOf silence both cell c f n .count
+    count-is : h .count + sumOf silence both cell c f r .count ≡ all .count
     count-is = ap (λ (t : Heard). t .count) (w .sum)
 
-    sum-is : h .sum +ℤ sumOf silence both cell c f r .sum ≡ sumOf silence both cell c f n .sum
+    sum-is : h .sum +ℤ sumOf silence both cell c f r .sum ≡ all .sum
     sum-is = ap (λ (t : Heard). t .sum) (w .sum)

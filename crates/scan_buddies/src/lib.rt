@@ -10,7 +10,7 @@ ghost use Rattle.lists.specs.Chains.{Chained};
 ghost use Rattle.scheme.specs.Units.{mostStations, mostScans, mostLimit, mostBuddyRadius};
 ghost use Rattle.scheme.specs.Weight.{squares};
 ghost use Rattle.scheme.specs.Buddies.{both, isOdd, afterBuddies};
-ghost use Rattle.scan_buddies.specs.Aside.{xOf, yOf, heardAt, asideAt, OnAxis, Standing, AllStanding, AsideReady};
+ghost use Rattle.scan_buddies.specs.Aside.{xOf, yOf, heardAt, asideAt, OnAxis, Standing, AsideReady};
 ghost use Rattle.scan_buddies.specs.Voices.{told, OfAtMost, fromCells};
 ghost use Rattle.scan_buddies.specs.Cells.{leastSide, cells, kinds, sideOf, cellAlong, cellOf, cellFor, cellAt, Survivors, Chains};
 ghost use Rattle.scan_buddies.specs.Nine.{voice, three};
@@ -98,36 +98,36 @@ fn squared_distance(a: [i32; 5], b: [i32; 5]) -> u32
     )
 }
 
-// What station k hears, with what row j says to it.
+// What station k has heard before, with what row j says to it.
 fn with_voice(
-    count: u32,
-    sum: i64,
+    before: Told,
     j: usize,
     k: usize,
     radius: u32,
     d: &[i64; 512],
     numbers: &[[i32; 5]; 512],
 ) -> Told
-    requires { ⌜ (count ≤ mostStations) × (natAbs sum ≤ 2 * mostStations * mostLimit) × (j < mostStations) × (k < mostStations) × (radius ≤ mostBuddyRadius)
+    requires { ⌜ OfAtMost (5 * mostStations) (told (before .count) (before .sum)) × (j < mostStations) × (k < mostStations) × (radius ≤ mostBuddyRadius)
         × Standing (getD (now numbers) j []) (getD (now d) j (pos 0)) × Standing (getD (now numbers) k []) (getD (now d) k (pos 0)) ⌝ }
-    ensures { λ r. ⌜ told (r .count) (r .sum) ≡ both (told count sum) (voice radius (now (numbers .entry)) (now (d .entry)) k j) ⌝ }
+    ensures { λ r. ⌜ told (r .count) (r .sum) ≡ both (told (before .count) (before .sum)) (voice radius (now (numbers .entry)) (now (d .entry)) k j) ⌝ }
 {
     if j == k {
-        return Told { count, sum };
+        return before;
     }
     if radius * radius <= squared_distance(numbers[j], numbers[k]) {
-        return Told { count, sum };
+        return before;
     }
-    let more = count + 1;
-    let all = sum + d[j];
+    let more = before.count + 1;
+    let all = before.sum + d[j];
     Told {
         count: more,
         sum: all,
     }
 }
 
-// What station k hears of those in a cell.
-fn from_cell(
+// The same of those in a cell.
+fn with_cell(
+    before: Told,
     cell: usize,
     k: usize,
     radius: u32,
@@ -136,35 +136,23 @@ fn from_cell(
     d: &[i64; 512],
     numbers: &[[i32; 5]; 512],
 ) -> Told
-    requires { ⌜ (cell < cells) × (k < mostStations) × (radius ≤ mostBuddyRadius) × Standing (getD (now numbers) k []) (getD (now d) k (pos 0))
-        × Chains radius (now numbers) (now d) (now heads) (now next) ⌝ }
+    requires { ⌜ OfAtMost (3 * mostStations) (told (before .count) (before .sum)) × (cell < cells) × (k < mostStations) × (radius ≤ mostBuddyRadius)
+        × Standing (getD (now numbers) k []) (getD (now d) k (pos 0)) × Chains radius (now numbers) (now d) (now heads) (now next) ⌝ }
     ensures { λ r. ⌜ ((n : ℕ) (st : List ℕ) → Survivors radius (now (numbers .entry)) (now (d .entry)) (now (heads .entry)) (now (next .entry)) n st
-        → told (r .count) (r .sum) ≡ fromCells (cellAt radius (now (numbers .entry)) st) n cell (cell + 1) (voice radius (now (numbers .entry)) (now (d .entry)) k)) ⌝ }
+        → told (r .count) (r .sum) ≡ both (told (before .count) (before .sum)) (fromCells (cellAt radius (now (numbers .entry)) st) n cell (cell + 1) (voice radius (now (numbers .entry)) (now (d .entry)) k))) ⌝ }
 {
-    let mut s = Told { count: 0, sum: 0 };
+    let mut s = before;
     let mut t = heads[cell] as usize;
     while 0 < t {
-        s = with_voice(s.count, s.sum, t - 1, k, radius, d, numbers);
+        s = with_voice(s, t - 1, k, radius, d, numbers);
         t = next[t - 1] as usize;
     }
     s
 }
 
-// What is heard of some, and of others.
-fn joined(a: Told, b: Told) -> Told
-    requires { ⌜ OfAtMost (2 * mostStations) (told (a .count) (a .sum)) × OfAtMost (2 * mostStations) (told (b .count) (b .sum)) ⌝ }
-    ensures { λ r. ⌜ told (r .count) (r .sum) ≡ both (told (a .count) (a .sum)) (told (b .count) (b .sum)) ⌝ }
-{
-    let more = a.count + b.count;
-    let all = a.sum + b.sum;
-    Told {
-        count: more,
-        sum: all,
-    }
-}
-
-// What station k hears of those in three cells of a row of cells.
-fn from_three(
+// And of those in three cells of a row of cells.
+fn with_three(
+    before: Told,
     first: usize,
     k: usize,
     radius: u32,
@@ -173,15 +161,18 @@ fn from_three(
     d: &[i64; 512],
     numbers: &[[i32; 5]; 512],
 ) -> Told
-    requires { ⌜ (first + 3 ≤ cells) × (k < mostStations) × (radius ≤ mostBuddyRadius) × Standing (getD (now numbers) k []) (getD (now d) k (pos 0))
-        × Chains radius (now numbers) (now d) (now heads) (now next) ⌝ }
+    requires { ⌜ OfAtMost (2 * mostStations) (told (before .count) (before .sum)) × (first + 3 ≤ cells) × (k < mostStations) × (radius ≤ mostBuddyRadius)
+        × Standing (getD (now numbers) k []) (getD (now d) k (pos 0)) × Chains radius (now numbers) (now d) (now heads) (now next) ⌝ }
     ensures { λ r. ⌜ ((n : ℕ) (st : List ℕ) → Survivors radius (now (numbers .entry)) (now (d .entry)) (now (heads .entry)) (now (next .entry)) n st
-        → told (r .count) (r .sum) ≡ three (cellAt radius (now (numbers .entry)) st) n first (voice radius (now (numbers .entry)) (now (d .entry)) k)) ⌝ }
+        → told (r .count) (r .sum) ≡ both (told (before .count) (before .sum)) (three (cellAt radius (now (numbers .entry)) st) n first (voice radius (now (numbers .entry)) (now (d .entry)) k))) ⌝ }
 {
-    let left = from_cell(first, k, radius, heads, next, d, numbers);
-    let mid = from_cell(first + 1, k, radius, heads, next, d, numbers);
-    let right = from_cell(first + 2, k, radius, heads, next, d, numbers);
-    joined(joined(left, mid), right)
+    let mut s = before;
+    let mut i: usize = 0;
+    while i < 3 {
+        s = with_cell(s, first + i, k, radius, heads, next, d, numbers);
+        i += 1;
+    }
+    s
 }
 
 // What station k hears of all: of those in its own cell and the eight around it, since the others are no nearer than B.
@@ -199,18 +190,13 @@ fn hears(
         → told (r .count) (r .sum) ≡ heardAt radius (now (numbers .entry)) st (now (d .entry)) n k) ⌝ }
 {
     let first = cell_of(radius, numbers[k]) - ACROSS - 1;
-    let above = from_three(first, k, radius, heads, next, d, numbers);
-    let level = from_three(first + ACROSS, k, radius, heads, next, d, numbers);
-    let below = from_three(first + 2 * ACROSS, k, radius, heads, next, d, numbers);
-    joined(joined(above, level), below)
-}
-
-// |z|.
-fn size_of(z: i64) -> u64
-    requires { ⌜ natAbs z ≤ 2 * mostStations * mostLimit ⌝ }
-    ensures { λ r. ⌜ r ≡ natAbs z ⌝ }
-{
-    if z < 0 { (-z) as u64 } else { z as u64 }
+    let mut s = Told { count: 0, sum: 0 };
+    let mut i: usize = 0;
+    while i < 3 {
+        s = with_three(s, first + i * ACROSS, k, radius, heads, next, d, numbers);
+        i += 1;
+    }
+    s
 }
 
 // Whether a station of difference d is odd beside the neighbours that it hears.
@@ -222,7 +208,7 @@ fn is_odd(limit: u32, d: i64, count: u32, sum: i64) -> bool
         return false;
     }
     let gap = (count as i64) * d - sum;
-    (count as u64) * (limit as u64) < size_of(gap)
+    (count as u64) * (limit as u64) < rounding::size_of(gap)
 }
 
 // The verdict of row k after the buddy check of a scan.

@@ -40,14 +40,6 @@ fn difference(verdict: u8, row: [i32; 5], guess: &[i32], z: &[i32], nx: usize, n
     row[request::VALUE] as i64 - value_for(row, guess, z, nx, ny)
 }
 
-// |d|, for the E test.
-fn size_of(d: i64) -> u64
-    requires { ⌜ natAbs d ≤ mostDifference ⌝ }
-    ensures { λ r. ⌜ r ≡ natAbs d ⌝ }
-{
-    if d < 0 { (-d) as u64 } else { d as u64 }
-}
-
 // The verdict after the E test of a scan. A row that is no longer accepted keeps the verdict of its first refusal.
 fn verdict_after(verdict: u8, d: i64, limit: u32, scan: u8) -> u8
     requires { ⌜ (natAbs d ≤ mostDifference) × (scan ≤ mostScans) ⌝ }
@@ -56,7 +48,7 @@ fn verdict_after(verdict: u8, d: i64, limit: u32, scan: u8) -> u8
     if verdict != 0 {
         return verdict;
     }
-    if (limit as u64) < size_of(d) {
+    if (limit as u64) < rounding::size_of(d) {
         10 + scan
     } else {
         0

@@ -14,7 +14,7 @@ use Rattle.request.proofs.buddy_radius.Tie as tie
 -- the check is on
 module _ (c : tie.After-struct-told) where
   check : Checked (planIn (c .before .before .before .args .t))
-  check = c .before .before .before  .pre (c .before .before .if1 .taken)
+  check = c .before .before .before .pre (c .before .before .if1 .taken)
 
   radius-is : toZ w32 (ofZ w32 (c .before .before .before .args .t .«buddy_radius»)) ≡ pos (B (planIn (c .before .before .before .args .t)))
   radius-is =

@@ -1,6 +1,5 @@
 -- `scan_buddies::cell_for` meets its contract: its test is that of the definition. Assumes nothing.
 use borrow.Author.Tests.{eq-eqb, ne-eqb}
-use mathlib.Core.Path.{_≡_}
 use Rattle.scan_buddies.specs.Cells.{cellFor}
 use Rattle.scan_buddies.proofs.cell_for.Statement.{statement}
 use Rattle.scan_buddies.proofs.cell_for.Tie as tie

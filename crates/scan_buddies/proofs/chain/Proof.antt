@@ -5,7 +5,7 @@ use mathlib.Core.Path.{_≡_, refl}
 use lib.ListN.{length, getD, length-set}
 use Rattle.lists.specs.Chains.{Chained, chained-none, chained-more}
 use Rattle.scheme.specs.Units.{mostStations}
-use Rattle.scan_buddies.specs.Cells.{kinds, cellFor, cellAt}
+use Rattle.scan_buddies.specs.Cells.{kinds, cellAt}
 use Rattle.scan_buddies.specs.Nine.{cell-of-kinds}
 use Rattle.scan_buddies.proofs.chain.Statement.{statement}
 use Rattle.scan_buddies.proofs.chain.Tie as tie

@@ -1,132 +1,142 @@
--- `scan_buddies::hears` meets its contract: the nine cells are there, and hold all that the station hears. Assumes nothing.
-use Prim.Native.Nat.{ℕ, _+_, _*_, _≤_}
+-- `scan_buddies::hears` meets its contract. The loop's invariant: those in the rows of cells passed are heard; the three rows hold all that the station
+-- hears. Assumes nothing.
+use Prim.Native.Nat.{ℕ, _+_, _-_, _*_, _≤_}
 use native.Mathlib.Omega.{arith}
-use borrow.Author.Needs.{needs}
-use mathlib.Core.Path.{_≡_, ap₂, _∙_}
+use mathlib.Core.Path.{_≡_, sym, ap, _∙_}
 use mathlib.Core.List.{List, []}
 use lib.ListN.{getD}
-use lib.IntN.{ℤ}
 use Rattle.scheme.specs.Units.{mostStations}
 use Rattle.scheme.specs.Buddies.{Heard, both}
-use Rattle.scan_buddies.specs.Voices.{told, OfAtMost, of-twice, of-both, fromCells}
-use Rattle.scan_buddies.specs.Cells.{cells, cellOf, cellAt, Survivors, Chains}
-use Rattle.scan_buddies.specs.Nine.{voice, Framed, cell-framed, nine-are-all}
-use Rattle.scan_buddies.specs.Walks.{heard-small}
+use Rattle.scan_buddies.specs.Voices.{told, OfAtMost, of-none, of-more}
+use Rattle.scan_buddies.specs.Cells.{across, cells, cellOf, cellAt, Survivors}
+use Rattle.scan_buddies.specs.Nine.{voice, three, rowsOf, rows-none, rows-next, Framed, cell-framed, nine-are-all}
+use Rattle.scan_buddies.specs.Walks.{with-cells}
 use Rattle.scan_buddies.proofs.hears.Statement.{statement}
 use Rattle.scan_buddies.proofs.hears.Tie as tie
 
-module _ (s : tie.Start) where
-  abbrev chains : Chains (s .args .radius) (s .args .numbers .now) (s .args .d .now) (s .args .heads .now) (s .args .next .now)
-  chains = s .pre .3
+abbrev Inv-loop : tie.InvT-loop
+Inv-loop k radius heads next d numbers first s₀ i₀ s i =
+    (i ≤ 3)
+    × OfAtMost (i * mostStations) (told (s .count) (s .sum))
+    × ((n : ℕ) (st : List ℕ) → Survivors radius numbers d heads next n st → told (s .count) (s .sum) ≡ rowsOf (cellAt radius numbers st) n first i (voice radius numbers d k))
 
-  abbrev row : List ℤ
-  row = getD (s .args .numbers .now) (s .args .k) []
+abbrev μ-loop : tie.MeasureT-loop
+μ-loop k radius heads next d numbers first s₀ i₀ s i = 3 - i
 
-  framed : Framed (cellOf (s .args .radius) row)
-  framed = cell-framed (s .args .radius) row (s .pre .2 .x) (s .pre .2 .y)
+module _ (s : tie.Start Inv-loop μ-loop) where
+  abbrev said : ℕ → Heard
+  said = voice (s .args .radius) (s .args .numbers .now) (s .args .d .now) (s .args .k)
 
-  few : (h : Heard) (low high : ℕ) → high ≤ cells
-      → h ≡ fromCells (cellAt (s .args .radius) (s .args .numbers .now) (chains .st)) (chains .n) low high (voice (s .args .radius) (s .args .numbers .now) (s .args .d .now) (s .args .k))
-      → OfAtMost mostStations h
-  few h low high most e =
-      heard-small (s .args .radius) (s .args .numbers .now) (s .args .d .now) (s .args .heads .now) (s .args .next .now) (chains .n) (chains .st) (chains .survivors) (s .args .k) low
-      h low high most e
+  abbrev cell : List ℕ → ℕ → ℕ
+  cell st = cellAt (s .args .radius) (s .args .numbers .now) st
 
-module _ (c : tie.After-cell-of) where
-  abbrev begin : tie.Start
+-- the station's cell, and the first of the nine
+module _ (c : tie.After-cell-of Inv-loop μ-loop) where
+  abbrev begin : tie.Start Inv-loop μ-loop
   begin = c .before .before
 
-  here : Framed (c .cell-of .result)
-  here = rw (c .cell-of .ensures) (framed begin)
+  framed : Framed (c .cell-of .result)
+  framed = rw (c .cell-of .ensures) (cell-framed (begin .args .radius) (getD (begin .args .numbers .now) (begin .args .k) []) (begin .pre .2 .x) (begin .pre .2 .y))
 
-module _ (c : tie.After-from-three3) where
-  abbrev cell : tie.After-cell-of
-  cell = c .before .before .before
+  abbrev first : ℕ
+  first = c .cell-of .result - across - 1
 
-  abbrev start : tie.Start
-  start = begin cell
+  first-is : first + across + 1 ≡ cellOf (begin .args .radius) (getD (begin .args .numbers .now) (begin .args .k) [])
+  first-is = omega (arith, framed .least, c .cell-of .ensures)
 
-  abbrev n : ℕ
-  n = chains start .n
+-- a turn, at row i of them
+module _ (c : tie.In-loop Inv-loop μ-loop) where
+  abbrev here : tie.After-cell-of Inv-loop μ-loop
+  here = c .before .before
 
-  abbrev st : List ℕ
-  st = chains start .st
+  abbrev start : tie.Start Inv-loop μ-loop
+  start = begin here
 
-  above-few : OfAtMost mostStations (told (c .before .before .from-three .result .count) (c .before .before .from-three .result .sum))
-  above-few = few start _ _ _ (omega (arith, here cell .most)) (c .before .before .from-three .ensures n st (chains start .survivors))
+  abbrev i : ℕ
+  i = c .before .loop .i
 
-  level-few : OfAtMost mostStations (told (c .before .from-three2 .result .count) (c .before .from-three2 .result .sum))
-  level-few = few start _ _ _ (omega (arith, here cell .least, here cell .most)) (c .before .from-three2 .ensures n st (chains start .survivors))
+  abbrev heard : Heard
+  heard = told (c .before .loop .s .count) (c .before .loop .s .sum)
 
-  below-few : OfAtMost mostStations (told (c .from-three3 .result .count) (c .from-three3 .result .sum))
-  below-few = few start _ _ _ (omega (arith, here cell .least, here cell .most)) (c .from-three3 .ensures n st (chains start .survivors))
+  in-cells : first here + i * across + 3 ≤ cells
+  in-cells = omega (arith, framed here .least, framed here .most, c .loop-test .taken)
 
-mul-cell-of : tie.Need-mul-cell-of
-mul-cell-of c = search needs
+mul-cell-of : tie.Need-mul-cell-of Inv-loop μ-loop
+mul-cell-of c = record { fits = omega (arith, c .pre .0) }
 
-element-copy-out-cell-of : tie.Need-element-copy-out-cell-of
-element-copy-out-cell-of c = search needs
+element-copy-out-cell-of : tie.Need-element-copy-out-cell-of Inv-loop μ-loop
+element-copy-out-cell-of c = c .pre .0
 
-cell-of-requires : tie.Need-cell-of-requires
-cell-of-requires c κs = search needs
+cell-of-requires : tie.Need-cell-of-requires Inv-loop μ-loop
+cell-of-requires c κs = let p = c .before .pre in (p .2 .x, p .2 .y)
 
-sub-first : tie.Need-sub-first
-sub-first c = omega (arith, here c .least)
+sub-first : tie.Need-sub-first Inv-loop μ-loop
+sub-first c = omega (arith, framed c .least)
 
-sub-first-2 : tie.Need-sub-first-2
-sub-first-2 c = omega (arith, here c .least)
+sub-first-2 : tie.Need-sub-first-2 Inv-loop μ-loop
+sub-first-2 c = omega (arith, framed c .least)
 
-from-three-requires : tie.Need-from-three-requires
-from-three-requires c κs = let p = begin c .pre in (omega (arith, here c .most), p .0, p .1, p .2, p .3)
+loop-holds : tie.Need-loop-holds Inv-loop μ-loop
+loop-holds c = let s = begin c in (omega arith, of-none 0, λ n st survivors. sym (rows-none (cell s st) n (first c) (said s)))
 
-add-from-three : tie.Need-add-from-three
-add-from-three c = search needs
+mul-with-three : tie.Need-mul-with-three Inv-loop μ-loop
+mul-with-three c = record { fits = omega (arith, c .loop-test .taken) }
 
-from-three-requires-2 : tie.Need-from-three-requires-2
-from-three-requires-2 c κs = let g = c .before in let p = begin g .pre in (omega (arith, here g .least, here g .most), p .0, p .1, p .2, p .3)
+add-with-three : tie.Need-add-with-three Inv-loop μ-loop
+add-with-three c = record { fits = omega (arith, in-cells c) }
 
-mul-from-three : tie.Need-mul-from-three
-mul-from-three c = search needs
+with-three-requires : tie.Need-with-three-requires Inv-loop μ-loop
+with-three-requires c κs =
+    let p = start c .pre in
+    (of-more (i c * mostStations) (2 * mostStations) (heard c) (omega (arith, c .loop-test .taken)) (c .before .loop .inv .1), in-cells c, p .0, p .1, p .2, p .3)
 
-add-from-three-2 : tie.Need-add-from-three-2
-add-from-three-2 c = record { fits = omega (arith, here (c .before .before) .most) }
+add-i : tie.Need-add-i Inv-loop μ-loop
+add-i c = record { fits = omega (arith, c .before .loop-test .taken) }
 
-from-three-requires-3 : tie.Need-from-three-requires-3
-from-three-requires-3 c κs = let g = c .before .before in let p = begin g .pre in (omega (arith, here g .least, here g .most), p .0, p .1, p .2, p .3)
+loop-less : tie.Need-loop-less Inv-loop μ-loop
+loop-less c = omega (arith, c .before .loop-test .taken)
 
-joined-requires : tie.Need-joined-requires
-joined-requires c κs = (of-twice mostStations _ (above-few c), of-twice mostStations _ (level-few c))
+loop-again : tie.Need-loop-again Inv-loop μ-loop
+loop-again c =
+    let t = c .before in
+    let s = start t in
+    let l = t .before .loop in
+    let w = s .pre .3 in
+    let low = first (here t) + i t * across in (
+      omega (arith, t .loop-test .taken),
+      with-cells (s .args .radius) (s .args .numbers .now) (s .args .d .now) (s .args .heads .now) (s .args .next .now) (w .n) (w .st) (w .survivors) (s .args .k)
+          (i t) low (low + 3) (heard t) _ (in-cells t) (l .inv .1) (c .with-three .ensures (w .n) (w .st) (w .survivors)),
+      λ n st survivors. c .with-three .ensures n st survivors
+          ∙ ap (λ (h : Heard). both h (three (cell s st) n low (said s))) (l .inv .2 n st survivors)
+          ∙ sym (rows-next (cell s st) n (first (here t)) (i t) (said s)),
+    )
 
-joined-requires-2 : tie.Need-joined-requires-2
-joined-requires-2 c κs = (rw (c .joined .ensures) (of-both mostStations _ _ (above-few (c .before)) (level-few (c .before))), of-twice mostStations _ (below-few (c .before)))
-
-returns : tie.Need-returns
+returns : tie.Need-returns Inv-loop μ-loop
 returns c n st survivors =
-    let j = c .before in
-    let g = cell (j .before) in
+    let l = c .before .loop in
+    let g = c .before .before in
     let s = begin g in
-    c .joined2 .ensures
-    ∙ ap₂ both
-    (j .joined .ensures ∙ ap₂ both (j .before .before .before .from-three .ensures n st survivors) (j .before .before .from-three2 .ensures n st survivors))
-    (j .before .from-three3 .ensures n st survivors)
-    ∙ nine-are-all (s .args .radius) (s .args .numbers .now) (s .args .d .now) (s .args .heads .now) (s .args .next .now) n st survivors (s .args .k) (s .pre .2) _
-    (omega (arith, here g .least, g .cell-of .ensures))
+    let e : l .i ≡ 3 = (let h = c .loop-test .left in omega (arith, l .inv .0)) in
+    l .inv .2 n st survivors
+    ∙ ap (λ (rows : ℕ). rowsOf (cell s st) n (first g) rows (said s)) e
+    ∙ nine-are-all (s .args .radius) (s .args .numbers .now) (s .args .d .now) (s .args .heads .now) (s .args .next .now) n st survivors (s .args .k) (s .pre .2) (first g) (first-is g)
 
 pub hears-spec : {M : Type 1} → statement M
 hears-spec =
     tie.close
     (tie.spec
+    Inv-loop
+    μ-loop
     mul-cell-of
     element-copy-out-cell-of
     cell-of-requires
     sub-first
     sub-first-2
-    from-three-requires
-    add-from-three
-    from-three-requires-2
-    mul-from-three
-    add-from-three-2
-    from-three-requires-3
-    joined-requires
-    joined-requires-2
+    loop-holds
+    mul-with-three
+    add-with-three
+    with-three-requires
+    add-i
+    loop-less
+    loop-again
     returns)

@@ -4,7 +4,7 @@ use native.Mathlib.Omega.{arith}
 use native.Mathlib.Nat.{mul-le-mul}
 use borrow.Author.Needs.{needs}
 use borrow.Author.Tests.{le-leb, lt-leb}
-use mathlib.Core.Path.{_≡_, sym, ap, _∙_}
+use mathlib.Core.Path.{_≡_}
 use lib.IntN.{ℤ, pos, natAbs, _-ℤ_, _*ℤ_}
 use mir.Syntax.{w64}
 use mir.Val.{toZ, ofZ}
@@ -61,7 +61,7 @@ mul-result : tie.Need-mul-result
 mul-result c = record { fits = omega (arith, allowed-small (c .before)) }
 
 size-of-requires : tie.Need-size-of-requires
-size-of-requires c κs = let s = c .before in rw (gap-back s) (gap-small s)
+size-of-requires c κs = let s = c .before in rw (gap-back s) (omega (arith, gap-small s))
 
 returns-2 : tie.Need-returns-2
 unfolding isOdd

@@ -3,13 +3,11 @@
 use Prim.Native.Nat.{ℕ, _+_, _-_, _≤_, _<_}
 use native.Mathlib.Omega.{arith}
 use mathlib.Core.Path.{_≡_, refl, sym, _∙_}
-use mathlib.Core.List.{List}
 use lib.ListN.{length, getD, length-replicate, getD-replicate}
-use lib.IntN.{ℤ}
 use Rattle.lists.specs.Filled.{Filled, filled-none, filled-set}
 use Rattle.scheme.specs.Units.{mostStations}
 use Rattle.scan_buddies.specs.Aside.{asideAt}
-use Rattle.scan_buddies.specs.Cells.{kinds, Survivors, Chains}
+use Rattle.scan_buddies.specs.Cells.{kinds, Survivors}
 use Rattle.scan_buddies.proofs.set_aside.Statement.{statement}
 use Rattle.scan_buddies.proofs.set_aside.Tie as tie
 

@@ -1,5 +1,5 @@
 -- `scan_buddies::verdict_beside` meets its contract: its tests are those of the definition. Assumes nothing.
-use Prim.Native.Nat.{ℕ, _≤_}
+use Prim.Native.Nat.{ℕ}
 use native.Mathlib.Omega.{arith}
 use borrow.Author.Needs.{needs}
 use borrow.Author.Tests.{eq-eqb, ne-eqb}
@@ -14,7 +14,7 @@ use Rattle.scheme.specs.Units.{mostStations}
 use Rattle.scheme.specs.Buddies.{Heard, isOdd, afterBuddies}
 use Rattle.scan_buddies.specs.Aside.{heardAt}
 use Rattle.scan_buddies.specs.Voices.{told, OfAtMost, of-more}
-use Rattle.scan_buddies.specs.Cells.{Survivors, Chains}
+use Rattle.scan_buddies.specs.Cells.{Survivors}
 use Rattle.scan_buddies.specs.Nine.{heard-few}
 use Rattle.scan_buddies.proofs.verdict_beside.Statement.{statement}
 use Rattle.scan_buddies.proofs.verdict_beside.Tie as tie

@@ -1,15 +1,13 @@
 -- `scan_buddies::with_voice` meets its contract: no sum leaves its type. Assumes nothing.
-use Prim.Native.Nat.{ℕ, _+_, _*_, _≤_, _<_}
+use Prim.Native.Nat.{_*_, _≤_, _<_}
 use native.Mathlib.Omega.{arith}
 use native.Mathlib.Nat.{mul-le-mul}
 use borrow.Author.Needs.{needs}
-use mathlib.Core.Path.{_≡_, sym, ap, _∙_}
-use mathlib.Core.List.{List, []}
+use mathlib.Core.Path.{_≡_, sym}
 use lib.ListN.{getD}
 use lib.IntN.{ℤ, pos, natAbs, _+ℤ_}
 use mir.Syntax.{w64}
 use mir.Val.{toZ, ofZ}
-use mir.Facts.{toZ-ofZ}
 use Rattle.integers.specs.Sizes.{size-add}
 use Rattle.integers.specs.Words.{fits-size, bits-back}
 use Rattle.scheme.specs.Buddies.{Heard, silence, both}
@@ -23,24 +21,25 @@ module _ (s : tie.Start) where
   abbrev said : Heard
   said = voice (s .args .radius) (s .args .numbers .now) (s .args .d .now) (s .args .k) (s .args .j)
 
+  -- what was heard before
+  abbrev before : Heard
+  before = told (s .args .before .count) (s .args .before .sum)
+
   abbrev d : ℤ
   d = getD (s .args .d .now) (s .args .j) (pos 0)
 
   square-small : s .args .radius * s .args .radius ≤ 262144
-  square-small = mul-le-mul (s .pre .4) (s .pre .4)
+  square-small = mul-le-mul (s .pre .3) (s .pre .3)
 
-  all-small : natAbs (s .args .sum +ℤ d) < 9223372036854775808
-  all-small = omega (arith, size-add (s .args .sum) d, s .pre .1, s .pre .5 .d-small)
+  all-small : natAbs (before .sum +ℤ d) < 9223372036854775808
+  all-small = omega (arith, size-add (before .sum) d, s .pre .0 .small, s .pre .4 .d-small)
 
-  sum-back : toZ w64 (ofZ w64 (s .args .sum)) ≡ s .args .sum
-  sum-back = toZ-ofZ (s .fits .sum)
-
-  all-is : toZ w64 (ofZ w64 (s .args .sum)) +ℤ toZ w64 (ofZ w64 d) ≡ s .args .sum +ℤ d
-  all-is = rw (sum-back, bits-back w64 d (omega (arith, s .pre .5 .d-small)))
+  all-is : toZ w64 (ofZ w64 (before .sum)) +ℤ toZ w64 (ofZ w64 d) ≡ before .sum +ℤ d
+  all-is = rw (bits-back w64 (before .sum) (omega (arith, s .pre .0 .small)), bits-back w64 d (omega (arith, s .pre .4 .d-small)))
 
   -- one that says nothing
-  unheard : said ≡ silence → told (s .args .count) (toZ w64 (ofZ w64 (s .args .sum))) ≡ both (told (s .args .count) (s .args .sum)) said
-  unheard e = rw (sum-back, e) (sym (both-silence (told (s .args .count) (s .args .sum))))
+  unheard : said ≡ silence → before ≡ both before said
+  unheard e = rw e (sym (both-silence before))
 
 returns : tie.Need-returns
 returns c =
@@ -84,22 +83,23 @@ element-copy-out-all : tie.Need-element-copy-out-all
 element-copy-out-all c = search needs
 
 -- the entry of the call
-abbrev start : tie.After-all → tie.Start
-start c = c .before .before .before .before .before .before
+abbrev start : tie.After-struct-told → tie.Start
+start c = c .before .before .before .before .before .before .before .before .before
 
 add-all : tie.Need-add-all
-add-all c = let s = start c in rw (all-is s) (fits-size w64 (s .args .sum +ℤ d s) (all-small s))
+add-all c = let s = start c in rw (all-is s) (fits-size w64 (before s .sum +ℤ d s) (all-small s))
 
 returns-3 : tie.Need-returns-3
 returns-3 c =
-    let g = c .before .before in
+    let other = c .before .before .before .before in
+    let g = other .before in
     let e = g .before .before .before in
     let s = start c in
     rw (
       all-is s,
-      bits-back w64 (s .args .sum +ℤ d s) (all-small s),
+      bits-back w64 (before s .sum +ℤ d s) (all-small s),
       voice-near (s .args .radius) (s .args .numbers .now) (s .args .d .now) (s .args .k) (s .args .j) (g .squared-distance .result) (e .if1 .left) (g .squared-distance .ensures)
-          (c .before .if2 .left),
+          (other .if2 .left),
     )
 
 pub with-voice-spec : {M : Type 1} → statement M

@@ -1,4 +1,5 @@
 -- `scan_station::verdict_after` meets its contract: its two tests are those of the definition. Assumes nothing.
+use native.Mathlib.Omega.{arith}
 use borrow.Author.Needs.{needs}
 use borrow.Author.Tests.{lt-ltb, le-ltb, eq-eqb, ne-eqb}
 use mathlib.Core.Path.{_≡_}
@@ -16,7 +17,7 @@ unfolding afterTest
 returns c = rw (ne-eqb _ _ (c .if1 .taken))
 
 size-of-requires : tie.Need-size-of-requires
-size-of-requires c κs = search needs
+size-of-requires c κs = rw (toZ-ofZ (c .before .fits .d)) (omega (arith, c .before .pre .0))
 
 add-result : tie.Need-add-result
 add-result c = search needs

@@ -1,5 +1,5 @@
--- `scan_buddies::size_of` meets its contract: what is below zero is turned, and what is not is kept. Assumes nothing.
-use Prim.Native.Nat.{ℕ, suc, _*_, _≤_}
+-- `rounding::size_of` meets its contract: what is below zero is turned, and what is not is kept. Assumes nothing.
+use Prim.Native.Nat.{ℕ, suc, _≤_}
 use native.Mathlib.Omega.{arith}
 use borrow.Author.Needs.{needs}
 use mathlib.Core.Path.{_≡_, refl, ap, _∙_}
@@ -12,9 +12,8 @@ use mir.Val.{Fits, toZ, ofZ}
 use mir.Facts.{toZ-ofZ}
 use Rattle.integers.specs.Order.{less-parts, not-less-parts}
 use Rattle.integers.specs.Words.{fits-size, bits-back}
-use Rattle.scheme.specs.Units.{mostStations, mostLimit}
-use Rattle.scan_buddies.proofs.size_of.Statement.{statement}
-use Rattle.scan_buddies.proofs.size_of.Tie as tie
+use Rattle.rounding.proofs.size_of.Statement.{statement}
+use Rattle.rounding.proofs.size_of.Tie as tie
 
 turned : (d : ℤ) → ltZ d (pos 0) ≡ true → pos 0 -ℤ d ≡ pos (natAbs d)
 turned (pos n) e = absurd (omega (arith, less-parts (pos n) (pos 0) e))
@@ -24,7 +23,7 @@ kept : (d : ℤ) → ltZ d (pos 0) ≡ false → d ≡ pos (natAbs d)
 kept (pos n) e = refl
 kept (negsuc n) e = absurd (omega (arith, not-less-parts (negsuc n) (pos 0) e))
 
-unsigned : (z : ℤ) (n : ℕ) → z ≡ pos n → n ≤ (2 * mostStations * mostLimit) → T (nonNeg z) × Fits w64 (natAbs z)
+unsigned : (z : ℤ) (n : ℕ) → z ≡ pos n → n ≤ 4611686018427387904 → T (nonNeg z) × Fits w64 (natAbs z)
 unsigned z n e h = rw e (tt, record { fits = omega arith })
 
 module _ (c : tie.Then1) where

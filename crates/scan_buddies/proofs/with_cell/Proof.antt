@@ -1,28 +1,27 @@
--- `scan_buddies::from_cell` meets its contract. The loop's invariant: the chain is walked down to t. Assumes nothing.
-use Prim.Native.Nat.{ℕ, _+_, _-_, _*_, _≤_, _<_}
+-- `scan_buddies::with_cell` meets its contract. The loop's invariant: the chain is walked down to t. Assumes nothing.
+use Prim.Native.Nat.{ℕ, _-_, _<_}
 use native.Mathlib.Omega.{arith}
-use borrow.Author.Needs.{needs}
-use mathlib.Core.Path.{_≡_, subst}
+use mathlib.Core.Path.{_≡_}
 use mathlib.Core.List.{List}
 use lib.ListN.{getD}
-use lib.IntN.{ℤ, natAbs}
-use mir.Syntax.{w64}
-use mir.Val.{toZ, ofZ}
-use Rattle.integers.specs.Words.{bits-back}
-use Rattle.scheme.specs.Units.{mostStations, mostLimit}
+use Rattle.scheme.specs.Units.{mostStations}
 use Rattle.scheme.specs.Buddies.{Heard}
 use Rattle.scan_buddies.specs.Voices.{told}
 use Rattle.scan_buddies.specs.Cells.{Survivors, Chains}
 use Rattle.scan_buddies.specs.Walks.{Walking, Turn, walking-start, turn, next-less, walking-next, walking-end}
-use Rattle.scan_buddies.proofs.from_cell.Statement.{statement}
-use Rattle.scan_buddies.proofs.from_cell.Tie as tie
+use Rattle.scan_buddies.proofs.with_cell.Statement.{statement}
+use Rattle.scan_buddies.proofs.with_cell.Tie as tie
 
 abbrev Inv-loop : tie.InvT-loop
 Inv-loop cell k radius heads next d numbers s₀ t₀ s t =
-    (n : ℕ) (st : List ℕ) → Survivors radius numbers d heads next n st → Walking radius numbers d k cell n st t (told (s .count) (s .sum))
+    (n : ℕ) (st : List ℕ) → Survivors radius numbers d heads next n st → Walking radius numbers d k cell n st (told (s₀ .count) (s₀ .sum)) t (told (s .count) (s .sum))
 
 abbrev μ-loop : tie.MeasureT-loop
 μ-loop cell k radius heads next d numbers s₀ t₀ s t = t
+
+-- what was heard before
+abbrev before : tie.Start Inv-loop μ-loop → Heard
+before s = told (s .args .before .count) (s .args .before .sum)
 
 -- a turn, at row t - 1, and the survivors that the call was told of
 module _ (c : tie.In-loop Inv-loop μ-loop) where
@@ -30,7 +29,7 @@ module _ (c : tie.In-loop Inv-loop μ-loop) where
   start = c .before .before .before
 
   abbrev chains : Chains (start .args .radius) (start .args .numbers .now) (start .args .d .now) (start .args .heads .now) (start .args .next .now)
-  chains = start .pre .4
+  chains = start .pre .5
 
   abbrev t : ℕ
   t = c .before .loop .t
@@ -44,54 +43,49 @@ module _ (c : tie.In-loop Inv-loop μ-loop) where
   here : Turn (start .args .numbers .now) (start .args .d .now) (chains .n) t heard
   here =
       turn (start .args .radius) (start .args .numbers .now) (start .args .d .now) (start .args .heads .now) (start .args .next .now) (chains .n) (chains .st) (chains .survivors)
-      (start .args .k) (start .args .cell) (start .pre .0) t heard some (c .before .loop .inv (chains .n) (chains .st) (chains .survivors))
+      (start .args .k) (start .args .cell) (before start) (start .pre .1) t heard some
+      (c .before .loop .inv (chains .n) (chains .st) (chains .survivors)) (start .pre .0)
 
   inside : t - 1 < mostStations
   inside = omega (arith, here .inside, chains .survivors .few)
 
-  sum-small : natAbs (heard .sum) ≤ 2 * mostStations * mostLimit
-  sum-small = omega (arith, here .small, chains .survivors .few)
-
-  sum-back : toZ w64 (ofZ w64 (heard .sum)) ≡ heard .sum
-  sum-back = bits-back w64 (heard .sum) (omega (arith, sum-small))
-
   less : getD (start .args .next .now) (t - 1) 0 < t
   less =
       next-less (start .args .radius) (start .args .numbers .now) (start .args .d .now) (start .args .heads .now) (start .args .next .now) (chains .n) (chains .st) (chains .survivors)
-      (start .args .k) (start .args .cell) (start .pre .0) t heard some (c .before .loop .inv (chains .n) (chains .st) (chains .survivors))
+      (start .args .k) (start .args .cell) (before start) (start .pre .1) t heard some
+      (c .before .loop .inv (chains .n) (chains .st) (chains .survivors))
 
 -- the turn that ends
 abbrev turned : tie.After-with-voice Inv-loop μ-loop → tie.In-loop Inv-loop μ-loop
-turned c = c .before .before
+turned c = c .before
 
 mul-t : tie.Need-mul-t Inv-loop μ-loop
-mul-t c = record { fits = omega (arith, c .pre .0) }
+mul-t c = record { fits = omega (arith, c .pre .1) }
 
 element-copy-out-t : tie.Need-element-copy-out-t Inv-loop μ-loop
-element-copy-out-t c = omega (arith, c .pre .0)
+element-copy-out-t c = omega (arith, c .pre .1)
 
 cast-t : tie.Need-cast-t Inv-loop μ-loop
 cast-t c =
     let s = c .before in
-    let w = s .pre .4 in
+    let w = s .pre .5 in
     let first = walking-start (s .args .radius) (s .args .numbers .now) (s .args .d .now) (s .args .heads .now) (s .args .next .now) (w .n) (w .st) (w .survivors) (s .args .k) (s .args .cell)
-    (omega (arith, s .pre .0)) in
+    (before s) (omega (arith, s .pre .1)) in
     record { fits = omega (arith, first .no-more, w .survivors .few) }
 
 loop-holds : tie.Need-loop-holds Inv-loop μ-loop
 loop-holds c n st survivors =
     let s = c .before in
     walking-start (s .args .radius) (s .args .numbers .now) (s .args .d .now) (s .args .heads .now) (s .args .next .now) n st survivors (s .args .k) (s .args .cell)
-    (omega (arith, s .pre .0))
+    (before s) (omega (arith, s .pre .1))
 
 sub-with-voice : tie.Need-sub-with-voice Inv-loop μ-loop
 sub-with-voice c = some c
 
 with-voice-requires : tie.Need-with-voice-requires Inv-loop μ-loop
 with-voice-requires c κs =
-    let k = c .before in
-    let p = start k .pre in
-    (omega (arith, here k .few, chains k .survivors .few), rw (sum-back k) (sum-small k), inside k, p .1, p .2, here k .standing, p .3)
+    let p = start c .pre in
+    (here c .few, inside c, p .2, p .3, here c .standing, p .4)
 
 sub-t : tie.Need-sub-t Inv-loop μ-loop
 sub-t c = some (turned c)
@@ -112,9 +106,9 @@ loop-again : tie.Need-loop-again Inv-loop μ-loop
 loop-again c n st survivors =
     let k = turned (c .before) in
     let s = start k in
-    rw (rw (sum-back k) at (c .before .with-voice .ensures))
+    rw (c .before .with-voice .ensures)
     (walking-next (s .args .radius) (s .args .numbers .now) (s .args .d .now) (s .args .heads .now) (s .args .next .now) n st survivors
-    (s .args .k) (s .args .cell) (s .pre .0) (t k) (heard k) (some k) (k .before .loop .inv n st survivors))
+    (s .args .k) (s .args .cell) (before s) (s .pre .1) (t k) (heard k) (some k) (k .before .loop .inv n st survivors))
 
 returns : tie.Need-returns Inv-loop μ-loop
 returns c n st survivors =
@@ -122,10 +116,10 @@ returns c n st survivors =
     let s = c .before .before .before in
     let e : l .t ≡ 0 = (let h = c .loop-test .left in omega arith) in
     walking-end (s .args .radius) (s .args .numbers .now) (s .args .d .now) (s .args .heads .now) (s .args .next .now) n st survivors (s .args .k) (s .args .cell)
-    (l .t) (told (l .s .count) (l .s .sum)) e (l .inv n st survivors)
+    (before s) (l .t) (told (l .s .count) (l .s .sum)) e (l .inv n st survivors)
 
-pub from-cell-spec : {M : Type 1} → statement M
-from-cell-spec =
+pub with-cell-spec : {M : Type 1} → statement M
+with-cell-spec =
     tie.close
     (tie.spec
     Inv-loop
