@@ -88,14 +88,16 @@ alone-judged p m D rows e =
     ∙ each-map (λ r. r) (allTested p m D rows)
     ∙ map-same (allTested p m D rows)
 
--- a scan as the landing before had it: the E test alone
-unfoldable pub scanBefore : Request → (m : ℕ) → State → State
-scanBefore q m found =
-    let D = differences q found in
-    let rows = allTested (q .plan) m D (found .rows) in
-    let at : Field Sums = λ i j. total nothing plus (share (q .plan .mode) (R (q .plan) m) D i j) rows in
+-- what a scan leaves, by its rows as they are judged
+abbrev scanOf : Request → (m : ℕ) → State → List Row → State
+scanOf q m found rows =
+    let at : Field Sums = λ i j. total nothing plus (share (q .plan .mode) (R (q .plan) m) (differences q found) i j) rows in
     let z : Field ℤ = λ i j. found .field i j +ℤ correction (q .plan .rule) (at i j) in
     record { field = cond (q .plan .smooth) (smoothed (q .nx) (q .ny) z) z; support = λ i j. backedBy m (at i j) (found .support i j); rows = rows }
+
+-- a scan as the landing before had it: the E test alone
+unfoldable pub scanBefore : Request → (m : ℕ) → State → State
+scanBefore q m found = scanOf q m found (allTested (q .plan) m (differences q found) (found .rows))
 
 unfoldable pub before : Request → ℕ → State
 before q zero = start mostBeyond q
@@ -115,13 +117,7 @@ module _ (q : Request) (off : q .plan .buddies .on ≡ false) where
 
   scan-as-before : (m : ℕ) (found : State) → scan q m found ≡ scanBefore q m found
   unfolding scan scanBefore corrected sumsAt rowsJudged
-  scan-as-before m found = ap scanOf (alone-judged (q .plan) m (differences q found) (found .rows) no-B)
-    where
-      scanOf : List Row → State
-      scanOf rows =
-          let at : Field Sums = λ i j. total nothing plus (share (q .plan .mode) (R (q .plan) m) (differences q found) i j) rows in
-          let z : Field ℤ = λ i j. found .field i j +ℤ correction (q .plan .rule) (at i j) in
-          record { field = cond (q .plan .smooth) (smoothed (q .nx) (q .ny) z) z; support = λ i j. backedBy m (at i j) (found .support i j); rows = rows }
+  scan-as-before m found = ap (scanOf q m found) (alone-judged (q .plan) m (differences q found) (found .rows) no-B)
 
   pub off-runs-as-before : (m : ℕ) → after q m ≡ before q m
   unfolding afterWithin before
