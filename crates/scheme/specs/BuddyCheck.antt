@@ -1,36 +1,36 @@
 -- The buddy check (document 02, 7): all are judged at once; off, it is as if it were not there; who has fewer than two neighbours stays; who is set
 -- aside has no weight and is no neighbour from then on; and what two that agree do to a third.
-use Prim.Native.Nat.{ℕ, zero, suc, _+_, _-_, _*_, _/_, _≤_, _<_}
+use Prim.Native.Nat.{ℕ, zero, suc, _+_, _-_, _*_, _/_, _<_}
 use native.Mathlib.Omega.{arith}
 use mathlib.Core.Path.{_≡_, refl, sym, ap, _∙_, fun-ext}
 use mathlib.Core.Logic.{_⊎_, inl, inr}
-use mathlib.Core.Bool.{Bool, true, false, cond, _&&_}
+use mathlib.Core.Bool.{Bool, true, false, cond}
 use mathlib.Core.List.{List, [], _∷_, map}
 use borrow.Author.Tests.{eq-eqb, eqb-true}
-use lib.Dec.{leb, ltb, eqb}
+use lib.Dec.{ltb, eqb}
 use lib.ListN.{length, getD, set, length-set, length-map}
 use lib.Seq.{getD-set-same, getD-set-other}
 use lib.IntN.{ℤ, pos, natAbs, _+ℤ_, _-ℤ_, _*ℤ_, +ℤ-idr}
 use Rattle.integers.specs.Parts.{up, dn, eq-parts, add-parts, minus-parts, mul-parts}
 use Rattle.integers.specs.Sizes.{size-gap}
 use Rattle.lists.specs.Tests.{true-or-false, not-both, ltb-same}
-use Rattle.lists.specs.Tab.{tab, is-tab}
+use Rattle.lists.specs.Tab.{is-tab}
 use Rattle.lists.specs.Sums.{total}
 use Rattle.lists.specs.First.{first, firstIn}
 use Rattle.lists.specs.Members.{Some, here, later}
 use Rattle.lists.specs.Parted.{eachFrom, each, each-map}
-use Rattle.lists.specs.Each.{without, length-each, each-at}
+use Rattle.lists.specs.Each.{without, each-at}
 use Rattle.scheme.specs.Units.{Field, stored, step, Station, mostBeyond, mostScans, Buddies, Plan, R, E, B, L, Request, guess, asking}
 use Rattle.scheme.specs.Refusals.{Refusal, accepted, refused, inOrder, refusedIf, refusedWith, refusedAt, badScans, badScan, badBuddies, badGuess, badStation, Window, fromFive}
 use Rattle.scheme.specs.Verdicts.{isAccepted}
 use Rattle.scheme.specs.Difference.{Row, afterTest, tested}
-use Rattle.scheme.specs.Weight.{squares, inside}
-use Rattle.scheme.specs.Buddies.{Heard, silence, both, says, heard, isOdd, afterBuddies, besideOthers}
+use Rattle.scheme.specs.Weight.{inside}
+use Rattle.scheme.specs.Buddies.{Heard, silence, says, heard, isOdd, afterBuddies, besideOthers}
 use Rattle.scheme.specs.Correction.{Sums, nothing, plus, share, correction, backedBy}
 use Rattle.scheme.specs.Smoothing.{smoothed}
 use Rattle.scheme.specs.Scan.{State, start, differences, allTested, allJudged, rowsJudged, sumsAt, corrected, scan, afterWithin, after, Analysis, analysis}
-use Rattle.scheme.specs.Reach.{steps, reach, windowOf, Tile, wholeAt}
-use Rattle.scheme.specs.Judging.{noRow, judgedBeside, few-neighbours-stay, alone-stays, rejected-passes-test, judged-length}
+use Rattle.scheme.specs.Reach.{steps, windowOf, Tile, wholeAt}
+use Rattle.scheme.specs.Judging.{noRow, few-neighbours-stay, alone-stays, rejected-passes-test, judged-length}
 use Rattle.scheme.specs.DeadMasts.{rowAfter, survivors, row-next, rejected-for-good}
 
 -- ---- all are judged at once: in whatever order, one by one, against the same survivors

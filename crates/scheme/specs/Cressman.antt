@@ -1,7 +1,7 @@
 -- Documents 01 and 02 as a scheme: its pieces keep the laws, and its run goes by them.
 use Prim.Native.Nat.{ℕ, _+_, _-_, _*_, _≤_, _<_, min}
 use native.Mathlib.Omega.{arith}
-use mathlib.Core.Path.{_≡_, refl, sym, ap, fun-ext, _∙_}
+use mathlib.Core.Path.{_≡_, refl, ap, fun-ext, _∙_}
 use mathlib.Core.Bool.{Bool, true, false, not, cond, _&&_}
 use mathlib.Core.List.{List}
 use borrow.Author.Tests.{leb-true, le-leb, ne-eqb}

@@ -4,7 +4,7 @@ use native.Mathlib.Omega.{arith}
 use mathlib.Core.Path.{_≡_, refl, sym, ap, _∙_}
 use mathlib.Core.Logic.{_⊎_, inl, inr}
 use mathlib.Core.Bool.{Bool, true, false, cond, _&&_}
-use mathlib.Core.List.{List, [], _∷_, map}
+use mathlib.Core.List.{List, [], _∷_}
 use borrow.Author.Tests.{ltb-false, le-ltb, lt-leb, eqb-true}
 use lib.Dec.{ltb}
 use lib.ListN.{length, length-map, getD, List·getD-map, List·getD-eq-default}

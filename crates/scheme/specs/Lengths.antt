@@ -1,5 +1,5 @@
 -- The lists of an analysis are as long as the grid and the station list.
-use Prim.Native.Nat.{ℕ, zero, suc, _+_, _*_}
+use Prim.Native.Nat.{ℕ, zero, suc, _*_}
 use mathlib.Core.Path.{_≡_, _∙_}
 use lib.ListN.{length, length-map}
 use Rattle.scheme.specs.Units.{mostBeyond, Request}
