@@ -39,7 +39,7 @@ enum Company {
 
 use Company::*;
 
-const ALL: [Company; 40] = [
+const ALL: [Company; 45] = [
     OddOne,
     OddOne,
     TwoOdd,
@@ -53,6 +53,9 @@ const ALL: [Company; 40] = [
     Exact,
     Exact,
     Exact,
+    Exact,
+    Exact,
+    Exact,
     SamePlace,
     SamePlace,
     Rim,
@@ -64,6 +67,8 @@ const ALL: [Company; 40] = [
     Rim,
     Rim,
     Rim,
+    Rejected,
+    Rejected,
     Rejected,
     Rejected,
     Dead(1),
@@ -169,6 +174,10 @@ fn gather_on_grid(rng: &mut Rng, call: &mut Call, part: &Window, company: Compan
     };
     drop_inside(call, at, 2 * radius_of(call));
     set_limit(call, limit.into());
+    if company == Rejected {
+        // It is none in a later scan either.
+        lengthen(call, 2);
+    }
     if company == SamePlace && rng.one_in(2) {
         // There is nobody else.
         set_rows(call, 0);

@@ -65,12 +65,15 @@ enum Beside {
     RejectedBefore,
 }
 
-const ALL: [Beside; 40] = [
+const ALL: [Beside; 43] = [
     Beside::Nothing,
     Beside::AtThePoint,
     Beside::LonePost,
     Beside::Huge,
     Beside::Huge,
+    Beside::Tie,
+    Beside::Tie,
+    Beside::Tie,
     Beside::Tie,
     Beside::Tie,
     Beside::Tie,

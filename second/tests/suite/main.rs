@@ -3,6 +3,7 @@
 mod bridge;
 mod buddies;
 mod buddy_faults;
+mod buddy_sorts;
 mod command;
 mod faulty;
 mod faulty_buddies;
