@@ -34,7 +34,7 @@ fn break_in_turn(rng: &mut Rng, call: &mut Call, number: u32, turn: u64, ways: u
         (6, 1, ..) => break_check(rng, call, turn / 2 % ways),
         (7, _, 1, _) => break_beside(rng, call, 7, turn % 8 == 1),
         // The other turns are those of the winds.
-        (8, _, _, 0) => break_beside(rng, call, 8, turn % 12 == 0),
+        (8, _, _, 0) => break_beside(rng, call, 8, turn.is_multiple_of(12)),
         _ => return false,
     }
     true

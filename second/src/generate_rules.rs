@@ -65,7 +65,7 @@ enum Beside {
     RejectedBefore,
 }
 
-const ALL: [Beside; 43] = [
+const ALL: [Beside; 46] = [
     Beside::Nothing,
     Beside::AtThePoint,
     Beside::LonePost,
@@ -98,6 +98,9 @@ const ALL: [Beside; 43] = [
     Beside::Dead(2),
     Beside::Dead(3),
     Beside::Dead(4),
+    Beside::Dead(5),
+    Beside::Dead(5),
+    Beside::Dead(5),
     Beside::Dead(5),
     Beside::Dead(5),
     Beside::Dead(5),
