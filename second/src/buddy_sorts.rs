@@ -60,9 +60,9 @@ const WINDOW_LEAST: [Least; 2] =
     [(UNLIKE_INSIDE, &[630, 300]), (REACH, &[190, 300, 180, 80, 90, 200, 280])];
 
 const REFUSED_LEAST: [Least; 3] = [
-    (ALONE, &[17, 17, 12, 11, 17, 16, 9, 11]),
-    (TOO, &[11, 10, 12, 11, 11, 23, 11, 12]),
-    (OFF_TOO, &[39, 49, 78]),
+    (ALONE, &[18, 18, 13, 12, 18, 18, 10, 12]),
+    (TOO, &[12, 11, 12, 13, 13, 26, 50, 33]),
+    (OFF_TOO, &[39, 85, 90]),
 ];
 
 const TEXT_LEAST: [Least; 9] = [
@@ -74,7 +74,7 @@ const TEXT_LEAST: [Least; 9] = [
     (UNLIKE, &[690, 310, 70]),
     (SMOOTHED, &[340, 340]),
     (MODED, &[390, 290]),
-    (LINE, &[20, 22, 27, 23, 23, 23, 19, 27, 60, 25, 11, 31, 19, 16, 11, 28, 11, 17]),
+    (LINE, &[22, 33, 44, 31, 31, 31, 22, 40, 85, 34, 20, 58, 31, 31, 20, 46, 20, 20]),
 ];
 
 pub fn floors_of(sorts: &[Least]) -> Vec<Floor> {
@@ -244,10 +244,7 @@ pub fn of_refused(call: &Call, refusal: &Refusal) -> Vec<Sort> {
     let bare = Call { buddy: None, ..call.clone() };
     let rest = check_request(&bare).err();
     match call.buddy {
-        Some(buddy) if !is_good(&buddy) && buddy.on => {
-            let place = if *refusal == Refusal::new(6, OF_THE_CHECK as u32) { 1 } else { 0 };
-            of_bad(call, &buddy, refusal.number, place == 1, rest)
-        }
+        Some(buddy) if !is_good(&buddy) && buddy.on => of_bad(call, &buddy, refusal, rest),
         Some(buddy) if !is_good(&buddy) => {
             named(OFF_TOO, [6, 7, 8].map(|number| refusal.number == number))
         }
@@ -256,22 +253,16 @@ pub fn of_refused(call: &Call, refusal: &Refusal) -> Vec<Sort> {
 }
 
 /// A bad check by itself, or beside what is tested before it or after it.
-fn of_bad(
-    call: &Call,
-    buddy: &Buddy,
-    number: u32,
-    named_by_it: bool,
-    rest: Option<Refusal>,
-) -> Vec<Sort> {
+fn of_bad(call: &Call, buddy: &Buddy, refusal: &Refusal, rest: Option<Refusal>) -> Vec<Sort> {
     let count = Call { buddy: None, rule: None, mode: ROUND, ..call.clone() };
     let by_count = check_request(&count).err().is_some_and(|rest| rest.number == 5);
-    match (number, rest.map(|rest| rest.number)) {
+    match (refusal.number, rest.map(|rest| rest.number)) {
         (3, _) => vec![(TOO, 0)],
         (4, _) => vec![(TOO, 1)],
         (5, _) if by_count => vec![(TOO, 2)],
         (5, _) if !MODES.contains(&call.mode) => vec![(TOO, 3)],
         (5, _) if !RULES.contains(&call.rule()) => vec![(TOO, 4)],
-        (6, _) if !named_by_it => vec![(TOO, 5)],
+        (6, _) if refusal.place != OF_THE_CHECK as u32 => vec![(TOO, 5)],
         (6, Some(later @ 7..)) => vec![(TOO, later - 1)],
         (6, None) => named(ALONE, by_itself(buddy)),
         _ => Vec::new(),

@@ -9,7 +9,9 @@ use crate::generate_query;
 use crate::generate_text;
 use crate::generate_window;
 use crate::harm;
-use crate::impossible::{late_rejection, moved_by_rule, moved_by_wind, wrong_weight};
+use crate::impossible::{
+    late_rejection, moved_by_check, moved_by_rule, moved_by_wind, wrong_weight,
+};
 use crate::patterned::{Patterned, BYTE_PATTERN, GRID_PATTERN};
 use crate::post_sorts;
 use crate::query_sorts;
@@ -94,6 +96,7 @@ pub fn wrong_by_itself(call: &Call, expected: &Result<Analysis, Refusal>) -> Opt
     late_rejection(call, &analysis.verdict)
         .or_else(|| moved_by_wind(call, analysis))
         .or_else(|| moved_by_rule(call, analysis))
+        .or_else(|| moved_by_check(call, analysis))
         .or_else(|| wrong_weight(call, &analysis.verdict))
 }
 
@@ -405,7 +408,9 @@ impl Case for TextCase {
 
     fn impossible(&self, expected: &Self::Expected) -> Option<String> {
         let (call, analysis) = expected.as_ref().ok()?;
-        late_rejection(call, &analysis.verdict).or_else(|| moved_by_rule(call, analysis))
+        late_rejection(call, &analysis.verdict)
+            .or_else(|| moved_by_rule(call, analysis))
+            .or_else(|| moved_by_check(call, analysis))
     }
 
     fn smaller(&self) -> Box<dyn Iterator<Item = Self> + '_> {

@@ -12,54 +12,55 @@ const LOW_RADII: [i32; 4] = [-1, -64, -512, i32::MIN];
 const FAR_LIMITS: [i32; 4] = [2_000_002, 16_777_216, (1 << 30) + 50, i32::MAX];
 const LOW_LIMITS: [i32; 4] = [-1, -2, -2_000_000, i32::MIN];
 
-/// How many ways to be bad a check has by itself, and in all.
+/// How many ways to be bad a check has by itself.
 const ALONE: u64 = 8;
-const WAYS: u64 = 18;
-/// Those that a text can say.
-const IN_TEXTS: u64 = 13;
+/// How many there are for 6, and how many of these a text can say.
+const WAYS: u64 = 15;
+const IN_TEXTS: u64 = 10;
 
-/// Breaks the check of a good call, so that it earns 6, in every other turn. Says whether
-/// it did.
+/// Breaks the check of a good call, so that it earns 6, in every other turn; and in some
+/// turns of 7 and 8 beside these. Says whether it did.
 pub fn break_by_buddy(rng: &mut Rng, call: &mut Call, number: u32, turn: u64) -> bool {
-    let broken = number == 6 && turn % 2 == 1;
-    if broken {
-        break_check(rng, call, turn / 2 % WAYS);
-    }
-    broken
+    break_in_turn(rng, call, number, turn, WAYS)
 }
 
 /// The same as far as a text can say it.
 pub fn break_in_text(rng: &mut Rng, call: &mut Call, number: u32, turn: u64) -> bool {
-    let broken = number == 6 && turn % 2 == 1;
-    if broken {
-        break_check(rng, call, turn / 2 % IN_TEXTS);
-    }
-    broken
+    break_in_turn(rng, call, number, turn, IN_TEXTS)
 }
 
-/// The check alone, or beside a fault that is tested before it or after it.
+fn break_in_turn(rng: &mut Rng, call: &mut Call, number: u32, turn: u64, ways: u64) -> bool {
+    match (number, turn % 2, turn % 4, turn % 6) {
+        (6, 1, ..) => break_check(rng, call, turn / 2 % ways),
+        (7, _, 1, _) => break_beside(rng, call, 7, turn % 8 == 1),
+        // The other turns are those of the winds.
+        (8, _, _, 0) => break_beside(rng, call, 8, turn.is_multiple_of(12)),
+        _ => return false,
+    }
+    true
+}
+
+/// The check alone, or beside a fault that is tested before it.
 fn break_check(rng: &mut Rng, call: &mut Call, way: u64) {
     let any = rng.below(ALONE as usize) as u64;
-    let bad = bad_check(rng, if way < ALONE { way } else { any });
-    call.buddy = Some(bad);
+    call.buddy = Some(bad_check(rng, if way < ALONE { way } else { any }));
     match way {
         8 => break_one(rng, call, 6),
         9 => break_last_scan(call),
-        10 => break_one(rng, call, 7),
-        11 => break_one(rng, call, 8),
-        12 => {
-            // It is off, so that the fault after it is found.
-            call.buddy = Some(Buddy { on: false, ..bad });
-            let number = rng.pick(&[7, 8]);
-            break_one(rng, call, number);
-        }
-        13 => call.rule = Some(rng.pick(&[RULES.start() - 1, RULES.end() + 1])),
-        14 => call.mode = 2,
-        15 => break_one(rng, call, 5),
-        16 => break_one(rng, call, 4),
-        17 => call.grid_len += 1,
+        10 => call.rule = Some(rng.pick(&[RULES.start() - 1, RULES.end() + 1])),
+        11 => call.mode = 2,
+        12 => break_one(rng, call, 5),
+        13 => break_one(rng, call, 4),
+        14 => call.grid_len += 1,
         _ => (),
     }
+}
+
+/// A fault that is tested after a bad check, which is on, or off so that it is found.
+fn break_beside(rng: &mut Rng, call: &mut Call, number: u32, on: bool) {
+    let way = rng.below(ALONE as usize) as u64;
+    call.buddy = Some(Buddy { on, ..bad_check(rng, way) });
+    break_one(rng, call, number);
 }
 
 /// A check that is on, with one of its numbers or both one past a bound, or far past it.
@@ -101,8 +102,9 @@ pub fn push_check(rng: &mut Rng, call: &mut Call) {
     }
 }
 
-/// How many ways to go wrong a check's line has.
-pub const LINE_WAYS: u64 = 28;
+/// How many ways to go wrong a check's line has by its value, and by its place.
+pub const BY_VALUE: u64 = 15;
+pub const BY_PLACE: u64 = 13;
 
 const KEYS: [&[u8]; 9] = [
     b"buddies=",
@@ -124,7 +126,6 @@ pub fn break_line(rng: &mut Rng, text: &mut Vec<u8>, way: u64) {
     let mut lines: Vec<Vec<u8>> = lines.filter(|line| !line.starts_with(b"buddy=")).collect();
     let is_row = |line: &Vec<u8>| line.starts_with(b"row=");
     let rows = lines.iter().position(is_row).unwrap_or(0);
-    let way = way % LINE_WAYS;
     let value = wrong_value(rng, way).unwrap_or_else(|| rng.pick(&GOOD));
     let line = [b"buddy=", value, b"\n"].concat();
     set_line(rng, &mut lines, rows, line, way);
@@ -136,14 +137,14 @@ const GOOD: [&[u8]; 5] = [b"1,0", b"64,50", b"100,300", b"512,2000000", b"128,0"
 /// What is wrong with the value, if anything is.
 fn wrong_value(rng: &mut Rng, way: u64) -> Option<&'static [u8]> {
     let values: &[&[u8]] = match way {
-        0 => &[b"64", b"0", b"512"],
+        0 => &[b"64", b"0", b"512", b""],
         1 => &[b"64,50,1", b"1,2,3", b"64,50,"],
-        2 => &[b"", b",", b"64,", b",50"],
+        2 => &[b",", b"64,", b",50"],
         3 => &[b"064,50", b"64,050", b"00,0", b"1,00"],
         4 => &[b"-0,50", b"64,-0"],
         5 => &[b"+64,50", b"64,+50"],
-        6 => &[b"M,50", b"64,open", b"64,x", b"0x40,50", b"64,1e3", b"6.4,50", b"64;50"],
-        7 => &[b" 64,50", b"64, 50", b"64 ,50", b"64,50 ", b"64\t,50", b"64,50\r", b"64,\x0050"],
+        6 => &[b"M,50", b"64,open", b"64,x", b"0x40,50", b"64,1e3", b"64\t,50", b"64,50\r"],
+        7 => &[b" 64,50", b"64, 50", b"64 ,50", b"64,50 "],
         8 => &[b"2147483648,50", b"64,2147483648", b"9999999999,50", b"64,99999999999999999999"],
         9 => &[b"-2147483649,50", b"64,-2147483649"],
         // In 32 bits, or in 64, these are 64 or 50.
@@ -165,7 +166,7 @@ fn set_line(rng: &mut Rng, lines: &mut Vec<Vec<u8>>, rows: usize, line: Vec<u8>,
         15 => lines.insert(rows, [rng.pick(&KEYS), &line[6..]].concat()),
         16 => lines.insert(scans, line),
         17 => lines.insert(first, line),
-        18 => lines.insert((first + 1 + rng.below(2)).min(rows), line),
+        18 => lines.insert(first + 1 + rng.below((rows - first - 1).max(1)), line),
         19 => lines.insert(rows + 1 + rng.below(stations - rows), line),
         20 => lines.insert(stations, line),
         21 => lines.insert(rng.pick(&[stations + 1, lines.len()]), line),

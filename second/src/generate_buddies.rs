@@ -53,10 +53,10 @@ pub fn befriend(rng: &Rng, call: &mut Call, part: &Window) {
     if call.check().is_none() || call.nx < 2 || call.ny < 2 {
         return;
     }
-    match rng.below(14) {
-        0..=7 => gather(rng, call, part),
-        8..=10 => forsake_in_turn(rng, call, part),
-        11 | 12 => tune(rng, call),
+    match rng.below(17) {
+        0..=8 => gather(rng, call, part),
+        9..=12 => forsake_in_turn(rng, call, part),
+        13..=15 => tune(rng, call),
         _ => (),
     }
 }

@@ -17,7 +17,7 @@ enum Company {
     OddOne,
     TwoOdd,
     OddThird,
-    /// One between two others that are not near each other.
+    /// One between two others that are not near each other, and just near it or just not.
     Chain,
     /// One with a neighbour alone, however much they differ.
     Pair,
@@ -39,7 +39,7 @@ enum Company {
 
 use Company::*;
 
-const ALL: [Company; 32] = [
+const ALL: [Company; 45] = [
     OddOne,
     OddOne,
     TwoOdd,
@@ -47,15 +47,28 @@ const ALL: [Company; 32] = [
     OddThird,
     Chain,
     Pair,
+    Exact,
+    Exact,
+    Exact,
+    Exact,
+    Exact,
+    Exact,
+    Exact,
+    Exact,
+    Exact,
     SamePlace,
-    Exact,
-    Exact,
-    Exact,
-    Exact,
     SamePlace,
     Rim,
     Rim,
     Rim,
+    Rim,
+    Rim,
+    Rim,
+    Rim,
+    Rim,
+    Rim,
+    Rejected,
+    Rejected,
     Rejected,
     Rejected,
     Dead(1),
@@ -161,6 +174,10 @@ fn gather_on_grid(rng: &mut Rng, call: &mut Call, part: &Window, company: Compan
     };
     drop_inside(call, at, 2 * radius_of(call));
     set_limit(call, limit.into());
+    if company == Rejected {
+        // It is none in a later scan either.
+        lengthen(call, 2);
+    }
     if company == SamePlace && rng.one_in(2) {
         // There is nobody else.
         set_rows(call, 0);
@@ -208,7 +225,8 @@ fn odd_third(rng: &mut Rng, at: (i32, i32), radius: i32, limit: i32) -> Vec<Memb
 }
 
 fn chain(rng: &mut Rng, (x, y): (i32, i32), radius: i32, limit: i32) -> Vec<Member> {
-    let step = rng.between((radius + 1) / 2, radius - 1);
+    let near = rng.between((radius + 1) / 2, radius - 1);
+    let step = rng.pick(&[near, near, radius]);
     let (dx, dy) = rng.pick(&[(step, 0), (0, step), (-step, 0), (0, -step)]);
     let far = rng.pick(&[limit, limit + 1, 3 * limit + 1]);
     vec![((x - dx, y - dy), 0), ((x, y), far), ((x + dx, y + dy), 0)]
@@ -245,7 +263,7 @@ fn at_the_rim(rng: &mut Rng, (x, y): (i32, i32), radius: i32, limit: i32) -> Vec
     let b2 = i64::from(radius).pow(2);
     let inside = offset(rng, (b2 - 1, b2 - 1)).unwrap_or((0, radius - 1));
     let on = offset(rng, (b2, b2)).unwrap_or((0, radius));
-    let (dx, dy) = rng.pick(&[inside, on, on, (0, radius), (0, radius - 1)]);
+    let (dx, dy) = rng.pick(&[inside, on, on, on, (0, radius), (0, radius - 1)]);
     let rim = rng.pick(&[(x + dx, y + dy), (x - dx, y + dy), (x - dy, y - dx), (x + dy, y - dx)]);
     let far = rng.between(limit + 1, 3 * limit + 9);
     let near = close(rng, (x, y), radius / 4);

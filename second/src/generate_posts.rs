@@ -56,7 +56,8 @@ pub fn add_beyond_a_corner(rng: &Rng, call: &mut Call) {
         rng.pick(&[-out, last + out])
     };
     let (x, y) = (past(call.nx), past(call.ny));
-    push_station(call, x, y, guess_at(call, x, y));
+    let value = guess_at(call, x, y) + rng.between(-30, 30);
+    push_station(call, x, y, value.clamp(*VALUE.start(), *VALUE.end()));
 }
 
 /// Moves some stations beyond the sides that the cut of a window shares with

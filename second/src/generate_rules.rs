@@ -65,12 +65,15 @@ enum Beside {
     RejectedBefore,
 }
 
-const ALL: [Beside; 40] = [
+const ALL: [Beside; 46] = [
     Beside::Nothing,
     Beside::AtThePoint,
     Beside::LonePost,
     Beside::Huge,
     Beside::Huge,
+    Beside::Tie,
+    Beside::Tie,
+    Beside::Tie,
     Beside::Tie,
     Beside::Tie,
     Beside::Tie,
@@ -95,6 +98,9 @@ const ALL: [Beside; 40] = [
     Beside::Dead(2),
     Beside::Dead(3),
     Beside::Dead(4),
+    Beside::Dead(5),
+    Beside::Dead(5),
+    Beside::Dead(5),
     Beside::Dead(5),
     Beside::Dead(5),
     Beside::Dead(5),

@@ -3,7 +3,7 @@
 
 use crate::call::{Buddy, Call};
 use crate::damage::break_one;
-use crate::damage_buddies::{self, break_in_text};
+use crate::damage_buddies::{self, break_in_text, BY_PLACE, BY_VALUE};
 use crate::damage_rules::break_line;
 use crate::damage_text::break_text;
 use crate::generate::{
@@ -21,12 +21,15 @@ const LIMIT_EVERY: u64 = 97;
 const LONG_EVERY: u64 = 23;
 /// The refusals that the damaged turns aim at. In the first of them texts are
 /// harmed in turn, whatever else the index would ask for, and in the last the line of
-/// the rule; in the last but one, the line of the check, and every so often texts are
-/// harmed at random.
+/// the rule; in the last but one mostly the line of the check by its value, and every so
+/// often texts are harmed at random; in a third of the two before that it is the line of
+/// the check by its place.
 const DAMAGES: [u32; 11] = [9, 9, 9, 9, 9, 6, 7, 8, 10, 9, 9];
 const HARMS: u64 = 5;
-const CHECK_HARMS: u64 = 9;
+const PLACE_HARMS: [u64; 2] = [7, 8];
+const VALUE_HARMS: u64 = 9;
 const RULE_HARMS: u64 = 10;
+const PLACES_EVERY: u64 = 3;
 const RANDOM_EVERY: u64 = 4;
 
 /// A request text, and the harm that was done to it in turn.
@@ -45,10 +48,9 @@ pub fn text(seed: u64, index: u64) -> (Vec<u8>, Option<Sort>) {
             break_line(rng, &mut text, index / TURNS);
             (text, None)
         }
-        _ if turn == CHECK_HARMS && index / TURNS % RANDOM_EVERY > 0 => {
+        _ if check_harm(turn, index / TURNS).is_some() => {
             let mut text = written(rng, small_call);
-            // The turns before it that were not random.
-            let way = index / TURNS - index / TURNS / RANDOM_EVERY - 1;
+            let way = check_harm(turn, index / TURNS).unwrap_or(0);
             damage_buddies::break_line(rng, &mut text, way);
             (text, None)
         }
@@ -58,6 +60,21 @@ pub fn text(seed: u64, index: u64) -> (Vec<u8>, Option<Sort>) {
         }
         _ if index % LONG_EVERY == 7 => (long_text(rng, index / LONG_EVERY), None),
         other => (unharmed(rng, other, index / TURNS), None),
+    }
+}
+
+/// The way to harm the line of the check, where it is its turn in a round of turns.
+fn check_harm(turn: u64, round: u64) -> Option<u64> {
+    let [one, another] = PLACE_HARMS;
+    let place = |at: u64| Some(BY_VALUE + (2 * (round / PLACES_EVERY) + at) % BY_PLACE);
+    match round % PLACES_EVERY {
+        1 if turn == one => place(0),
+        2 if turn == another => place(1),
+        _ if turn == VALUE_HARMS && !round.is_multiple_of(RANDOM_EVERY) => {
+            // The rounds before it that were not random.
+            Some((round - round / RANDOM_EVERY - 1) % BY_VALUE)
+        }
+        _ => None,
     }
 }
 

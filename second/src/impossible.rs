@@ -79,3 +79,26 @@ pub fn moved_by_rule(call: &Call, analysis: &Analysis) -> Option<String> {
     let unlike = first(analysis) != first(&other);
     unlike.then(|| "in the first scan rule 1 has other supports or verdicts".to_string())
 }
+
+/// Nobody is set aside where there is no check; and one that is off is as good as none,
+/// whatever its numbers. The E test comes first, so that in the first scan the limit
+/// rejects the same stations as without the check. A request with very many stations and
+/// points is not run once more.
+pub fn moved_by_check(call: &Call, analysis: &Analysis) -> Option<String> {
+    let aside = analysis.verdict.iter().any(|verdict| *verdict > SET_ASIDE);
+    if call.check().is_none() && aside {
+        return Some("a station is set aside without a check".to_string());
+    }
+    if call.buddy.is_none() || !is_small(call) {
+        return None;
+    }
+    let bare = run(&Call { buddy: None, ..call.clone() });
+    let rejected = |of: &Analysis| {
+        let rows = of.verdict.iter().map(|verdict| *verdict == REJECTED + 1);
+        rows.collect::<Vec<bool>>()
+    };
+    let (off, unlike) = (call.check().is_none(), rejected(&bare) != rejected(analysis));
+    let off = (off && bare != *analysis).then_some("a check that is off changes the answer");
+    let told = off.or(unlike.then_some("the check changes whom the first limit rejects"));
+    told.map(str::to_string)
+}

@@ -1,6 +1,7 @@
 //! The survey: all kinds of cases over one seed and count, tallies shown and
 //! floors held.
 
+use crate::buddy_sorts;
 use crate::cases::{AnalysisCase, ReadingCase, SummaryCase, TextCase, WindowCase};
 use crate::compare::{run, run_over, run_two_at_a_time, Case, Run, Shared, Subject};
 use crate::field_case::FieldCase;
@@ -98,7 +99,8 @@ pub fn compare_real(subject: &dyn Subject, data: &str, out: &mut dyn Write) -> R
     let cases = real_cases(data, out)?;
     let all_but = |refused: usize, cases: usize| {
         let outcomes = vec![fixed("accepted", 0, cases - refused), fixed("refusal", 4, refused)];
-        [outcomes, real_floors(), wind_sorts::real_floors(), rule_sorts::real_floors()].concat()
+        let rules = [rule_sorts::real_floors(), buddy_sorts::real_floors()].concat();
+        [outcomes, real_floors(), wind_sorts::real_floors(), rules].concat()
     };
     let floors = all_but(1, cases.analyses.len());
     real_kind("real analysis", subject, cases.analyses, &floors, out)?;
@@ -121,7 +123,8 @@ pub fn compare_real_texts(
     let texts = real_cases(data, out)?.texts;
     let refused = fixed("refusal with a place", 9, 1);
     let outcomes = vec![fixed("accepted", 0, texts.len() - 1), refused];
-    let floors = [outcomes, real_floors(), rule_sorts::real_text_floors()].concat();
+    let rules = [rule_sorts::real_text_floors(), buddy_sorts::real_text_floors()].concat();
+    let floors = [outcomes, real_floors(), rules].concat();
     real_kind("real text", program, texts, &floors, out)
 }
 

@@ -2,8 +2,9 @@
 
 use crate::{changed, lone_station, ANSWER, REQUEST};
 use second::buddy::Neighbours;
-use second::call::{Buddy, Call, Window};
+use second::call::{Analysis, Buddy, Call, Window};
 use second::generate::push_station;
+use second::impossible::moved_by_check;
 use second::scan::Accepted;
 use second::scheme::{analyse, run};
 use second::text::{answer, parse};
@@ -14,7 +15,7 @@ use second::write::{request_text, rerun_form, Style};
 
 /// A grid of 9 by 8 at 0 with stations at places along the bottom line, whose values are
 /// what they differ by in the first scan, under a check.
-fn along_a_line(check: (i32, i32), stations: &[(i32, i32)]) -> Call {
+pub fn along_a_line(check: (i32, i32), stations: &[(i32, i32)]) -> Call {
     let mut call = lone_station(9, 8, 0, 0, 0, 0);
     (call.radius, call.limit) = (vec![30], vec![1_000]);
     call.buddy = Some(Buddy::on(check.0, check.1));
@@ -375,4 +376,25 @@ fn calls_are_written_out_with_their_check() {
     assert!(rerun_form(&call).contains("\nbuddy=0,-1\nrow="), "6 can be said in a text");
     (call.buddy, call.mode) = (None, 1);
     assert!(!rerun_form(&call).contains("buddy"), "left out");
+}
+
+#[test]
+fn what_no_check_may_do_is_told() {
+    let call = along_a_line((50, 400), &[(100, 500), (110, 10), (120, 20), (130, 30)]);
+    let analysis = run(&call);
+    assert_eq!(moved_by_check(&call, &analysis), None);
+    let said = |call: &Call, analysis: &Analysis| moved_by_check(call, analysis);
+    let off = Call { buddy: Some(Buddy { on: false, ..Buddy::on(50, 400) }), ..call.clone() };
+    assert_eq!(said(&off, &run(&off)), None);
+    let aside = "a station is set aside without a check";
+    assert_eq!(said(&off, &analysis).as_deref(), Some(aside));
+    let none = Call { buddy: None, ..call.clone() };
+    assert_eq!(said(&none, &analysis).as_deref(), Some(aside));
+    let mut wrong = run(&off);
+    wrong.grid[0] += 1;
+    assert_eq!(said(&off, &wrong).as_deref(), Some("a check that is off changes the answer"));
+    let mut wrong = analysis;
+    wrong.verdict[3] = 11;
+    let unlike = "the check changes whom the first limit rejects";
+    assert_eq!(said(&call, &wrong).as_deref(), Some(unlike));
 }

@@ -1,5 +1,7 @@
 //! Subjects with one planted fault each, to show that the harness sees it.
 
+use crate::faulty_buddies::{self, BuddyFault};
+use crate::faulty_lines::{self, LineFault};
 use crate::faulty_rules::{self, RuleFault};
 use crate::faulty_weights::{self, WeightFault};
 use crate::faulty_winds::{self, WindFault};
@@ -41,6 +43,8 @@ pub enum Fault {
     Weights(WeightFault),
     Winds(WindFault),
     Rules(RuleFault),
+    Buddies(BuddyFault),
+    Lines(LineFault),
     Smooths(Slip),
     IdleCornersCount,
     NegativeZero,
@@ -69,6 +73,8 @@ impl Faulty {
             Fault::Rules(fault) => {
                 faulty_rules::check(call, fault, test).map(|()| faulty_rules::tamed(call, fault))
             }
+            Fault::Buddies(fault) => faulty_buddies::check(call, fault, test)
+                .map(|()| faulty_buddies::tamed(call, fault)),
             _ => test(call).map(|()| call.clone()),
         }
     }
@@ -164,6 +170,17 @@ impl Subject for Faulty {
         if let Fault::Rules(fault) = self.0 {
             return Ok(faulty_rules::text(request, fault));
         }
+        if let Fault::Lines(fault) = self.0 {
+            return Ok(faulty_lines::text(request, fault));
+        }
+        if let Fault::Buddies(fault) = self.0 {
+            let passed = text::parse(request).and_then(|call| self.passed(&call, &check_analysis));
+            let answer = passed.map(|call| {
+                let analysis = faulty_buddies::run(&call, fault);
+                (call, analysis)
+            });
+            return Ok(text::print(&answer));
+        }
         let answer = text::decide(request).map(|(call, _)| {
             let analysis = faulty_run(&call, self.0);
             (call, analysis)
@@ -215,6 +232,10 @@ fn faulty_window(call: &Call, ends: &Window, fault: Fault) -> WindowAnswer {
         Fault::Rules(RuleFault::CutUnderTheDefault) => {
             let cut = Call { rule: None, ..cut(call, &part) };
             picked_from(&cut, ends, &part)
+        }
+        Fault::Buddies(fault) => {
+            let by_cut = faulty_buddies::window(call, ends, fault);
+            by_cut.unwrap_or_else(|| pick(shape, &faulty_buddies::run(call, fault), ends))
         }
         Fault::PostsLeaveTheCut => from_part(&moved_away(call, is_post), ends, &part),
         Fault::CornerPostsLeaveTheCut => {
@@ -310,6 +331,9 @@ pub fn faulty_run(call: &Call, fault: Fault) -> Analysis {
     }
     if let Fault::Rules(fault) = fault {
         return faulty_rules::run(call, fault);
+    }
+    if let Fault::Buddies(fault) = fault {
+        return faulty_buddies::run(call, fault);
     }
     let mut call = call.clone();
     if fault == Fault::Missing32767 {

@@ -2,9 +2,13 @@
 
 mod bridge;
 mod buddies;
+mod buddy_faults;
+mod buddy_sorts;
 mod command;
 mod faulty;
+mod faulty_buddies;
 mod faulty_fields;
+mod faulty_lines;
 mod faulty_rules;
 mod faulty_screens;
 mod faulty_weights;

@@ -245,8 +245,8 @@ fn a_late_rejection_needs_a_limit_that_falls() {
 }
 
 /// Cases of which the second program has a wrong notion, and the subject the
-/// same: the two never differ. They have no winds, of which there is another thing
-/// that no answer may hold.
+/// same: the two never differ. They have no winds and no check, of which there are other
+/// things that no answer may hold.
 #[derive(Clone)]
 struct WrongOnBothSides(AnalysisCase);
 
@@ -256,7 +256,7 @@ impl Case for WrongOnBothSides {
 
     fn generate(seed: u64, index: u64) -> Self {
         let call = AnalysisCase::generate(seed, index).0;
-        WrongOnBothSides(AnalysisCase(Call { winds: None, ..call }))
+        WrongOnBothSides(AnalysisCase(Call { winds: None, buddy: None, ..call }))
     }
 
     fn expected(&self) -> Self::Expected {

@@ -94,7 +94,8 @@ fn harmed() -> Vec<(&'static str, u32, u32)> {
     let mut rng = Rng::for_case(1, 2, 3);
     let turns = floors().len() as u64;
     let harmed = (0..turns).map(|turn| {
-        let mut text = REQUEST.replacen("scans=", "rule=2\nscans=", 1).into_bytes();
+        let text = REQUEST.replacen("scans=", "rule=2\nscans=", 1);
+        let mut text = text.replacen("row=", "buddy=100,300\nrow=", 1).into_bytes();
         let (name, number) = harm(&mut rng, &mut text, turn);
         (name, number, decide(&text).err().map_or(0, |refusal| refusal.number))
     });
@@ -123,11 +124,11 @@ fn harms_do_what_they_say() {
         "number one outside its type",
         "number that wraps to what it was",
     ] {
-        assert_eq!(outcomes(not_in_form), [9; 17], "{not_in_form}");
+        assert_eq!(outcomes(not_in_form), [9; 19], "{not_in_form}");
     }
-    // nx, ny, time, age, smooth, rule, scans, R, E, row, stations, x, y, value, and
+    // nx, ny, time, age, smooth, rule, scans, R, E, B, L, row, stations, x, y, value, and
     // three minutes.
-    let outside = [9, 9, 9, 9, 9, 9, 9, 6, 6, 7, 9, 8, 8, 8, 9, 9, 9];
+    let outside = [9, 9, 9, 9, 9, 9, 9, 6, 6, 6, 6, 7, 9, 8, 8, 8, 9, 9, 9];
     assert_eq!(outcomes("number one below its range"), outside);
     assert_eq!(outcomes("number one above its range"), outside);
     for not_in_form in
@@ -136,9 +137,9 @@ fn harms_do_what_they_say() {
         let outcomes = outcomes(not_in_form);
         assert!(!outcomes.is_empty() && outcomes.iter().all(|n| *n == 9), "{not_in_form}");
     }
-    assert_eq!(outcomes("line doubled"), [9; 10]);
-    let dropped = [9, 9, 0, 9, 0, 9, 9, 9, 9, 9];
-    assert_eq!(outcomes("line dropped"), dropped, "age and rule may be left out");
+    assert_eq!(outcomes("line doubled"), [9; 11]);
+    let dropped = [9, 9, 0, 9, 0, 9, 9, 0, 9, 9, 9];
+    assert_eq!(outcomes("line dropped"), dropped, "age, rule and buddy may be left out");
     assert_eq!(outcomes("text with"), [9; 13]);
 }
 

@@ -2,6 +2,7 @@
 //! faults that these must show.
 
 use crate::faulty::{Fault, Faulty};
+use crate::faulty_buddies::BuddyFault;
 use crate::faulty_rules::RuleFault;
 use crate::faulty_screens::{FaultyScreen, OF_ANSWERS};
 use crate::faulty_weights::WeightFault;
@@ -161,6 +162,17 @@ fn faults_are_seen_in_the_real_stations() {
         Fault::Rules(RuleFault::Always),
         Fault::Rules(RuleFault::ScaleForTwo),
         Fault::Rules(RuleFault::RejectedCounted),
+        Fault::Buddies(BuddyFault::Ignored),
+        Fault::Buddies(BuddyFault::OneIsEnough),
+        Fault::Buddies(BuddyFault::ThreeAreNeeded),
+        Fault::Buddies(BuddyFault::ItselfANeighbour),
+        Fault::Buddies(BuddyFault::LimitOnce),
+        Fault::Buddies(BuddyFault::ByNearestPlaces),
+        Fault::Buddies(BuddyFault::RejectedBefore),
+        Fault::Buddies(BuddyFault::SetAsideBefore),
+        Fault::Buddies(BuddyFault::InTurn),
+        Fault::Buddies(BuddyFault::ForThisScanAlone),
+        Fault::Buddies(BuddyFault::StillWeighs),
     ] {
         let seen = cases.analyses.iter().any(|case| case.differs(&Faulty(fault)).is_some());
         assert!(seen, "{fault:?} was not seen");

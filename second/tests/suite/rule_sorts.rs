@@ -234,7 +234,7 @@ fn bad_lines_are_told_apart() {
 
 #[test]
 fn every_sort_of_a_rule_has_a_floor() {
-    let common = 4 + 4 + 8 + 3 + 1 + 11 + 2 + 2 + 4 + 2 + 6;
+    let common = 4 + 4 + 8 + 3 + 1 + 13 + 2 + 2 + 4 + 2 + 6;
     let (of_modes, refused) = (6 + 2, 5 + 7);
     assert_eq!(held(floors()), common + of_modes + refused);
     assert_eq!(held(window_floors()), common + of_modes + refused + 2 + 3);
