@@ -256,11 +256,10 @@ extern "C" {
 ** fewer than two neighbours never is: of two that disagree nobody can say which
 ** one is wrong.
 **
-** All are judged at once, before any is set aside, so that the order of the rows
-** does not matter. Who is set aside has no weight in this scan or a later one,
-** gives no support, does not count where LONE STATIONS asks who is inside, and is
-** nobody's neighbour in a later scan. It comes back no more, whatever the field
-** is then.
+** All are judged at once, before any is set aside, so that it does not matter in
+** what order. Who is set aside has no weight in this scan or a later one, gives no
+** support, does not count where LONE STATIONS asks who is inside, and is nobody's
+** neighbour in a later scan. It comes back no more, whatever the field is then.
 **
 ** A station that is far off moves the mean that its neighbours are held to. Of
 ** three near each other, two of which agree, the third is set aside if it differs
