@@ -248,7 +248,7 @@ impl Case for WindowCase {
     }
 
     fn floors() -> Vec<Floor> {
-        let scheme = scheme_floors(10_000, 285, &[1, 2, 3, 4, 5, 6, 7, 8]);
+        let scheme = scheme_floors(10_000, 300, &[1, 2, 3, 4, 5, 6, 7, 8]);
         let empty = vec![Floor::times("empty slice", 2, 50)];
         let posts = [post_sorts::call_floors(), post_sorts::window_floors(50)].concat();
         let others = [weight_sorts::window_floors(), smoothing_sorts::window_floors(8)].concat();

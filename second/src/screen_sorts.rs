@@ -65,7 +65,7 @@ pub fn floors() -> Vec<Floor> {
         numbered(PLACE, 3..=14, 15),
         numbered(PLACE, 15..=15, 60),
         numbered(PLACE, 16..=16, 600),
-        numbered(REST, 4..=8, 85),
+        numbered(REST, 4..=8, 100),
         numbered(NONE, 1..=1, 60),
         numbered(NONE, 3..=8, 50),
         sorts::accepted_floors(100),

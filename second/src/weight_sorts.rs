@@ -42,7 +42,7 @@ pub fn floors() -> Vec<Floor> {
 /// The same in a full run of windows or screens, with what only these have. In
 /// few of them does a verdict hang on the last digits of a weight.
 pub fn window_floors() -> Vec<Floor> {
-    [floors_with(30), floors_of(&[(GAINED_INSIDE, 2, 300)])].concat()
+    [floors_with(35), floors_of(&[(GAINED_INSIDE, 2, 300)])].concat()
 }
 
 fn floors_with(other_verdicts: u64) -> Vec<Floor> {

@@ -84,7 +84,7 @@ pub fn floors() -> Vec<Floor> {
         (ORDER, &[24; 3]),
     ];
     let in_order = |(name, least): (&'static str, &[u64])| floors_in_order(name, least);
-    let to_come = (1..).zip([7, 20, 14, 7, 28]);
+    let to_come = (1..).zip([12, 22, 20, 7, 28]);
     let to_come = to_come.map(|(verdict, least)| Floor::times(TO_COME, verdict, least));
     accepted.into_iter().chain(refused).flat_map(in_order).chain(to_come).collect()
 }
