@@ -3,9 +3,10 @@
 
 use crate::call::Call;
 use crate::damage::{break_one, set_rows};
+use crate::generate_rules::bury_row;
 use crate::rng::Rng;
 use crate::units::{BORDER, MISSING, MOST_STATIONS, WIND};
-use crate::verdicts::{before_first_scan, ACCEPTED};
+use crate::verdicts::{before_first_scan, ACCEPTED, OFF_GRID};
 
 /// Breaks the winds or the mode of a good call, so that it earns a refusal that
 /// these can earn: 4 and 5 in every other turn, and 8, which has the most ways, in
@@ -100,16 +101,32 @@ fn break_rows(rng: &mut Rng, call: &mut Call, way: u64) {
     }
 }
 
-/// Any row, or in half of the calls any that takes no part, if there is one.
-fn row_to_break(rng: &mut Rng, call: &Call) -> usize {
+/// Any row, or in half of the calls any that takes no part, if there is one. In some
+/// it is one that takes no part from now on.
+fn row_to_break(rng: &mut Rng, call: &mut Call) -> usize {
     let verdict = before_first_scan(call, BORDER);
     let idle: Vec<usize> = (0..verdict.len()).filter(|row| verdict[*row] != ACCEPTED).collect();
     let any = rng.below(call.x.len());
-    if idle.is_empty() || rng.one_in(2) {
+    let beside = &mut rng.beside();
+    if beside.below(5) < 2 && verdict[any] == ACCEPTED {
+        take_out(call, any, beside.pick(&TO_COME));
+        any
+    } else if idle.is_empty() || rng.one_in(2) {
         any
     } else {
         rng.pick(&idle)
     }
+}
+
+/// The verdicts that a row may have before the first scan. Minutes give 2 and 3 seldom.
+const TO_COME: [u8; 8] = [1, 2, 2, 3, 3, 3, 4, OFF_GRID];
+
+/// Gives a row one of them, as far as the minutes have room for it.
+fn take_out(call: &mut Call, row: usize, verdict: u8) {
+    if verdict == OFF_GRID {
+        call.x[row] = -(BORDER as i32) - 1;
+    }
+    bury_row(call, row, verdict);
 }
 
 /// A wind with the mark in one of its numbers alone, one past a bound, or far

@@ -16,8 +16,9 @@ use crate::generate_rules::{add_round_a_point, any_rule, thin_out};
 use crate::generate_winds::blow;
 use crate::rng::Rng;
 use crate::scan::{difference, rounded_at};
-use crate::scheme::run;
-use crate::units::{DEFAULT_AGE, MISSING, NO_END, VALUE};
+use crate::scheme::{run, run_in};
+use crate::units::{DEFAULT_AGE, HUNDREDTHS, LIMIT, MISSING, NO_END, VALUE};
+use crate::weight_sorts::is_small;
 
 /// Every so many indices a request is big: both sides 48 or more and at least
 /// 300 stations. A little more than the floor asks for, since they are slow.
@@ -25,6 +26,7 @@ pub const BIG_EVERY: u64 = 55;
 /// The flavours come round in turns of this length.
 pub const TURNS: u64 = 24;
 const BOUNDARY_TURNS: u64 = 5;
+const DIGITS_EVERY: usize = 40;
 
 pub enum Flavour {
     Big,
@@ -35,7 +37,12 @@ pub enum Flavour {
 }
 
 pub fn flavour(index: u64, damages: &[u32]) -> Flavour {
-    if index.is_multiple_of(BIG_EVERY) {
+    flavour_of(index, damages, BIG_EVERY)
+}
+
+/// The same where big requests come another number of indices apart.
+pub fn flavour_of(index: u64, damages: &[u32], big_every: u64) -> Flavour {
+    if index.is_multiple_of(big_every) {
         return Flavour::Big;
     }
     let turn = index % TURNS;
@@ -314,6 +321,27 @@ pub fn tune_limits(rng: &mut Rng, call: &mut Call) {
             let size = difference(call, &before.grid, row).abs() as i32;
             call.limit[scan as usize] = (size - rng.pick(&[0, 1])).clamp(0, 2_000_000);
         }
+    }
+}
+
+/// Sets a limit of a few small requests so that a station stays or goes by the last digits
+/// of the weights before it. Few do by chance where windows are asked for.
+pub fn tune_by_digits(rng: &Rng, call: &mut Call) {
+    // The sources before it are those of the rims, the points, the corners, the checks
+    // and the links.
+    let rng = &mut rng.beside().beside().beside().beside().beside().beside();
+    if !rng.one_in(DIGITS_EVERY) || call.scans < 2 || !is_small(call) {
+        return;
+    }
+    let scan = 1 + rng.up_to(call.scans - 2);
+    let before = Call { scans: scan, ..call.clone() };
+    let (new, old) = (run(&before), run_in(&before, HUNDREDTHS));
+    let sizes = (0..call.x.len()).filter(|row| new.verdict[*row] == 0 && old.verdict[*row] == 0);
+    let sizes = sizes.map(|row| [&new, &old].map(|of| difference(call, &of.grid, row).abs()));
+    let unlike: Vec<i64> =
+        sizes.filter(|[new, old]| new != old).map(|[new, old]| new.min(old)).collect();
+    if !unlike.is_empty() {
+        call.limit[scan as usize] = rng.pick(&unlike).min((*LIMIT.end()).into()) as i32;
     }
 }
 

@@ -10,7 +10,7 @@ use crate::rng::Rng;
 use crate::scan::{difference, weight};
 use crate::scheme::run;
 use crate::units::{
-    BORDER, EQUATIONS, HUNDREDTHS, LIMIT, LISTINGS, MISSING, MOST_STATIONS, RADIUS, VALUE,
+    BORDER, EQUATIONS, HUNDREDTHS, LIMIT, LISTINGS, MISSING, MOST_STATIONS, NO_END, RADIUS, VALUE,
     WEIGHT_SCALE,
 };
 use crate::weight_sorts::is_small;
@@ -122,10 +122,12 @@ const FOR_A_TIE: i32 = WEIGHT_SCALE as i32;
 const WITH_SILENT: [i32; 6] = [71, 75, 90, 99, 100, 128];
 /// The scans from the third on, counted from 0.
 const LATE: [usize; 4] = [2, 3, 4, 5];
+/// So many rows make a request a big one.
+const MANY: usize = 300;
 /// Past the border of posts, and inside this radius.
 const FAR: i32 = 320;
 
-/// Gives two thirds of the requests under rule 2 a point of a part of the grid that hears
+/// Gives most of the requests under rule 2 a point of a part of the grid that hears
 /// one accepted station alone in a scan, and something beside it that counts, or
 /// does not. Whatever else is drawn for the request stays, but for stations that
 /// would be heard there too.
@@ -137,11 +139,20 @@ pub fn add_round_a_point(rng: &Rng, call: &mut Call, part: &Window) {
     if call.rule() != LISTINGS || !is_grid || room < 4 {
         return;
     }
-    if rng.one_in(3) {
-        add_rejected_late(rng, call, part);
+    let beside = if !rng.one_in(3) {
+        rng.pick(&ALL)
+    } else if is_small(call) && rng.one_in(3) {
+        return add_rejected_late(rng, call, part);
+    } else if rng.one_in(6) {
+        // Few have more than one without a weight by chance.
+        Beside::Silent(2)
+    } else {
+        return;
+    };
+    if matches!(beside, Beside::Dead(5)) && call.x.len() >= MANY {
+        // It asks for few others, and such requests are to stay big.
         return;
     }
-    let beside = rng.pick(&ALL);
     if matches!(beside, Beside::RejectedBefore) && rng.one_in(2) {
         lengthen(call, rng.pick(&[5, 6, 6]));
     }
@@ -192,12 +203,9 @@ pub fn add_round_a_point(rng: &Rng, call: &mut Call, part: &Window) {
     put_beside(rng, call, point, radius, scan, beside);
 }
 
-/// Gives a third of the small requests that are left two stations inside at a point, of
-/// which a scan from the third on rejects one. Few do by chance.
+/// Gives a request two stations inside at a point, of which a scan from the third on
+/// rejects one. Few do by chance.
 fn add_rejected_late(rng: &mut Rng, call: &mut Call, part: &Window) {
-    if !is_small(call) || !rng.one_in(3) {
-        return;
-    }
     let scan = rng.pick(&LATE);
     lengthen(call, scan + 1);
     let radius = call.radius[scan];
@@ -445,15 +453,20 @@ fn put_beside(
 /// Makes the last row one with the verdict, or one whose observation is missing where
 /// the minutes have no room for that.
 pub fn bury(call: &mut Call, verdict: u8) {
-    let (time, age, last) = (call.time, call.age, call.x.len() - 1);
+    bury_row(call, call.x.len() - 1, verdict);
+}
+
+/// The same of any row. Those past the border have been put there.
+pub fn bury_row(call: &mut Call, row: usize, verdict: u8) {
+    let (time, age) = (call.time, call.age);
     let oldest = time.checked_sub(age).and_then(|oldest| oldest.checked_sub(1));
     match verdict {
-        2 if time > 0 => call.until[last] = time,
-        2 => call.from[last] = 1,
-        3 if time < u32::MAX => call.observed[last] = time + 1,
-        4 if oldest.is_some() => call.observed[last] = oldest.unwrap_or(0),
+        2 if time > 0 => (call.from[row], call.until[row]) = (0, time),
+        2 => (call.from[row], call.until[row]) = (1, NO_END),
+        3 if time < u32::MAX => call.observed[row] = time + 1,
+        4 if oldest.is_some() => call.observed[row] = oldest.unwrap_or(0),
         5 => (),
-        _ => call.value[last] = MISSING,
+        _ => call.value[row] = MISSING,
     }
 }
 

@@ -5,8 +5,8 @@ use crate::call::{Call, Screen, Window};
 use crate::damage;
 use crate::damage_screen::{self, COLUMNS};
 use crate::generate::{
-    big_call, edge_call, flavour, order_limits, small_call, tune_limits, untuned_call, whole_grid,
-    Flavour, BIG_EVERY, TURNS,
+    big_call, edge_call, flavour, order_limits, small_call, tune_by_digits, tune_limits,
+    untuned_call, whole_grid, Flavour, BIG_EVERY, TURNS,
 };
 use crate::generate_links::{befriend_or_link, will_link};
 use crate::generate_posts::{add_beyond_a_corner, move_beyond_the_cut};
@@ -103,6 +103,7 @@ fn with_screen(rng: &mut Rng, make: Make, lay: Lay) -> (Call, Screen) {
     add_round_a_point(rng, &mut call, part);
     befriend_or_link(rng, &mut call, part, linked && !windows.is_empty());
     blow(rng, &mut call, part);
+    tune_by_digits(rng, &mut call);
     (call.grid_len, call.support_len) = (points(&windows), points(&windows));
     (call, Screen::new(&windows))
 }

@@ -4,8 +4,8 @@
 use crate::call::{Call, Window};
 use crate::damage;
 use crate::generate::{
-    big_call, edge_call, flavour, guess_at, order_limits, push_station, small_call, tune_limits,
-    untuned_call, Flavour, TURNS,
+    big_call, edge_call, flavour_of, guess_at, order_limits, push_station, small_call,
+    tune_by_digits, tune_limits, untuned_call, Flavour, TURNS,
 };
 use crate::generate_buddies::near_at_hand;
 use crate::generate_links::{befriend_or_link, will_link};
@@ -18,11 +18,15 @@ use crate::scan::weight;
 use crate::units::{STEP, VALUE};
 use crate::window::{reach, widened};
 
+/// More often than other requests windows are big: only there is a cut much smaller than
+/// the grid.
+const BIG_EVERY: u64 = 41;
+
 /// The arguments of a window query.
 pub fn window(seed: u64, index: u64) -> (Call, Window) {
     let mut rng = Rng::for_case(seed, 2, index);
     let rng = &mut rng;
-    match flavour(index, &[1, 2, 3, 4, 5, 6, 7, 8]) {
+    match flavour_of(index, &[1, 2, 3, 4, 5, 6, 7, 8], BIG_EVERY) {
         Flavour::Big => {
             let small: Place = small_window;
             let place = rng.pick(&[small, small, small, any_window]);
@@ -65,6 +69,7 @@ fn with_window(rng: &mut Rng, make: fn(&mut Rng) -> Call, place: Place) -> (Call
     add_round_a_point(rng, &mut call, &window);
     befriend_or_link(rng, &mut call, &window, linked);
     blow(rng, &mut call, &window);
+    tune_by_digits(rng, &mut call);
     call.grid_len = window.area();
     call.support_len = window.area();
     (call, window)

@@ -53,9 +53,8 @@ fn holds_its_floors(seed: u64, count: u64) {
 
 #[test]
 fn a_small_survey_holds_its_floors() {
-    // At this count all of the seeds 0..30 were seen to pass (28 at 6,000, 23 at
-    // 4,000), so these three are not picked by luck. One thread for each seed,
-    // for the time it takes.
+    // At this count all of the seeds 0..30 were seen to pass, so these three are not
+    // picked by luck. One thread for each seed, for the time it takes.
     scope(|threads| {
         for seed in 0..3 {
             threads.spawn(move || holds_its_floors(seed, 8_000));
