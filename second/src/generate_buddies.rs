@@ -56,16 +56,18 @@ pub fn befriend(rng: &Rng, call: &mut Call, part: &Window) {
     match rng.below(17) {
         0..=8 => gather(rng, call, part),
         9..=12 => forsake_in_turn(rng, call, part),
-        13..=15 => tune(rng, call),
+        13..=15 => tune(rng, call, false),
+        _ if !rng.one_in(4) => tune(rng, call, true),
         _ => (),
     }
 }
 
 /// Sets L so that the first whom the check sets aside goes in a scan that is drawn: later
 /// ones too, as far as somebody is farther from their neighbours there than anybody was
-/// before. The least of such limits lets somebody pass before it exactly.
-fn tune(rng: &mut Rng, call: &mut Call) {
-    if rng.one_in(3) {
+/// before. The least of such limits lets somebody pass before it exactly. Late, it is the
+/// last such scan of a long plan: there the field tells, and not the first guess.
+fn tune(rng: &mut Rng, call: &mut Call, late: bool) {
+    if rng.one_in(3) || late {
         lengthen(call, rng.pick(&[4, 5, 6]));
     }
     let mut records = Vec::new();
@@ -80,7 +82,9 @@ fn tune(rng: &mut Rng, call: &mut Call) {
         return;
     }
     let (one, another) = (rng.below(records.len()), rng.below(records.len()));
-    let (_, least, past) = records[one.max(another)];
+    // Never the first, if there are others.
+    let drawn = one.max(another);
+    let (_, least, past) = records[if late || drawn == 0 { records.len() - 1 } else { drawn }];
     let most = past - 1;
     let any = least + i64::from(rng.up_to((most - least) as u32));
     set_limit(call, rng.pick(&[least, most, most, any]));
