@@ -26,11 +26,11 @@ pub fn break_screen(
     match number {
         COLUMNS => {
             break_columns(rng, &call, &mut screen, way);
-            break_the_rest(rng, &mut call);
+            break_the_rest(rng, &mut call, 3);
         }
         2 => {
             break_windows(rng, &mut call, &mut screen, way);
-            break_the_rest(rng, &mut call);
+            break_the_rest(rng, &mut call, 2);
         }
         3 => break_results(rng, &mut call, &screen.windows(), way),
         // A way to break a rule, a wind or a check comes seldom, and no bad window is to
@@ -62,10 +62,10 @@ fn break_windows_too(rng: &mut Rng, call: &Call, screen: &mut Screen) {
     }
 }
 
-/// In half of the screens the request has a fault of its own too; most often one of the
-/// two that hardly ever have windows at fault beside them otherwise.
-fn break_the_rest(rng: &mut Rng, call: &mut Call) {
-    if rng.one_in(2) {
+/// In one of so many screens the request has a fault of its own too; most often one of
+/// the two that hardly ever have windows at fault beside them otherwise.
+fn break_the_rest(rng: &mut Rng, call: &mut Call, every: usize) {
+    if rng.one_in(every) {
         let other = rng.pick(&[1, 3, 4, 5, 5, 6, 7, 8, 8]);
         break_one(rng, call, other);
     }
