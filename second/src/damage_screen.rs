@@ -76,7 +76,8 @@ fn break_the_rest(rng: &mut Rng, call: &mut Call, every: usize) {
 fn break_columns(rng: &mut Rng, call: &Call, screen: &mut Screen, way: u64) {
     let windows = screen.left.len();
     let bad = rng.one_in(3);
-    let way = (way % 24) as usize;
+    // Five and 24 have no divisor in common: those that are too long come early too.
+    let way = (way % 24 * 5 % 24) as usize;
     if way >= 20 || windows == 0 && ![1, 3].contains(&(way / 4)) {
         make_too_many(rng, screen);
     } else {
@@ -103,7 +104,8 @@ fn make_too_many(rng: &mut Rng, screen: &mut Screen) {
     let mut windows = screen.windows();
     let first = windows.first().copied().unwrap_or(Window::new(0, 0, 0, 0));
     let one_more = MOST_WINDOWS + 1;
-    windows.resize(rng.pick(&[one_more, one_more, one_more, one_more + 1, 32, 300]), first);
+    let more = rng.pick(&[one_more + 1, 32, 300]);
+    windows.resize(if rng.one_in(3) { more } else { one_more }, first);
     *screen = Screen::new(&windows);
 }
 
