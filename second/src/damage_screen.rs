@@ -26,11 +26,11 @@ pub fn break_screen(
     match number {
         COLUMNS => {
             break_columns(rng, &call, &mut screen, way);
-            break_the_rest(rng, &mut call);
+            break_the_rest(rng, &mut call, 3);
         }
         2 => {
             break_windows(rng, &mut call, &mut screen, way);
-            break_the_rest(rng, &mut call);
+            break_the_rest(rng, &mut call, 2);
         }
         3 => break_results(rng, &mut call, &screen.windows(), way),
         // A way to break a rule, a wind or a check comes seldom, and no bad window is to
@@ -62,10 +62,10 @@ fn break_windows_too(rng: &mut Rng, call: &Call, screen: &mut Screen) {
     }
 }
 
-/// In half of the screens the request has a fault of its own too; most often one of the
-/// two that hardly ever have windows at fault beside them otherwise.
-fn break_the_rest(rng: &mut Rng, call: &mut Call) {
-    if rng.one_in(2) {
+/// In one of so many screens the request has a fault of its own too; most often one of
+/// the two that hardly ever have windows at fault beside them otherwise.
+fn break_the_rest(rng: &mut Rng, call: &mut Call, every: usize) {
+    if rng.one_in(every) {
         let other = rng.pick(&[1, 3, 4, 5, 5, 6, 7, 8, 8]);
         break_one(rng, call, other);
     }
@@ -76,7 +76,8 @@ fn break_the_rest(rng: &mut Rng, call: &mut Call) {
 fn break_columns(rng: &mut Rng, call: &Call, screen: &mut Screen, way: u64) {
     let windows = screen.left.len();
     let bad = rng.one_in(3);
-    let way = (way % 24) as usize;
+    // Five and 24 have no divisor in common: those that are too long come early too.
+    let way = (way % 24 * 5 % 24) as usize;
     if way >= 20 || windows == 0 && ![1, 3].contains(&(way / 4)) {
         make_too_many(rng, screen);
     } else {
@@ -103,7 +104,8 @@ fn make_too_many(rng: &mut Rng, screen: &mut Screen) {
     let mut windows = screen.windows();
     let first = windows.first().copied().unwrap_or(Window::new(0, 0, 0, 0));
     let one_more = MOST_WINDOWS + 1;
-    windows.resize(rng.pick(&[one_more, one_more, one_more, one_more + 1, 32, 300]), first);
+    let more = rng.pick(&[one_more + 1, 32, 300]);
+    windows.resize(if rng.one_in(3) { more } else { one_more }, first);
     *screen = Screen::new(&windows);
 }
 

@@ -70,7 +70,7 @@ const ALL: [Company; 45] = [
     Rejected,
     Rejected,
     Rejected,
-    Rejected,
+    Dead(3),
     Dead(1),
     Dead(2),
     Dead(3),
