@@ -89,8 +89,7 @@ static struct evening make_orchard(uint32_t mode) {
         numbers_of(&orchard, WIND_U)[row] = 0;
         numbers_of(&orchard, WIND_V)[row] = 10;
     }
-    memcpy(numbers_of(&orchard, RADIUS), RADIUS_OF, sizeof RADIUS_OF);
-    memcpy(numbers_of(&orchard, LIMIT), LIMIT_OF, sizeof LIMIT_OF);
+    set_plan(&orchard, RADIUS_OF, LIMIT_OF);
     return orchard;
 }
 

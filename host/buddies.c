@@ -10,10 +10,6 @@
 
 enum { MOST_MASTS = 6 };
 
-struct mast {
-    int32_t x, y, value;
-};
-
 /* Neighbours by a radius, and held to them by a limit. On a level first guess of 0 a mast's value is its difference in
  * the first scan. */
 struct cluster {
@@ -76,18 +72,6 @@ static const struct cluster CLUSTERS[] = {
      {{-250, 0, 100}, {0, -250, 0}, {-256, -256, 0}}, {0, 0, 21}},
 };
 /* clang-format on */
-
-/* The first so many masts on a level grid. */
-static struct evening stand(uint32_t nx, uint32_t ny, int32_t level, const struct mast *masts, size_t count,
-                            uint32_t scans) {
-    struct evening evening = level_evening(nx, ny, level, count, scans);
-    for (size_t row = 0; row < count; row++) {
-        numbers_of(&evening, X)[row] = masts[row].x;
-        numbers_of(&evening, Y)[row] = masts[row].y;
-        numbers_of(&evening, VALUE)[row] = masts[row].value;
-    }
-    return evening;
-}
 
 static void set_scan(struct evening *evening, uint32_t scan, int32_t radius, int32_t limit) {
     numbers_of(evening, RADIUS)[scan] = radius;
@@ -190,7 +174,7 @@ static void must_not_be_read(const struct evening *evening, const uint8_t *verdi
 }
 
 static void try_cluster(const struct cluster *cluster, uint32_t rule, bool smooth) {
-    struct evening evening = stand(SIDE, SIDE, 0, cluster->masts, cluster->count, 1);
+    struct evening evening = standing_evening(SIDE, SIDE, 0, cluster->masts, cluster->count, 1);
     evening.rule = rule, evening.smooth = smooth;
     set_scan(&evening, 0, RADIUS_OF_A_CLUSTER, LIMIT_OF_A_CLUSTER);
     set_buddies(&evening, cluster->radius, cluster->limit);
@@ -221,7 +205,7 @@ static void try_chain(void) {
     size_t in_scan[2] = {0, 0};
     for (int32_t k = 0; k < LINKS; k++)
         chain[k] = (struct mast){APART * k, 20 + 7 * (k % 3), 17 * k % 101 + 13 * (k % 7)};
-    struct evening evening = stand(NX, NY, 40, chain, LINKS, 2);
+    struct evening evening = standing_evening(NX, NY, 40, chain, LINKS, 2);
     set_scan(&evening, 0, 64, 320), set_scan(&evening, 1, 64, 320);
     set_buddies(&evening, 100, 30);
     struct answer answer = answer_of(&evening, "a chain");
@@ -246,7 +230,7 @@ static void try_farthest(void) {
                                         {FROM_HERE + 190, 0, 0},   {FROM_HERE + 254, 0, 100},
                                         {FROM_HERE + 380, 0, 200}, {FROM_HERE + 381, 0, 200}};
     enum { COUNT = sizeof masts / sizeof *masts };
-    struct evening evening = stand(NX, 2, 0, masts, COUNT, 2);
+    struct evening evening = standing_evening(NX, 2, 0, masts, COUNT, 2);
     set_scan(&evening, 0, 64, 320), set_scan(&evening, 1, 64, 320);
     set_buddies(&evening, 128, 60);
     struct answer answer = answer_of(&evening, "masts as far as a reach goes");
@@ -261,7 +245,7 @@ static void try_farthest(void) {
 static void try_scan(uint32_t scan) {
     static const struct mast posts[] = {{-20, 40, 61}, {-20, 60, 80}, {-30, 50, 0}, {-30, 70, 0}};
     enum { COUNT = sizeof posts / sizeof *posts, PLAN = 6 };
-    struct evening evening = stand(2, 2, 0, posts, COUNT, PLAN);
+    struct evening evening = standing_evening(2, 2, 0, posts, COUNT, PLAN);
     for (uint32_t s = 0; s < PLAN; s++)
         set_scan(&evening, s, 64, s < scan ? 100 : 70);
     set_buddies(&evening, 100, 60);
@@ -310,7 +294,7 @@ static void try_greatest(void) {
  * that one aside with the first, and by the listings the first is alone then. */
 static void try_lone(void) {
     static const struct mast masts[] = {{64, 0, 704}, {12, 72, 540}, {128, 128, 704}};
-    struct evening evening = stand(3, 3, 640, masts, 3, 1);
+    struct evening evening = standing_evening(3, 3, 640, masts, 3, 1);
     evening.rule = SOSNYAVIK_LISTINGS;
     set_scan(&evening, 0, 73, 200);
     struct answer both = answer_of(&evening, "two masts inside a radius");

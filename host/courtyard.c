@@ -10,10 +10,8 @@
 
 enum { NX = 8, NY = 6, POINTS = NX * NY, SCANS = 3 };
 
-static const struct {
-    int32_t x, y, value;
-} MASTS[] = {{96, 64, -14},  {260, 48, -20},  {112, 200, -38}, {288, 208, -32},
-             {48, 288, -64}, {200, 128, 136}, {344, 112, -22}, {416, 272, 10}};
+static const struct mast MASTS[] = {{96, 64, -14},  {260, 48, -20},  {112, 200, -38}, {288, 208, -32},
+                                    {48, 288, -64}, {200, 128, 136}, {344, 112, -22}, {416, 272, 10}};
 enum { COUNT = sizeof MASTS / sizeof *MASTS, COURTYARD = 5 };
 
 static const int32_t RADIUS_OF[SCANS] = {192, 128, 96}, LIMIT_OF[SCANS] = {320, 256, 192};
@@ -57,18 +55,12 @@ static const uint8_t REACHED_UNCHECKED[POINTS] = {
 /* clang-format on */
 
 static struct evening make_orchard(bool buddy) {
-    struct evening orchard = level_evening(NX, NY, 0, COUNT, SCANS);
+    struct evening orchard = standing_evening(NX, NY, 0, MASTS, COUNT, SCANS);
     orchard.smooth = true;
     orchard.buddy = buddy, orchard.buddy_radius = 160, orchard.buddy_limit = 128;
     for (int32_t point = 0; point < POINTS; point++)
         numbers_of(&orchard, FIRST_GUESS)[point] = 80 - 4 * (point / NX);
-    for (size_t row = 0; row < COUNT; row++) {
-        numbers_of(&orchard, X)[row] = MASTS[row].x;
-        numbers_of(&orchard, Y)[row] = MASTS[row].y;
-        numbers_of(&orchard, VALUE)[row] = MASTS[row].value;
-    }
-    memcpy(numbers_of(&orchard, RADIUS), RADIUS_OF, sizeof RADIUS_OF);
-    memcpy(numbers_of(&orchard, LIMIT), LIMIT_OF, sizeof LIMIT_OF);
+    set_plan(&orchard, RADIUS_OF, LIMIT_OF);
     return orchard;
 }
 

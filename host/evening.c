@@ -96,6 +96,22 @@ struct evening level_evening(uint32_t nx, uint32_t ny, int32_t level, size_t mas
     return evening;
 }
 
+struct evening standing_evening(uint32_t nx, uint32_t ny, int32_t level, const struct mast *masts, size_t count,
+                                uint32_t scans) {
+    struct evening evening = level_evening(nx, ny, level, count, scans);
+    for (size_t row = 0; row < count; row++) {
+        numbers_of(&evening, X)[row] = masts[row].x;
+        numbers_of(&evening, Y)[row] = masts[row].y;
+        numbers_of(&evening, VALUE)[row] = masts[row].value;
+    }
+    return evening;
+}
+
+void set_plan(struct evening *evening, const int32_t *radius, const int32_t *limit) {
+    memcpy(numbers_of(evening, RADIUS), radius, evening->scans * sizeof *radius);
+    memcpy(numbers_of(evening, LIMIT), limit, evening->scans * sizeof *limit);
+}
+
 /* Some masts are not as they should be, if there are enough. */
 static void set_faults(struct evening *evening) {
     if (evening->columns[X].length >= 4) {
@@ -116,8 +132,7 @@ struct evening make_evening(uint32_t nx, uint32_t ny, size_t masts, const struct
         numbers_of(&evening, FIRST_GUESS)[point] = 320 + 3 * (int32_t)(point % nx) - 16 + draw(&state, 32);
     set_masts(&evening, &state);
     set_winds(&evening, &state);
-    memcpy(numbers_of(&evening, RADIUS), radius, sizeof radius);
-    memcpy(numbers_of(&evening, LIMIT), limit, sizeof limit);
+    set_plan(&evening, radius, limit);
     set_faults(&evening);
     if (masts > TOO_FAR)
         set_posts(&evening);

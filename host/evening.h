@@ -42,10 +42,18 @@ struct answer {
 enum { FIRST_POST = 4, POSTS = 4, TOO_FAR = FIRST_POST + POSTS };
 struct evening make_evening(uint32_t nx, uint32_t ny, size_t masts, const struct manner *manner);
 
-/* An evening of which the columns have their lengths, and nothing else is told; and one of masts without wind that are
- * all fresh and in service, on a level first guess, in the first manner. */
+/* An evening of which the columns have their lengths, and nothing else is told; one of masts without wind that are all
+ * fresh and in service, on a level first guess, in the first manner; and that with the masts where they stand. */
+struct mast {
+    int32_t x, y, value;
+};
 struct evening bare_evening(uint32_t nx, uint32_t ny, size_t masts, uint32_t scans);
 struct evening level_evening(uint32_t nx, uint32_t ny, int32_t level, size_t masts, uint32_t scans);
+struct evening standing_evening(uint32_t nx, uint32_t ny, int32_t level, const struct mast *masts, size_t count,
+                                uint32_t scans);
+
+/* The radius and the limit of every scan. */
+void set_plan(struct evening *evening, const int32_t *radius, const int32_t *limit);
 
 struct evening copy_evening(const struct evening *evening);
 void free_evening(struct evening *evening);

@@ -18,10 +18,8 @@ enum { NOTICED = 64 };
  * 1 and 4 are inside the first radius of one point each with weight 0, (90, 91) off: point 7 of row 0, which mast 1
  * alone leaves as it was, and point 2 of row 2, where mast 0 is therefore not alone. Mast 5 is a post. Mast 6 is judged
  * otherwise by the rules in the second scan. */
-static const struct {
-    int32_t x, y, value;
-} MASTS[] = {{64, 128, 0},   {358, 91, 64},   {300, 190, 32}, {96, 192, 1280},
-             {218, 219, 40}, {512, 256, 100}, {160, 0, -128}};
+static const struct mast MASTS[] = {{64, 128, 0},   {358, 91, 64},   {300, 190, 32}, {96, 192, 1280},
+                                    {218, 219, 40}, {512, 256, 100}, {160, 0, -128}};
 enum { COUNT = sizeof MASTS / sizeof *MASTS, PARTED = 6 };
 
 static const int32_t RADIUS_OF[SCANS] = {128, 96}, LIMIT_OF[SCANS] = {320, 28};
@@ -71,15 +69,9 @@ static const struct field BY_LISTINGS = {
 /* clang-format on */
 
 static struct evening make_orchard(uint32_t rule) {
-    struct evening orchard = level_evening(NX, NY, LEVEL, COUNT, SCANS);
+    struct evening orchard = standing_evening(NX, NY, LEVEL, MASTS, COUNT, SCANS);
     orchard.rule = rule;
-    for (size_t row = 0; row < COUNT; row++) {
-        numbers_of(&orchard, X)[row] = MASTS[row].x;
-        numbers_of(&orchard, Y)[row] = MASTS[row].y;
-        numbers_of(&orchard, VALUE)[row] = MASTS[row].value;
-    }
-    memcpy(numbers_of(&orchard, RADIUS), RADIUS_OF, sizeof RADIUS_OF);
-    memcpy(numbers_of(&orchard, LIMIT), LIMIT_OF, sizeof LIMIT_OF);
+    set_plan(&orchard, RADIUS_OF, LIMIT_OF);
     return orchard;
 }
 
