@@ -10,6 +10,7 @@ use crate::refusals::check_request;
 use crate::scheme::run;
 use crate::sorts::{named, Sort};
 use crate::tally::Floor;
+use crate::text_sorts::refused_line;
 use crate::units::{BUDDY_LIMIT, BUDDY_RADIUS, LISTINGS, MODES, OF_THE_CHECK, ROUND, RULES, STEP};
 use crate::verdicts::{ended_in, SET_ASIDE};
 use crate::weight_sorts::is_small;
@@ -291,16 +292,9 @@ fn by_itself(buddy: &Buddy) -> [bool; 8] {
 /// The sorts of a text that is refused by its form: what is wrong with a check's line, if
 /// that is where it is.
 pub fn of_text(text: &[u8], refusal: &Refusal) -> Vec<Sort> {
-    if refusal.number != 9 {
-        return Vec::new();
-    }
-    let lines: Vec<&[u8]> = text.split_inclusive(|byte| *byte == b'\n').collect();
-    let at = refusal.place as usize - 1;
-    let Some(line) = lines.get(at) else {
+    let Some([before, line, after]) = refused_line(text, refusal) else {
         return Vec::new();
     };
-    let before = at.checked_sub(1).map_or(&b""[..], |before| lines[before]);
-    let after = lines.get(at + 1).copied().unwrap_or_default();
     let sort = match line.strip_prefix(b"buddy=") {
         Some(value) => of_line(value, before, after),
         None if before.starts_with(b"scan=") && is_like_a_check(line) => 9,

@@ -12,6 +12,7 @@ use crate::scan::{correct, judge, smoothed, weight, weight_at, Accepted, Sums};
 use crate::scheme::run;
 use crate::sorts::{named, Sort};
 use crate::tally::Floor;
+use crate::text_sorts::refused_line;
 use crate::units::{
     rounded, ALONG_WIND, BORDER, EQUATIONS, LISTINGS, MODES, RULES, STEP, WEIGHT_SCALE,
 };
@@ -441,15 +442,9 @@ pub fn of_refused(call: &Call, refusal: &Refusal) -> Vec<Sort> {
 /// The sorts of a text that is refused by its form: what is wrong with a rule's line,
 /// if that is where it is.
 pub fn of_text(text: &[u8], refusal: &Refusal) -> Vec<Sort> {
-    if refusal.number != 9 {
-        return Vec::new();
-    }
-    let lines: Vec<&[u8]> = text.split_inclusive(|byte| *byte == b'\n').collect();
-    let at = refusal.place as usize - 1;
-    let Some(line) = lines.get(at) else {
+    let Some([before, line, _]) = refused_line(text, refusal) else {
         return Vec::new();
     };
-    let before = at.checked_sub(1).map_or(&b""[..], |before| lines[before]);
     let sort = match line.strip_prefix(b"rule=") {
         Some(_) if before.starts_with(b"rule=") => 14,
         Some(_) if before.starts_with(b"time=") || before.starts_with(b"age=") => 12,

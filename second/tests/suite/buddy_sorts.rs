@@ -2,14 +2,13 @@
 
 use crate::buddies::along_a_line;
 use crate::sorts::{held, numbers};
-use crate::{changed, sample, REQUEST};
+use crate::{changed, refused, sample, REQUEST};
 use second::buddy_sorts::{
     floors, of_accepted, of_refused, of_text, real_floors, real_text_floors, text_floors,
     window_floors,
 };
 use second::call::{Buddy, Call, Window};
 use second::generate::push_station;
-use second::refusals::check_analysis;
 use second::scheme::run;
 use second::sorts::Sort;
 use second::text::parse;
@@ -204,20 +203,14 @@ fn reaches_that_are_too_short_are_told() {
     assert_eq!(told(false, [0, 8, 0, 7]), [0; 0], "the whole grid");
 }
 
-/// The sorts of case (i) with something changed, which is refused.
-fn refused(change: impl FnOnce(&mut Call)) -> Vec<Sort> {
-    let call = changed(change);
-    let refusal = check_analysis(&call).expect_err("refused");
-    of_refused(&call, &refusal)
-}
-
 #[test]
 fn bad_checks_are_told_apart() {
     let told = |buddy: Buddy, change: fn(&mut Call)| {
-        let sorts = refused(|call| {
+        let (call, refusal) = refused(|call| {
             call.buddy = Some(buddy);
             change(call);
         });
+        let sorts = of_refused(&call, &refusal);
         ["refusal 6 at place 6", "bad check with", "check that is off"]
             .map(|name| numbers(&sorts, name))
     };

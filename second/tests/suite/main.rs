@@ -36,7 +36,8 @@ mod wind_sorts;
 mod windows;
 mod winds;
 
-use second::call::Call;
+use second::call::{Call, Refusal};
+use second::refusals::check_analysis;
 use second::text::parse;
 
 /// Case (i) of the paper, from which most tests start.
@@ -56,6 +57,13 @@ fn changed(change: impl FnOnce(&mut Call)) -> Call {
     let mut call = sample();
     change(&mut call);
     call
+}
+
+/// Case (i) with something changed, and how it is refused.
+fn refused(change: impl FnOnce(&mut Call)) -> (Call, Refusal) {
+    let call = changed(change);
+    let refusal = check_analysis(&call).expect_err("refused");
+    (call, refusal)
 }
 
 /// A call with one station, fresh and in service for good.

@@ -1,10 +1,9 @@
 //! The sorts of rules and lone stations are told apart, and each has its floor.
 
 use crate::sorts::{held, numbers};
-use crate::{changed, lone_station, sample, REQUEST};
+use crate::{changed, lone_station, refused, sample, REQUEST};
 use second::call::{Call, Window, Winds};
 use second::generate::push_station;
-use second::refusals::check_analysis;
 use second::rule_sorts::{
     floors, of_accepted, of_refused, of_text, real_floors, real_text_floors, text_floors,
     window_floors,
@@ -176,20 +175,14 @@ fn requests_are_told_from_rule_1() {
     assert_eq!(of(&rejected, [0, 0, 0, 0])[..2], [vec![0, 1, 2, 3], vec![0, 1]]);
 }
 
-/// The sorts of case (i) with something changed, which is refused.
-fn refused(change: impl FnOnce(&mut Call)) -> Vec<Sort> {
-    let call = changed(change);
-    let refusal = check_analysis(&call).expect_err("refused");
-    of_refused(&call, &refusal)
-}
-
 #[test]
 fn bad_rules_are_told_apart() {
     let told = |rule: u32, change: fn(&mut Call)| {
-        let sorts = refused(|call| {
+        let (call, refusal) = refused(|call| {
             call.rule = Some(rule);
             change(call);
         });
+        let sorts = of_refused(&call, &refusal);
         ["refusal 5 by the rule", "bad rule with"].map(|name| numbers(&sorts, name))
     };
     let alone = [0, 3, u32::MAX, 257, 65_538, (1 << 31) + 1, 4, 256, 1 << 31];
