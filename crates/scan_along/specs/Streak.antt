@@ -18,7 +18,7 @@ use Rattle.scheme.specs.Streaks.{Fair}
 use Rattle.scheme.specs.Gifts.{weighed, gift-weighed}
 use Rattle.scan_weight.specs.Along.{calmed, calmed-fair, weightBy, beyond, weightBy-most, by-wind, mostStrength, strength-small, mostPart, part-small}
 use Rattle.scan_lone.specs.Inside.{insideIn}
-use Rattle.scan_point.specs.Near.{Stations, windIn, xAt, yAt, windAt, verdictAt, dAt, shareAt, Slight, weighed-slight, rowGap, Inside, Ready, Near, near-is-accepted, near-step, accepted-shares}
+use Rattle.scan_point.specs.Near.{Stations, windIn, xAt, yAt, windAt, verdictAt, dAt, shareAt, Slight, weighed-slight, rowGap, Inside, Ready, Near, near-is-accepted, near-gathered, accepted-shares}
 use Rattle.scan_point.specs.Round.{Sized, Roomy, roomy-set, sized-set, new-x, new-y, new-d, next-sized}
 
 -- of a wind, for the points of a row that the station is dy off
@@ -88,11 +88,15 @@ pub record RoomyAlong (lx : List ℤ) (ly : List ℕ) (ld : List ℤ) (lw : List
 pub room-for-winds : {lx : List ℤ} {ly : List ℕ} {ld : List ℤ} → Roomy lx ly ld → RoomyAlong lx ly ld (replicate mostStations (replicate 3 (pos 0)))
 room-for-winds r = record { roomy = r; w-long = length-replicate mostStations (replicate 3 (pos 0)) }
 
+-- the next entry, of row k, which is near
 module _ (all : Stations) (r2 j : ℕ) (bounded : r2 ≤ mostSquare) (ok : Ready all) (lx : List ℤ) (ly : List ℕ) (ld : List ℤ) (lw : List (List ℤ))
     (room : RoomyAlong lx ly ld lw) (n k : ℕ) (turn : k < all .count) (few : n ≤ k) (windy : all .mode ≡ windMode)
-    (streak : List ℤ) (streak-is : verdictAt all k ≡ 0 → streak ≡ streakAt (getD (all .numbers) k []) j) where
+    (close : rowGap (verdictAt all k) (yAt all k) j r2 < r2) where
   abbrev gap : ℕ
   gap = rowGap (verdictAt all k) (yAt all k) j r2
+
+  abbrev streak : List ℤ
+  streak = streakAt (getD (all .numbers) k []) j
 
   abbrev lx' : List ℤ
   lx' = set lx n (xAt all k)
@@ -109,6 +113,12 @@ module _ (all : Stations) (r2 j : ℕ) (bounded : r2 ≤ mostSquare) (ok : Ready
   n-room : n < mostStations
   n-room = omega (arith, few, ok .few)
 
+  accepted : verdictAt all k ≡ 0
+  accepted = near-is-accepted (verdictAt all k) (yAt all k) j r2 close .0
+
+  gap-is : gap ≡ square (yAt all k -ℤ pos (step * j))
+  gap-is = near-is-accepted (verdictAt all k) (yAt all k) j r2 close .1
+
   roomy' : RoomyAlong lx' ly' ld' lw'
   roomy' = record { roomy = roomy-set lx ly ld n (xAt all k) gap (dAt all k) (room .roomy); w-long = length-set lw n streak ∙ room .w-long }
 
@@ -124,41 +134,35 @@ module _ (all : Stations) (r2 j : ℕ) (bounded : r2 ≤ mostSquare) (ok : Ready
       let o : (t ≡ n) → ⊥ = λ (e : t ≡ n). omega arith in
       rw (getD-set-other lx n t (xAt all k) (pos 0) o, getD-set-other ly n t gap 0 o, getD-set-other ld n t (dAt all k) (pos 0) o, getD-set-other lw n t streak [] o)
 
-  -- the next, of a row that is near
-  module _ (close : gap < r2) where
-    accepted : verdictAt all k ≡ 0
-    accepted = near-is-accepted (verdictAt all k) (yAt all k) j r2 close .0
+  -- and this one
+  new-w : getD lw' n [] ≡ streak
+  new-w = getD-set-same lw n streak [] (omega (arith, room .w-long, n-room))
 
-    gap-is : gap ≡ square (yAt all k -ℤ pos (step * j))
-    gap-is = near-is-accepted (verdictAt all k) (yAt all k) j r2 close .1
+  new-fine : SizedAlong lx' ly' ld' lw' n
+  new-fine =
+      record {
+        sized = next-sized all r2 j bounded ok lx ly ld (room .roomy) n k turn few close;
+        streak =
+            rw new-w
+            (streaked (calmed (windAt all k)) (yAt all k -ℤ pos (step * j)) (calmed-fair (windAt all k) (ok .inside k turn accepted .wind-fair))
+            (omega (arith, gap-is, close, bounded)));
+      }
 
-    new-w : getD lw' n [] ≡ streakAt (getD (all .numbers) k []) j
-    new-w = getD-set-same lw n streak [] (omega (arith, room .w-long, n-room)) ∙ streak-is accepted
+  new : (i : ℕ) → alongShare lx' ly' ld' lw' r2 i n ≡ shareAt all r2 i j k
+  unfolding alongShare
+  new i =
+      let dx : ℤ = xAt all k -ℤ pos (step * i) in
+      let dy : ℤ = yAt all k -ℤ pos (step * j) in
+      rw (new-x lx ly ld n (xAt all k) gap (dAt all k) (room .roomy) n-room, new-y lx ly ld n (xAt all k) gap (dAt all k) (room .roomy) n-room, new-d lx ly ld n (xAt all k) gap (dAt all k) (room .roomy) n-room, new-w, gap-is)
+      (sym (accepted-shares all r2 i j k accepted
+      ∙ gift-weighed (all .mode) r2 (windAt all k) (dAt all k) dx dy
+      ∙ ap (λ (m : ℕ). weighed (inside r2 dx dy) (weightAt m r2 (windAt all k) dx dy) (dAt all k)) windy
+      ∙ ap (λ (w : ℕ). weighed (inside r2 dx dy) w (dAt all k)) (by-wind r2 (windAt all k) dx dy)))
 
-    new-fine : SizedAlong lx' ly' ld' lw' n
-    new-fine =
-        record {
-          sized = next-sized all r2 j bounded ok lx ly ld (room .roomy) n k turn few close;
-          streak =
-              rw new-w
-              (streaked (calmed (windAt all k)) (yAt all k -ℤ pos (step * j)) (calmed-fair (windAt all k) (ok .inside k turn accepted .wind-fair))
-              (omega (arith, gap-is, close, bounded)));
-        }
-
-    new : (i : ℕ) → alongShare lx' ly' ld' lw' r2 i n ≡ shareAt all r2 i j k
-    unfolding alongShare
-    new i =
-        let dx : ℤ = xAt all k -ℤ pos (step * i) in
-        let dy : ℤ = yAt all k -ℤ pos (step * j) in
-        rw (new-x lx ly ld n (xAt all k) gap (dAt all k) (room .roomy) n-room, new-y lx ly ld n (xAt all k) gap (dAt all k) (room .roomy) n-room, new-d lx ly ld n (xAt all k) gap (dAt all k) (room .roomy) n-room, new-w, gap-is)
-        (sym (accepted-shares all r2 i j k accepted
-        ∙ gift-weighed (all .mode) r2 (windAt all k) (dAt all k) dx dy
-        ∙ ap (λ (m : ℕ). weighed (inside r2 dx dy) (weightAt m r2 (windAt all k) dx dy) (dAt all k)) windy
-        ∙ ap (λ (w : ℕ). weighed (inside r2 dx dy) w (dAt all k)) (by-wind r2 (windAt all k) dx dy)))
-
-  -- a turn, of the values that the code has
-  pub near-turn : Near (alongShare lx ly ld lw r2) (SizedAlong lx ly ld lw) n all r2 j k → {x d : ℤ} {g one : ℕ} → x ≡ xAt all k → d ≡ dAt all k
-      → g ≡ rowGap (verdictAt all k) (yAt all k) j r2 → one ≡ cond (ltb g r2) 1 0
-      → RoomyAlong (set lx n x) (set ly n g) (set ld n d) (set lw n streak)
-      × Near (alongShare (set lx n x) (set ly n g) (set ld n d) (set lw n streak) r2) (SizedAlong (set lx n x) (set ly n g) (set ld n d) (set lw n streak)) (n + one) all r2 j (k + 1)
-  near-turn near ex ed eg eo = rw (eo, eg, ex, ed) (roomy', near-step near kept kept-fine new new-fine)
+  -- of the values that the code has
+  pub next-gathered : Near (alongShare lx ly ld lw r2) (SizedAlong lx ly ld lw) n all r2 j k → {x d : ℤ} {g : ℕ} {s : List ℤ} → x ≡ xAt all k → g ≡ gap
+      → d ≡ dAt all k
+      → s ≡ streak
+      → RoomyAlong (set lx n x) (set ly n g) (set ld n d) (set lw n s)
+      × Near (alongShare (set lx n x) (set ly n g) (set ld n d) (set lw n s) r2) (SizedAlong (set lx n x) (set ly n g) (set ld n d) (set lw n s)) (n + 1) all r2 j (k + 1)
+  next-gathered near ex eg ed es = rw (ex, eg, ed, es) (roomy', near-gathered near kept kept-fine new new-fine)

@@ -54,20 +54,7 @@ fn streak(row: [i32; 5], j: usize) -> [i32; 3]
     [w.u, w.v * dy, w.u * w.u + w.v * w.v]
 }
 
-// The same, of a station that is accepted.
-fn streak_if(verdict: u8, row: [i32; 5], j: usize) -> [i32; 3]
-    requires { ⌜ (j < mostSide) × (verdict ≡ 0 → (natAbs (getD row 1 (pos 0)) ≤ mostAlong) × (isNoWind (windIn row) ≡ false → Fair (windIn row))) ⌝ }
-    ensures { λ r. ⌜ (verdict ≡ 0 → r ≡ streakAt row j) ⌝ }
-{
-    if verdict == 0 {
-        streak(row, j)
-    } else {
-        [0, 0, 0]
-    }
-}
-
-// Gathers the stations near grid row j, and what its points go by of their winds: each turn stores at the next free place, which only a near one
-// takes.
+// Gathers the stations near grid row j, and what its points go by of their winds, which is worked out for a near one alone.
 fn near_row(
     lx: &mut [i32; 512],
     ly: &mut [u32; 512],
@@ -89,12 +76,13 @@ fn near_row(
     while k < stations {
         let row = numbers[k];
         let gap = scan_point::row_gap(verdict[k], row[request::Y], j, r2);
-        let streak = streak_if(verdict[k], row, j);
-        lx[n] = row[request::X];
-        ly[n] = gap;
-        ld[n] = d[k];
-        lw[n] = streak;
-        n += scan_weight::one_if_below(gap, r2);
+        if gap < r2 {
+            lx[n] = row[request::X];
+            ly[n] = gap;
+            ld[n] = d[k];
+            lw[n] = streak(row, j);
+            n += 1;
+        }
         k += 1;
     }
     n

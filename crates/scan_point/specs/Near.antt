@@ -202,20 +202,18 @@ near-is-accepted verdict y j r2 h = go (isAccepted verdict) (eqb-true verdict 0)
     go true f l = (f refl, refl)
     go false f l = absurd (omega arith)
 
--- a turn: the entries gathered before stay, and a row that is near becomes the next
+-- a turn: the entries gathered before stay
 module _ {all : Stations} {r2 j n k : ℕ} {give give' : ℕ → ℕ → Sums} {Fine Fine' : ℕ → Type 0} (near : Near give Fine n all r2 j k)
-    (kept : (i t : ℕ) → t < n → give' i t ≡ give i t) (kept-fine : (t : ℕ) → t < n → Fine t → Fine' t)
-    (new : rowGap (verdictAt all k) (yAt all k) j r2 < r2 → (i : ℕ) → give' i n ≡ shareAt all r2 i j k)
-    (new-fine : rowGap (verdictAt all k) (yAt all k) j r2 < r2 → Fine' n) where
+    (kept : (i t : ℕ) → t < n → give' i t ≡ give i t) (kept-fine : (t : ℕ) → t < n → Fine t → Fine' t) where
   abbrev gap : ℕ
   gap = rowGap (verdictAt all k) (yAt all k) j r2
 
   kept-sums : (i : ℕ) → upTo nothing plus n (give' i) ≡ upTo nothing plus k (shareAt all r2 i j)
   kept-sums i = upTo-same nothing plus n (give' i) (give i) (kept i) ∙ near .same i
 
-  -- a far row is written over
-  far-step : r2 ≤ gap → Near give' Fine' n all r2 j (k + 1)
-  far-step h =
+  -- a far row is passed
+  pub far-passed : r2 ≤ gap → Near give' Fine' n all r2 j (k + 1)
+  far-passed h =
       record {
         no-more = omega (arith, near .no-more);
         sized = λ t l. kept-fine t l (near .sized t l);
@@ -226,16 +224,16 @@ module _ {all : Stations} {r2 j n k : ℕ} {give give' : ℕ → ℕ → Sums} {
             ∙ plus-nothing (upTo nothing plus k (shareAt all r2 i j)));
       }
 
-  -- a near row is gathered
-  near-gathered : gap < r2 → Near give' Fine' (n + 1) all r2 j (k + 1)
-  near-gathered close =
+  -- one that is near becomes the next entry
+  pub near-gathered : ((i : ℕ) → give' i n ≡ shareAt all r2 i j k) → Fine' n → Near give' Fine' (n + 1) all r2 j (k + 1)
+  near-gathered new new-fine =
       record {
         no-more = omega (arith, near .no-more);
         sized = sized;
         same =
             λ i. upTo-next nothing plus n (give' i)
             ∙ ap (λ (s : Sums). plus s (give' i n)) (kept-sums i)
-            ∙ ap (plus (upTo nothing plus k (shareAt all r2 i j))) (new close i)
+            ∙ ap (plus (upTo nothing plus k (shareAt all r2 i j))) (new i)
             ∙ sym (upTo-next nothing plus k (shareAt all r2 i j));
       }
     where
@@ -244,14 +242,15 @@ module _ {all : Stations} {r2 j n k : ℕ} {give give' : ℕ → ℕ → Sums} {
         where
           go : (t < n) ⊎ (n ≤ t) → Fine' t
           go (inl l) = kept-fine t l (near .sized t l)
-          go (inr l) = let e : t ≡ n = omega arith in rw e (new-fine close)
+          go (inr l) = let e : t ≡ n = omega arith in rw e new-fine
 
-  pub near-step : Near give' Fine' (n + cond (ltb (rowGap (verdictAt all k) (yAt all k) j r2) r2) 1 0) all r2 j (k + 1)
-  near-step = go (lt-or-le gap r2)
+  -- either, where each turn stores and only a near one is counted
+  pub near-step : (gap < r2 → (i : ℕ) → give' i n ≡ shareAt all r2 i j k) → (gap < r2 → Fine' n) → Near give' Fine' (n + cond (ltb gap r2) 1 0) all r2 j (k + 1)
+  near-step new new-fine = go (lt-or-le gap r2)
     where
       go : (gap < r2) ⊎ (r2 ≤ gap) → Near give' Fine' (n + cond (ltb gap r2) 1 0) all r2 j (k + 1)
-      go (inl h) = rw (lt-ltb gap r2 h) (near-gathered h)
-      go (inr h) = rw (le-ltb gap r2 h, add-zero n) (far-step h)
+      go (inl h) = rw (lt-ltb gap r2 h) (near-gathered (new h) (new-fine h))
+      go (inr h) = rw (le-ltb gap r2 h, add-zero n) (far-passed h)
 
 -- what an accepted row gives
 pub accepted-shares : (all : Stations) (r2 i j k : ℕ) → verdictAt all k ≡ 0

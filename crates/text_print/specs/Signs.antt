@@ -3,10 +3,10 @@ use Prim.Native.Nat.{ℕ, zero, suc, _+_, _/_, _%_, _≤_, _<_}
 use native.Mathlib.Omega.{arith}
 use mathlib.Core.Path.{_≡_, refl, ap, subst, _∙_}
 use mathlib.Core.Bool.{true, false}
-use mathlib.Core.List.{List, [], _∷_, _++_}
+use mathlib.Core.List.{[], _∷_, _++_}
 use borrow.Author.Tests.{ltb-true}
 use lib.Dec.{T, lit<}
-use lib.ListN.{length, set, length-append}
+use lib.ListN.{length, length-append}
 use lib.IntN.{ℤ, pos, negsuc, negℤ, natAbs, _-ℤ_, +ℤ-idl}
 use lib.Signed.{ltZ, nonNeg}
 use mir.Syntax.{w32, w64}
@@ -14,7 +14,6 @@ use mir.Val.{Fits, SFits, toZ, ofZ}
 use mir.Facts.{toZ-ofZ}
 use Rattle.scheme.specs.Text.Printed.{decimal, integer}
 use Rattle.scheme.specs.Decimals.{decimal-one, decimal-more}
-use Rattle.text_print.specs.Written.{Written, written-then, written-byte}
 
 -- ---- the sign
 
@@ -57,17 +56,10 @@ unfolding integer
 without-sign (pos n) e = refl
 without-sign (negsuc n) e = absurd (subst T e tt)
 
--- ---- the digits
+-- ---- how many digits
 
 pub one-long : (n : ℕ) → n < 10 → length (decimal n) ≡ 1
 one-long n h = ap length (decimal-one n h)
 
 pub more-long : (n : ℕ) → 10 ≤ n → length (decimal n) ≡ length (decimal (n / 10)) + 1
 more-long n h = ap length (decimal-more n h) ∙ length-append (decimal (n / 10)) ((48 + n % 10) ∷ [])
-
-pub one-digit : (l : List ℕ) (at n : ℕ) → n < 10 → Written l at (decimal n) (set l at (48 + n)) (at + 1)
-one-digit l at n h = rw (decimal-one n h) (written-byte l at (48 + n))
-
-pub last-digit : (l : List ℕ) (at n : ℕ) (l' : List ℕ) (last : ℕ) → 10 ≤ n → Written l at (decimal (n / 10)) l' last
-    → Written l at (decimal n) (set l' last (48 + n % 10)) (last + 1)
-last-digit l at n l' last h w = rw (decimal-more n h) (written-then w (written-byte l' last (48 + n % 10)))

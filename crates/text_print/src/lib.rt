@@ -28,18 +28,35 @@ fn put_word(out: &mut [u8], at: usize, w: &[u8]) -> usize
     p
 }
 
-// n in decimal.
+fn put_digit(out: &mut [u8], at: usize, d: u32) -> usize
+    requires { ⌜ (d < 10) × (at < length (now out)) ⌝ }
+    ensures { λ r. ⌜ Written (now (out .entry)) at ((48 + d) ∷ []) (now (out .exit)) r ⌝ }
+{
+    out[at] = 48 + d as u8;
+    at + 1
+}
+
+// n in decimal, the last digit last.
+fn put_digits(out: &mut [u8], at: usize, n: u32) -> usize
+    requires { ⌜ at + length (decimal n) ≤ length (now out) ⌝ }
+    ensures { λ r. ⌜ Written (now (out .entry)) at (decimal n) (now (out .exit)) r ⌝ }
+{
+    if n < 10 {
+        return put_digit(out, at, n);
+    }
+    let last = put_digits(out, at, n / 10);
+    put_digit(out, last, n % 10)
+}
+
+// The same. A number of one digit, as most supports and verdicts are, is put in place, with no call.
 fn put_decimal(out: &mut [u8], at: usize, n: u32) -> usize
     requires { ⌜ at + length (decimal n) ≤ length (now out) ⌝ }
     ensures { λ r. ⌜ Written (now (out .entry)) at (decimal n) (now (out .exit)) r ⌝ }
 {
     if n < 10 {
-        out[at] = 48 + n as u8;
-        return at + 1;
+        return put_digit(out, at, n);
     }
-    let last = put_decimal(out, at, n / 10);
-    out[last] = 48 + (n % 10) as u8;
-    last + 1
+    put_digits(out, at, n)
 }
 
 // v without its sign.

@@ -3,14 +3,13 @@ use Prim.Native.Nat.{ℕ, _-_, _≤_, _<_}
 use native.Mathlib.Omega.{arith}
 use borrow.Author.Needs.{needs, sfits-of}
 use mathlib.Core.Path.{_≡_, refl, ap, _∙_}
-use mathlib.Core.Bool.{Bool, true, false, cond}
-use lib.Dec.{ltb}
+use mathlib.Core.Logic.{⊎-elim}
 use lib.IntN.{ℤ}
 use mir.Syntax.{w32, w64}
 use mir.Facts.{toZ-ofZ}
 use Rattle.scheme.specs.Units.{mostStations, windMode}
-use Rattle.scan_point.specs.Near.{Stations, stationsWith, xAt, yAt, verdictAt, dAt, rowGap, Near, near-none}
-use Rattle.scan_along.specs.Streak.{alongShare, SizedAlong, RoomyAlong, near-turn}
+use Rattle.scan_point.specs.Near.{Stations, stationsWith, xAt, yAt, verdictAt, dAt, rowGap, Near, near-none, near-is-accepted, far-passed}
+use Rattle.scan_along.specs.Streak.{alongShare, SizedAlong, RoomyAlong, next-gathered}
 use Rattle.scan_along.proofs.near_row.Statement.{statement}
 use Rattle.scan_along.proofs.near_row.Tie as tie
 
@@ -38,16 +37,19 @@ module _ (c : tie.In-loop Inv-loop μ-loop) where
   room : c .before .loop .n < mostStations
   room = omega (arith, few, c .before .loop .inv .2 .no-more)
 
-at-most-one : (b : Bool) → cond b 1 0 ≤ 1
-at-most-one true = omega arith
-at-most-one false = omega arith
+-- what the turn knows of its row, once its gap is known
+module _ (c : tie.After-row-gap Inv-loop μ-loop) where
+  abbrev of-row : tie.In-loop Inv-loop μ-loop
+  of-row = c .before .before .before .before
 
--- the turn of its stores, and of its last call
-abbrev stored : tie.After-lx Inv-loop μ-loop → tie.In-loop Inv-loop μ-loop
-stored c = c .before .before .before .before .before .before .before
+  gap-is : c .row-gap .result ≡ rowGap (verdictAt (all of-row) (k of-row)) (yAt (all of-row) (k of-row)) (start of-row .args .j) (start of-row .args .r2)
+  gap-is =
+      c .row-gap .ensures
+      ∙ ap (λ (y : ℤ). rowGap (verdictAt (all of-row) (k of-row)) y (start of-row .args .j) (start of-row .args .r2)) (toZ-ofZ {w = w32} (sfits-of {z = yAt (all of-row) (k of-row)} (c .before .row-gap-arg .given)))
 
-abbrev turn : tie.After-one-if-below Inv-loop μ-loop → tie.In-loop Inv-loop μ-loop
-turn c = c .before .before .before .before .before .before .before .before .before
+  close : c .row-gap .result < start of-row .args .r2
+      → rowGap (verdictAt (all of-row) (k of-row)) (yAt (all of-row) (k of-row)) (start of-row .args .j) (start of-row .args .r2) < start of-row .args .r2
+  close h = omega (arith, h, gap-is)
 
 loop-holds : tie.Need-loop-holds Inv-loop μ-loop
 loop-holds c =
@@ -71,74 +73,67 @@ row-gap-requires c κs =
     let t = c .before .before .before in
     (start t .pre .1, λ e. rw (toZ-ofZ {w = w32} (sfits-of {z = yAt (all t) (k t)} (c .row-gap-arg .given))) (start t .pre .2 .inside (k t) (t .loop-test .taken) e .y-small))
 
-shared-slice-read-streak-if : tie.Need-shared-slice-read-streak-if Inv-loop μ-loop
-shared-slice-read-streak-if c =
-    let t = c .before .before .before .before .before in
-    omega (arith, t .loop-test .taken, start t .pre .2 .len-st)
-
-streak-if-requires : tie.Need-streak-if-requires Inv-loop μ-loop
-streak-if-requires c κs =
-    let t = c .before .before .before .before .before in
-    (start t .pre .1, λ e. let i = start t .pre .2 .inside (k t) (t .loop-test .taken) e in (i .y-small, i .wind-fair))
-
 array-copy-out-lx : tie.Need-array-copy-out-lx Inv-loop μ-loop
 array-copy-out-lx c = search needs
 
-mul-t17 : tie.Need-mul-t17 Inv-loop μ-loop
-mul-t17 c = omega (arith, room (stored c))
+mul-t28 : tie.Need-mul-t28 Inv-loop μ-loop
+mul-t28 c = omega (arith, room (of-row (c .before .before)))
 
 element-set-from-lx : tie.Need-element-set-from-lx Inv-loop μ-loop
-element-set-from-lx c = room (stored c)
+element-set-from-lx c = room (of-row (c .before .before))
 
 mul-ly : tie.Need-mul-ly Inv-loop μ-loop
-mul-ly c = omega (arith, room (stored c))
+mul-ly c = omega (arith, room (of-row (c .before .before)))
 
 element-write-ly : tie.Need-element-write-ly Inv-loop μ-loop
-element-write-ly c = room (stored c)
+element-write-ly c = room (of-row (c .before .before))
 
 mul-ld : tie.Need-mul-ld Inv-loop μ-loop
-mul-ld c = omega (arith, few (stored c))
+mul-ld c = omega (arith, few (of-row (c .before .before)))
 
 element-copy-out-ld : tie.Need-element-copy-out-ld Inv-loop μ-loop
-element-copy-out-ld c = few (stored c)
+element-copy-out-ld c = few (of-row (c .before .before))
 
 mul-t36 : tie.Need-mul-t36 Inv-loop μ-loop
-mul-t36 c = omega (arith, room (stored (c .before)))
+mul-t36 c = omega (arith, room (of-row (c .before .before .before)))
 
 element-set-from-ld : tie.Need-element-set-from-ld Inv-loop μ-loop
-element-set-from-ld c = room (stored (c .before))
+element-set-from-ld c = room (of-row (c .before .before .before))
 
-mul-streak : tie.Need-mul-streak Inv-loop μ-loop
-mul-streak c = omega (arith, room (stored (c .before)))
+streak-requires : tie.Need-streak-requires Inv-loop μ-loop
+streak-requires c κs =
+    let t = of-row (c .before .before .before) in
+    let i = start t .pre .2 .inside (k t) (t .loop-test .taken) (near-is-accepted _ _ _ _ (close (c .before .before .before) (c .before .before .if1 .taken)) .0) in
+    (start t .pre .1, i .y-small, i .wind-fair)
 
-element-set-from-streak : tie.Need-element-set-from-streak Inv-loop μ-loop
-element-set-from-streak c = room (stored (c .before))
+mul-t28-2 : tie.Need-mul-t28-2 Inv-loop μ-loop
+mul-t28-2 c = omega (arith, room (of-row (c .before .before .before .before)))
 
-one-if-below-requires : tie.Need-one-if-below-requires Inv-loop μ-loop
-one-if-below-requires c κs = search needs
+element-set-from-lw : tie.Need-element-set-from-lw Inv-loop μ-loop
+element-set-from-lw c = room (of-row (c .before .before .before .before))
 
 add-n : tie.Need-add-n Inv-loop μ-loop
-add-n c = omega (arith, room (turn c), c .one-if-below .ensures, at-most-one (ltb (c .before .before .before .before .before .row-gap .result) (start (turn c) .args .r2)))
+add-n c = omega (arith, room (of-row (c .before .before .before .before)))
 
 add-k : tie.Need-add-k Inv-loop μ-loop
-add-k c = omega (arith, few (turn c))
+add-k c = omega (arith, few (of-row (c .before)))
 
 loop-less : tie.Need-loop-less Inv-loop μ-loop
-loop-less c = let h = turn c .loop-test .taken in omega arith
+loop-less c = let h = of-row (c .before) .loop-test .taken in omega arith
 
 loop-again : tie.Need-loop-again Inv-loop μ-loop
 loop-again c =
-    let t = turn c in
+    let t = of-row (c .before) in
     let l = t .before .loop in
     let p = start t .pre in
-    let f = c .before .before .before in
-    let g = f .before .before in
-    let y-is = toZ-ofZ {w = w32} (sfits-of {z = yAt (all t) (k t)} (g .before .row-gap-arg .given)) in
+    ⊎-elim
+    (λ w.
     let (roomy, near) =
-    near-turn (all t) (start t .args .r2) (start t .args .j) (p .0) (p .2) (l .lx) (l .ly) (l .ld) (l .lw) (l .inv .1) (l .n) (k t) (t .loop-test .taken) (l .inv .2 .no-more) refl (f .streak-if .result) (f .streak-if .ensures) (l .inv .2)
-    (toZ-ofZ {w = w32} (sfits-of {z = xAt (all t) (k t)} (c .before .before .lx .given))) (toZ-ofZ {w = w64} (sfits-of {z = dAt (all t) (k t)} (c .before .ld .given)))
-    (g .row-gap .ensures ∙ ap (λ (y : ℤ). rowGap (verdictAt (all t) (k t)) y (start t .args .j) (start t .args .r2)) y-is) (c .one-if-below .ensures) in
-    (omega (arith, t .loop-test .taken), roomy, near)
+    next-gathered (all t) (start t .args .r2) (start t .args .j) (p .0) (p .2) (l .lx) (l .ly) (l .ld) (l .lw) (l .inv .1) (l .n) (k t) (t .loop-test .taken) (l .inv .2 .no-more) refl (close (c .before) (w .0 .taken)) (l .inv .2)
+    (toZ-ofZ {w = w32} (sfits-of {z = xAt (all t) (k t)} (w .1 .given))) (gap-is (c .before)) (toZ-ofZ {w = w64} (sfits-of {z = dAt (all t) (k t)} (w .2 .given))) (w .3 .ensures) in
+    rw (w .4, w .5, w .6, w .7, w .8) (omega (arith, t .loop-test .taken), roomy, near))
+    (λ w. rw (w .1, w .2, w .3, w .4, w .5) (omega (arith, t .loop-test .taken), l .inv .1, far-passed (l .inv .2) (λ i t h. refl) (λ t h s. s) (omega (arith, w .0 .left, gap-is (c .before)))))
+    (c .if1 .came)
 
 returns : tie.Need-returns Inv-loop μ-loop
 returns c =
@@ -158,10 +153,8 @@ near-row-spec =
     shared-slice-read-row-gap
     array-copy-out-row-gap
     row-gap-requires
-    shared-slice-read-streak-if
-    streak-if-requires
     array-copy-out-lx
-    mul-t17
+    mul-t28
     element-set-from-lx
     mul-ly
     element-write-ly
@@ -169,9 +162,9 @@ near-row-spec =
     element-copy-out-ld
     mul-t36
     element-set-from-ld
-    mul-streak
-    element-set-from-streak
-    one-if-below-requires
+    streak-requires
+    mul-t28-2
+    element-set-from-lw
     add-n
     add-k
     loop-less
