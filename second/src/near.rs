@@ -6,7 +6,6 @@ use crate::cases::TextCase;
 use crate::sorts::{named, Sort};
 use crate::tally::Floor;
 use crate::text::decide;
-use crate::units::OF_THE_CHECK;
 
 /// The paper's example, case (i).
 pub const PAPER: &[u8] = include_bytes!("../../examples/paper.txt");
@@ -138,5 +137,5 @@ fn of_a_check(given: &[u8], text: &[u8]) -> Vec<Sort> {
         _ => false,
     };
     let refused = |number, place| outcome.as_ref().err() == Some(&Refusal::new(number, place));
-    named(OF_A_CHECK, [other, refused(6, OF_THE_CHECK as u32), refused(9, line)])
+    named(OF_A_CHECK, [other, refused(6, 6), refused(9, line)])
 }
