@@ -357,8 +357,9 @@ impl Case for SummaryCase {
 #[derive(Clone, Debug, PartialEq, Eq)]
 pub struct TextCase {
     pub text: Vec<u8>,
-    /// What was done to it in turn; a smaller text is counted as nothing.
-    pub harm: Option<Sort>,
+    /// What was done to it in turn, and what came of that near a given text; a smaller
+    /// text is counted as nothing.
+    pub sorts: Vec<Sort>,
 }
 
 impl Case for TextCase {
@@ -367,7 +368,7 @@ impl Case for TextCase {
 
     fn generate(seed: u64, index: u64) -> Self {
         let (text, harm) = generate_text::text(seed, index);
-        TextCase { text, harm }
+        TextCase { text, sorts: harm.into_iter().collect() }
     }
 
     fn expected(&self) -> Self::Expected {
@@ -385,7 +386,7 @@ impl Case for TextCase {
             Ok((call, analysis)) => buddy_sorts::of_accepted(call, analysis, &[]),
             Err(refusal) => buddy_sorts::of_text(&self.text, refusal),
         });
-        tally.add_sorts(self.harm.as_slice());
+        tally.add_sorts(&self.sorts);
     }
 
     fn difference(&self, expected: &Self::Expected, subject: &dyn Subject) -> Option<String> {
@@ -414,7 +415,7 @@ impl Case for TextCase {
     }
 
     fn smaller(&self) -> Box<dyn Iterator<Item = Self> + '_> {
-        Box::new(shrink::smaller_texts(&self.text).map(|text| TextCase { text, harm: None }))
+        Box::new(shrink::smaller_texts(&self.text).map(|text| TextCase { text, sorts: Vec::new() }))
     }
 
     fn rerun_form(&self) -> String {

@@ -173,7 +173,7 @@ fn compare(kind: &str, seed: Option<&str>, count: Option<&str>) -> Result<(), Wr
 }
 
 /// The text program beside the second program, over the texts that are one
-/// byte away from the paper's example.
+/// byte away from a given one.
 fn compare_near_texts() -> Result<(), Wrong> {
     let name = "SOSNYAVIK_STRIDE";
     let stride = setting(name, None, STRIDE)?;

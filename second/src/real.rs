@@ -329,7 +329,7 @@ impl Cases {
         let all = [&round, &along, &round_listed, &along_listed, &round_checked, &along_checked];
         let accepted = || all.into_iter().flatten();
         let too_many = call(stations, &PLANS[0], false);
-        let plain = |text| TextCase { text, harm: None };
+        let plain = |text| TextCase { text, sorts: Vec::new() };
         let too_long = written_out(&too_many, Style::default()).into_bytes();
         let texts = round.iter().chain(&round_listed).chain(&round_checked);
         let texts = texts.map(Accepted::text).chain([too_long]);

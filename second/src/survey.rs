@@ -5,7 +5,7 @@ use crate::buddy_sorts;
 use crate::cases::{AnalysisCase, ReadingCase, SummaryCase, TextCase, WindowCase};
 use crate::compare::{run, run_over, run_two_at_a_time, Case, Run, Shared, Subject};
 use crate::field_case::FieldCase;
-use crate::near::{Edits, PAPER};
+use crate::near::Near;
 use crate::post_sorts::real_floors;
 use crate::real::{stations, Cases};
 use crate::rule_sorts;
@@ -84,14 +84,14 @@ pub fn compare_texts(
     report(outcome, &kind_of_seed::<TextCase>(seed), &TextCase::floors(), out)
 }
 
-/// Runs the texts that are one byte away from the paper's example through a
-/// program, two at a time: all deletions, and of the others every stride-th.
+/// Runs the texts that are one byte away from a given one through a program,
+/// two at a time: all deletions, and of the others every stride-th.
 pub fn compare_near(program: Shared, stride: u64, out: &mut dyn Write) -> Result<(), String> {
-    let edits = Edits::new(PAPER, stride);
-    writeln!(out, "stride {stride}, {}", edits.counts()).map_err(unprinted)?;
-    let outcome = run_two_at_a_time(program, &|index| edits.case(index), edits.count());
+    let near = Near::new(stride);
+    writeln!(out, "stride {stride}, {}", near.counts()).map_err(unprinted)?;
+    let outcome = run_two_at_a_time(program, &|index| near.case(index), near.count());
     let origin = Origin { kind: "near", of: format!("of stride {stride}") };
-    report(outcome, &origin, &edits.floors(), out)
+    report(outcome, &origin, &near.floors(), out)
 }
 
 /// Runs calls over the real stations of a data file.

@@ -3,11 +3,14 @@
 
 use crate::command::second;
 use crate::faulty::{Fault, Faulty};
+use crate::faulty_buddies::BuddyFault;
+use crate::faulty_lines::LineFault;
+use crate::sorts::numbers;
 use crate::{ANSWER, REQUEST};
 use second::cases::TextCase;
 use second::compare::{run, run_two_at_a_time, Answer, Case, Own, Subject};
 use second::harm::{floors, harm};
-use second::near::{Edits, PAPER, STRIDE};
+use second::near::{Edits, Near, CHECKED, GIVEN, PAPER, STRIDE};
 use second::program::Program;
 use second::rng::Rng;
 use second::survey::compare_near;
@@ -25,7 +28,7 @@ fn stand_in(fault: &str) -> String {
 
 fn difference(fault: &str) -> Option<String> {
     let program = Program::find(&stand_in(fault)).expect("it starts");
-    TextCase { text: REQUEST.into(), harm: None }.differs(&program)
+    TextCase { text: REQUEST.into(), sorts: Vec::new() }.differs(&program)
 }
 
 #[test]
@@ -57,8 +60,8 @@ fn compare_runs_a_program() {
     let output = second(&["compare", "near"], &environment, "");
     let said = String::from_utf8_lossy(&output.stdout).into_owned();
     assert!(output.status.success(), "{output:?}");
-    let counts = "186 of 186 deletions, 24 of 47872 insertions, 24 of 47430 substitutions";
-    assert!(said.starts_with(&format!("stride 2000, {counts}\nnear, 234 cases\n")), "{said}");
+    let counts = "345 of 345 deletions, 45 of 88832 insertions, 45 of 87975 substitutions";
+    assert!(said.starts_with(&format!("stride 2000, {counts}\nnear, 435 cases\n")), "{said}");
 }
 
 #[test]
@@ -143,42 +146,112 @@ fn harms_do_what_they_say() {
     assert_eq!(outcomes("text with"), [9; 13]);
 }
 
+/// The text with a check as it is answered with another one.
+fn checked_by(radius: i32, limit: i32) -> String {
+    let text = String::from_utf8_lossy(CHECKED).replacen("10,40", &format!("{radius},{limit}"), 1);
+    String::from_utf8(answer(text.as_bytes())).expect("answers are plain")
+}
+
 #[test]
-fn near_texts_are_all_one_byte_away() {
+fn the_given_texts_have_their_answers() {
     assert_eq!(PAPER, REQUEST.as_bytes());
     assert_eq!(answer(PAPER), ANSWER.as_bytes());
-    let whole = Edits::new(PAPER, 1);
-    assert_eq!((whole.whole(), whole.run()), ([186, 187 * 256, 186 * 255], whole.whole()));
-    let texts = |lengths: std::ops::Range<u64>| -> BTreeSet<Vec<u8>> {
-        lengths.map(|index| whole.case(index).text).collect()
+    // Without the first station the weights at the first point are 9,997, 9,289 and 9,215:
+    // 615,894 over 28,501 is 22, and the second scan takes 2 off it.
+    let scans = "row=20,31\nrow=22,25\nsup=3,3\nsup=1,1\n";
+    assert_eq!(checked_by(10, 40), format!("refusal=0\nplace=0\n{scans}ver=21,0,0,0\n"));
+}
+
+/// The first station is 9 units from the second and the third, 10 from the fourth, and 2
+/// times 50 less 9 and 9 is 82. The third is 1 unit from the fourth, and 18 less 98 is -80.
+#[test]
+fn another_check_gives_another_answer() {
+    let verdicts = |radius, limit| {
+        let answer = checked_by(radius, limit);
+        answer.lines().last().unwrap_or_default().to_string()
     };
-    let (deleted, inserted) = (186, 186 + 187 * 256);
-    let substitutions = texts(inserted..whole.count());
-    assert_eq!(substitutions.len(), 186 * 255, "no two alike");
-    for text in &substitutions {
-        assert_eq!(text.iter().zip(PAPER).filter(|(new, old)| new != old).count(), 1);
+    for radius in (1..10).chain(11..=512) {
+        assert_eq!(verdicts(radius, 40), "ver=0,0,0,0", "{radius}");
     }
-    // An insertion beside the same byte gives the same text on either side.
-    let insertions = texts(deleted..inserted);
-    assert_eq!(insertions.len(), 187 * 256 - 186);
-    assert!(insertions.iter().all(|text| text.len() == 187));
-    assert!(texts(0..deleted).iter().all(|text| text.len() == 185));
+    for limit in 0..40 {
+        assert_eq!(verdicts(10, limit), "ver=21,0,21,0", "{limit}");
+    }
+    for limit in (41..500).chain([2_000_000]) {
+        assert_eq!(verdicts(10, limit), "ver=0,0,0,0", "{limit}");
+    }
+}
+
+#[test]
+fn what_becomes_of_a_check_is_told() {
+    let told = |given, index: usize| {
+        let sorts = Edits::new(given, STRIDE).case(index as u64).sorts;
+        numbers(&sorts, "text near one with a check")
+    };
+    // The deletions come first, so they have the indices of their bytes.
+    let at = String::from_utf8_lossy(CHECKED).find("buddy=10,40\n").expect("it has a check");
+    let deleted: Vec<Vec<u32>> = (at..at + 12).map(|index| told(CHECKED, index)).collect();
+    let (other, out_of_range, not_in_form) = (vec![0], vec![1], vec![2]);
+    let key = vec![not_in_form.clone(); 6];
+    let radius = [out_of_range, other.clone(), not_in_form.clone()];
+    let limit = [other.clone(), other, not_in_form];
+    assert_eq!(deleted, [key, radius.to_vec(), limit.to_vec()].concat());
+    let station = String::from_utf8_lossy(CHECKED).find("50,1,0,2").expect("it has a station");
+    assert_eq!(told(CHECKED, station), [0; 0], "another answer by the same check");
+    assert_eq!(told(CHECKED, at - 1), [0; 0], "not in form a line before");
+    assert!((0..PAPER.len()).all(|index| told(PAPER, index).is_empty()));
+}
+
+#[test]
+fn near_texts_are_all_one_byte_away() {
+    for given in GIVEN {
+        let (whole, length) = (Edits::new(given, 1), given.len() as u64);
+        let edits = [length, (length + 1) * 256, length * 255];
+        assert_eq!((whole.whole(), whole.run()), (edits, edits));
+        let texts = |lengths: std::ops::Range<u64>| -> BTreeSet<Vec<u8>> {
+            lengths.map(|index| whole.case(index).text).collect()
+        };
+        let (deleted, inserted) = (edits[0], edits[0] + edits[1]);
+        let substitutions = texts(inserted..whole.count());
+        assert_eq!(substitutions.len() as u64, edits[2], "no two alike");
+        for text in &substitutions {
+            assert_eq!(text.iter().zip(given).filter(|(new, old)| new != old).count(), 1);
+        }
+        // An insertion beside the same byte gives the same text on either side.
+        let insertions = texts(deleted..inserted);
+        assert_eq!(insertions.len() as u64, edits[1] - length);
+        assert!(insertions.iter().all(|text| text.len() == given.len() + 1));
+        assert!(texts(0..deleted).iter().all(|text| text.len() == given.len() - 1));
+    }
 }
 
 #[test]
 fn the_sample_of_near_texts_meets_every_byte_and_place() {
-    let sample = Edits::new(PAPER, STRIDE);
-    let [deletions, insertions, substitutions] = sample.run();
-    assert!((3_500..4_500).contains(&sample.count()));
-    let place = |text: &[u8]| text.iter().zip(PAPER).position(|(new, old)| new != old);
-    let cases = |from: u64, count: u64| (from..from + count).map(|index| sample.case(index).text);
-    let bytes: BTreeSet<u8> = cases(deletions, insertions)
-        .map(|text| place(&text).map_or(text[186], |at| text[at]))
-        .collect();
-    assert_eq!(bytes.len(), 256);
-    let places: BTreeSet<_> =
-        cases(deletions + insertions, substitutions).map(|text| place(&text)).collect();
-    assert_eq!(places.len(), 186);
+    for given in GIVEN {
+        let sample = Edits::new(given, STRIDE);
+        let [deletions, insertions, substitutions] = sample.run();
+        assert!((3_500..4_500).contains(&sample.count()));
+        let place = |text: &[u8]| text.iter().zip(given).position(|(new, old)| new != old);
+        let cases =
+            |from: u64, count: u64| (from..from + count).map(|index| sample.case(index).text);
+        let bytes: BTreeSet<u8> = cases(deletions, insertions)
+            .map(|text| place(&text).map_or(text[given.len()], |at| text[at]))
+            .collect();
+        assert_eq!(bytes.len(), 256);
+        let places: BTreeSet<_> =
+            cases(deletions + insertions, substitutions).map(|text| place(&text)).collect();
+        assert_eq!(places.len(), given.len());
+    }
+}
+
+#[test]
+fn near_texts_are_those_of_all_given_texts() {
+    for stride in [1, STRIDE, 1_000] {
+        let near = Near::new(stride);
+        let all = GIVEN.map(|given| Edits::new(given, stride));
+        let texts = all.iter().flat_map(|edits| (0..edits.count()).map(|index| edits.case(index)));
+        let texts: Vec<TextCase> = texts.collect();
+        assert!((0..near.count()).map(|index| near.case(index)).eq(texts));
+    }
 }
 
 #[test]
@@ -188,6 +261,40 @@ fn near_texts_hold_their_floors() {
     }
     let said = compare_near(&Faulty(Fault::CarriageReturns), 1, &mut Vec::new());
     assert!(said.is_err_and(|said| said.contains("near case ") && said.contains("of stride 1: ")));
+}
+
+/// No text near the paper's example has a check.
+#[test]
+fn faults_of_checks_are_seen_near_a_given_text() {
+    use BuddyFault::*;
+    let of_checks = [
+        Ignored,
+        OneIsEnough,
+        ThreeAreNeeded,
+        AtTheRim,
+        LimitOnce,
+        AtTheLimit,
+        ForThisScanAlone,
+        VerdictFrom20,
+        PlaceOfAScan,
+        PlaceOfTheLastScan,
+        FiveForTheCheck,
+        Radius0Passes,
+    ];
+    let of_lines = [
+        LineFault::OneNumber,
+        LineFault::ThreeNumbers,
+        LineFault::Space,
+        LineFault::Unread,
+        LineFault::Exchanged,
+        LineFault::NineForOutOfRange,
+        LineFault::NextLineRefused,
+    ];
+    let faults = of_checks.into_iter().map(Fault::Buddies);
+    for fault in faults.chain(of_lines.map(Fault::Lines)) {
+        let said = compare_near(&Faulty(fault), STRIDE, &mut Vec::new());
+        assert!(said.is_err_and(|said| said.starts_with("near case ")), "{fault:?}");
+    }
 }
 
 fn tried(fault: &str) -> Output {

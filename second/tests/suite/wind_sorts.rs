@@ -1,10 +1,9 @@
 //! The sorts of winds and modes are told apart, and each has its floor.
 
 use crate::sorts::{held, numbers};
-use crate::{changed, lone_station, sample};
+use crate::{changed, lone_station, refused, sample};
 use second::call::{Call, Window, Winds};
 use second::generate::push_station;
-use second::refusals::check_analysis;
 use second::scheme::run;
 use second::sorts::Sort;
 use second::units::MISSING;
@@ -150,9 +149,8 @@ fn windows_in_mode_1_are_told_from_mode_0() {
 }
 
 /// The sorts of case (i) with something changed, which is refused.
-fn refused(change: impl FnOnce(&mut Call)) -> Vec<Sort> {
-    let call = changed(change);
-    let refusal = check_analysis(&call).expect_err("refused");
+fn told_refused(change: impl FnOnce(&mut Call)) -> Vec<Sort> {
+    let (call, refusal) = refused(change);
     of_refused(&call, &refusal)
 }
 
@@ -160,7 +158,7 @@ fn refused(change: impl FnOnce(&mut Call)) -> Vec<Sort> {
 fn wind_columns_are_told_apart() {
     let told = |u: usize, v: usize| {
         let winds = Winds { u: vec![0; u], v: vec![0; v] };
-        let sorts = refused(|call| call.winds = Some(winds));
+        let sorts = told_refused(|call| call.winds = Some(winds));
         ["refusal 4 by one", "refusal 4 by both"].map(|name| numbers(&sorts, name))
     };
     assert_eq!((told(2, 3), told(3, 2)), ([vec![0], vec![]], [vec![1], vec![]]));
@@ -172,7 +170,7 @@ fn wind_columns_are_told_apart() {
         ([vec![], vec![0]], [vec![], vec![1]], [vec![], vec![2]])
     );
     assert_eq!(told(2, 4), [const { vec![] }; 2], "each in its own way");
-    let others = refused(|call| {
+    let others = told_refused(|call| {
         call.winds = Some(Winds::missing(4));
         call.y.pop();
     });
@@ -182,7 +180,7 @@ fn wind_columns_are_told_apart() {
 #[test]
 fn bad_modes_are_told_apart() {
     let told = |mode, change: fn(&mut Call)| {
-        let sorts = refused(|call| {
+        let sorts = told_refused(|call| {
             call.mode = mode;
             change(call);
         });
@@ -202,7 +200,7 @@ fn bad_modes_are_told_apart() {
 #[test]
 fn bad_winds_are_told_apart() {
     let told = |mode: u32, row: usize, wind: (i32, i32), change: fn(&mut Call)| {
-        let sorts = refused(|call| {
+        let sorts = told_refused(|call| {
             call.mode = mode;
             let winds = call.winds_mut();
             (winds.u[row], winds.v[row]) = wind;
@@ -223,8 +221,8 @@ fn bad_winds_are_told_apart() {
     assert_eq!(told(1, 1, (0, MISSING), |call| call.x[1] = MISSING)[2], [0]);
     assert_eq!(told(1, 0, (0, MISSING), |call| call.x[1] = MISSING)[2], [1]);
     assert_eq!(told(1, 1, (0, MISSING), |call| call.x[0] = MISSING)[2], [2]);
-    assert_eq!(refused(|call| call.x[0] = MISSING), [], "no winds");
-    assert_eq!(refused(|call| (call.winds_mut().u[0], call.x[0]) = (MISSING, MISSING)), []);
+    assert_eq!(told_refused(|call| call.x[0] = MISSING), [], "no winds");
+    assert_eq!(told_refused(|call| (call.winds_mut().u[0], call.x[0]) = (MISSING, MISSING)), []);
 }
 
 #[test]
