@@ -41,7 +41,7 @@ const OFF_TOO: &str = "check that is off and bad with a fault of (a scan, first 
 
 const LINE: &str = "refusal 9 at the line of a check (one number, three, empty, a leading zero, \
     -0, a plus, a word, a strange byte, past i32, another key, before scans, before a scan, \
-    among rows, after rows, among stations, doubled, elsewhere, unended)";
+    among rows, after rows, among stations, doubled, elsewhere, unended, good where a scan is due)";
 
 /// The least of each sort, by its name and numbers in order; those of scans begin at 1.
 pub type Least = (&'static str, &'static [u64]);
@@ -75,7 +75,7 @@ const TEXT_LEAST: [Least; 9] = [
     (UNLIKE, &[690, 310, 70]),
     (SMOOTHED, &[340, 340]),
     (MODED, &[390, 290]),
-    (LINE, &[22, 33, 44, 31, 31, 31, 22, 40, 85, 34, 20, 58, 31, 31, 20, 46, 20, 20]),
+    (LINE, &[22, 33, 44, 31, 31, 31, 22, 40, 85, 34, 20, 58, 31, 31, 20, 46, 20, 20, 4]),
 ];
 
 pub fn floors_of(sorts: &[Least]) -> Vec<Floor> {
@@ -332,6 +332,9 @@ fn of_value(value: &[u8]) -> u32 {
     let digits = |field: &[u8]| !field.is_empty() && field.iter().all(u8::is_ascii_digit);
     let any = |is: &dyn Fn(&[u8]) -> bool| fields.iter().any(|field| is(field));
     let unsigned = |field: &[u8]| digits(field.strip_prefix(b"-").unwrap_or(field));
+    let zero_ahead = |digits: &[u8]| digits.len() > 1 && digits.starts_with(b"0");
+    // Digits, and a minus before them at most.
+    let is_past = |field: &[u8]| String::from_utf8_lossy(field).parse::<i32>().is_err();
     match fields.len() {
         _ if any(&<[u8]>::is_empty) => 2,
         1 => 0,
@@ -340,7 +343,9 @@ fn of_value(value: &[u8]) -> u32 {
         _ if any(&|field| field == b"-0") => 4,
         _ if any(&|field| field.starts_with(b"+")) => 5,
         _ if any(&|field| !unsigned(field)) => 6,
-        _ if any(&|field| field.len() > 1 && field.starts_with(b"0")) => 3,
-        _ => 8,
+        _ if any(&|field| zero_ahead(field.strip_prefix(b"-").unwrap_or(field))) => 3,
+        _ if any(&|field| is_past(field)) => 8,
+        // Nothing is: the text asks for more scans than it has.
+        _ => 18,
     }
 }

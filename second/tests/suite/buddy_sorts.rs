@@ -266,12 +266,33 @@ fn bad_lines_are_told_apart() {
 }
 
 #[test]
+fn good_lines_where_a_scan_is_due_are_told_apart() {
+    let told = |scans: &str, line: &str| {
+        let text = REQUEST.replacen("scans=1\n", scans, 1);
+        let text = text.replacen("row=", &format!("{line}row="), 1);
+        let refusal = parse(text.as_bytes()).err();
+        let sorts = refusal.map(|refusal| of_text(text.as_bytes(), &refusal)).unwrap_or_default();
+        numbers(&sorts, "refusal 9 at the line")
+    };
+    for value in ["9,9", "0,-1", "2147483647,-2147483648"] {
+        let line = format!("buddy={value}\n");
+        assert_eq!(told("scans=2\n", &line), [18], "{value}");
+        assert_eq!(told("scans=1\n", &line), [0; 0], "{value}, which is in form");
+    }
+    assert_eq!(told("scans=2\n", "buddy=9,2147483648\n"), [8], "by its value");
+    for value in ["2147483648,9", "-2147483649,9", "9,99999999999999999999"] {
+        assert_eq!(told("scans=1\n", &format!("buddy={value}\n")), [8], "{value}");
+    }
+    assert_eq!(told("scans=1\n", "buddy=9,-09\n"), [3], "and not past i32");
+}
+
+#[test]
 fn every_sort_of_a_check_has_a_floor() {
     let company = 4 + 4 + 2 + 4 + 2 + 2 + 2 + 16 + 11 + 4;
     let common = 4 + 6 + 2 + 3 + 2 + company;
     let of_calls = 4 + 4 + 4 + 8 + 8 + 3;
     assert_eq!(held(floors()), common + of_calls);
     assert_eq!(held(window_floors()), common + of_calls + 2 + 7);
-    assert_eq!(held(text_floors()), common + 2 + 2 + 2 + 18);
+    assert_eq!(held(text_floors()), common + 2 + 2 + 2 + 19);
     assert_eq!((held(real_floors()), held(real_text_floors())), (6, 6));
 }
