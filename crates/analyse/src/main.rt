@@ -1,11 +1,13 @@
 // The program `analyse` (document 01): standard input is a request, standard output its answer. All but reading and writing is `reply`.
+#![tactic(auto)]
+
 ghost use Rattle.std.specs.Prelude.{length};
 ghost use Rattle.analyse.specs.Input.{Within};
 
 use libc::{STDERR_FILENO, STDIN_FILENO, STDOUT_FILENO};
 
 // How many bytes came, or that a read failed.
-#[derive(Drop)]
+#[derive(Clone, Copy)]
 enum Came {
     Bytes(usize),
     Failed,

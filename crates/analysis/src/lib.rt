@@ -1,4 +1,6 @@
 // A request that is loaded, from a call or from a text (document 01): refused before anything is written, or analysed in the caller's own slices.
+#![tactic(auto)]
+
 ghost use Rattle.std.specs.Prelude.{length};
 ghost use Rattle.scheme.specs.Refusals.{in_order};
 ghost use Rattle.scheme.specs.Scan.{analysis};

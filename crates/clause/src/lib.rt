@@ -1,5 +1,7 @@
 // The exports of the archive (include/sosnyavik.h). The three calls on station columns test what goes by lengths and counts, load the
 // columns once, and hand the request on; nothing is written before it is accepted. They answer refusal·65,536 + place.
+#![tactic(auto)]
+
 ghost use Rattle.scheme.specs.Units.{asking};
 ghost use Rattle.scheme.specs.Refusals.{window_at};
 ghost use Rattle.scheme.specs.Promises.{eight_columns, slices, Analyses, tile, Queries, four_columns, QueriesEach, ReadsKind, ReadsValue, Summarises};

@@ -1,4 +1,6 @@
 // A field read at a position, as a double (document 01, "Readings as doubles").
+#![tactic(auto)]
+
 ghost use Rattle.std.specs.Prelude.{◌≡◌, ◌&&◌, ◌-◌, ◌*◌, ◌≤◌, length, pos, nat_abs};
 ghost use Rattle.scheme.specs.Units.{field_of, step};
 ghost use Rattle.scheme.specs.Accepted.{Shaped};

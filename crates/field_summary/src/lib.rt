@@ -1,4 +1,6 @@
 // The summary of a field (document 01, "Readings as doubles").
+#![tactic(auto)]
+
 ghost use Rattle.std.specs.Prelude.{◌≡◌, ◌<◌, length};
 ghost use Rattle.scheme.specs.Readings.{units_of};
 ghost use Rattle.scheme.specs.Promises.{Summarises};
@@ -12,7 +14,7 @@ const PARTS_OF_VALUE: u32 = 64;
 
 // The lowest and the highest value so far. They go from call to call in a struct, so that a loop's invariant speaks of numbers and not of
 // bits.
-#[derive(Drop)]
+#[derive(Clone, Copy)]
 struct Ends {
     low: i32,
     high: i32,

@@ -1,5 +1,7 @@
 // Whether a position is on the grid or near it, its place there, and the value of a field at that (document 01, "One scan", Value at a station;
 // document 02, request 1).
+#![tactic(auto)]
+
 ghost use Rattle.std.specs.Prelude.{◌≡◌, ◌+◌, ◌-◌, ◌*◌, ◌≤◌, length, pos, nat_abs, ◌+ℤ◌, ◌*ℤ◌};
 ghost use Rattle.scheme.specs.Units.{most_side, field_of, step, most_beyond};
 ghost use Rattle.scheme.specs.Rounding.{rounded};
@@ -77,7 +79,7 @@ fn blended(a: u32, b: u32, p: i32, q: i32, r: i32, s: i32) -> i64
 }
 
 // Where a position lies in a stored field: the place of the lower corner of its cell, and how far past that corner it is.
-#[derive(Drop)]
+#[derive(Clone, Copy)]
 pub struct Spot {
     pub corner: usize,
     pub a: u32,

@@ -104,9 +104,9 @@ module _ {A B : Type 0} {K : A → B → Type 0} {G : A → Type 0} where
         → Parted K' G' (each_from f ws xs) (each_from g zs ys)
     unfolding each_from
     each_from_parted p end = end
-    each_from_parted p (kept {a = a} {b = b} h r) =
-        kept (fk a b _ _ h (append_parted p r)) (each_from_parted (append_parted p (kept h end)) r)
-    each_from_parted p (gone {a = a} h r) = gone (fg a _ h) (each_from_parted (gone_last p h) r)
+    each_from_parted {ws = ws} {zs = zs} p (kept {a = a} {b = b} h r) =
+        kept (fk a b _ _ h (append_parted p r)) (each_from_parted {ws = ws ++ a ∷ []} {zs = zs ++ b ∷ []} (append_parted p (kept h end)) r)
+    each_from_parted {ws = ws} p (gone {a = a} h r) = gone (fg a _ h) (each_from_parted {ws = ws ++ a ∷ []} (gone_last p h) r)
 
     pub each_parted : {xs : List A} {ys : List B} → Parted K G xs ys → Parted K' G' (each f xs) (each g ys)
     unfolding each

@@ -1,5 +1,7 @@
 // The refusal table (documents 01 and 02): its rows in their order, and the first that refuses, with its place. Rows 1 to 5 are tested on what
 // a call is handed, before its station columns are loaded; rows 6 to 8 search the request that was loaded.
+#![tactic(auto)]
+
 ghost use Rattle.std.specs.Prelude.{◌≡◌, ◌+◌, ◌*◌, ◌≤◌, ◌<◌};
 ghost use Rattle.scheme.specs.Refusals.{in_order, most_windows};
 ghost use Rattle.scheme.specs.Accepted.{Shaped, from_six, Formed};

@@ -1,4 +1,6 @@
 // Rows 6 to 8 of the refusal table (documents 01 and 02): the first bad entry of a plan, its buddy check, the first bad value of a first guess, row of the station list.
+#![tactic(auto)]
+
 ghost use Rattle.std.specs.Prelude.{◌≡◌, not, ◌&&◌, ◌≤◌, ◌<◌, length};
 ghost use Rattle.lists.specs.Tab.{tab};
 ghost use Rattle.lists.specs.First.{first, first_in, ended};

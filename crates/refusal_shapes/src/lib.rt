@@ -1,5 +1,7 @@
 // Rows 1 to 5 of the refusal table (documents 01 and 02): a test for each, on lengths, counts and the ends of windows. No column of stations is read.
 // Comparisons are joined by | and &, which make them all: there is no branch to prove, and each is the definition's.
+#![tactic(auto)]
+
 ghost use Rattle.std.specs.Prelude.{◌≡◌, not, ◌||◌, false, eqb, ◌≤◌};
 ghost use Rattle.lists.specs.First.{first_in, ended};
 ghost use Rattle.scheme.specs.Units.{most_side, no_buddies, asking};
@@ -9,7 +11,7 @@ ghost use Rattle.request.specs.Tables.{window_in, windows_in, OnScreen};
 ghost use Rattle.refusal_shapes.specs.Tested.{lengths_of, unequal_screen, unequal_columns, bad_scan_count};
 
 // What a call is handed, by lengths and counts.
-#[derive(Drop)]
+#[derive(Clone, Copy)]
 pub struct Lengths {
     pub nx: usize,
     pub ny: usize,

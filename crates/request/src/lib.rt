@@ -1,5 +1,7 @@
 // A request as it is handed on: its terms in one struct, its stations as rows of two tables, numbers and minutes; and a window, or the windows of a
 // screen. Each column that a call is lent is read here, once.
+#![tactic(auto)]
+
 ghost use Rattle.std.specs.Prelude.{◌≡◌, true, [], ◌≤◌, length};
 ghost use Rattle.lists.specs.Tab.{tab};
 ghost use Rattle.lists.specs.Filled.{Filled};
@@ -50,7 +52,7 @@ pub const MOST_WINDOWS: usize = 16;
 pub const MOST_SCANS: usize = 6;
 
 // All of a request but its first guess and its stations' rows. Entries of radius and limit past the count of scans are not read.
-#[derive(Drop)]
+#[derive(Clone, Copy)]
 pub struct Terms {
     pub nx: usize,
     pub ny: usize,
@@ -69,7 +71,7 @@ pub struct Terms {
 }
 
 // A window's four ends, which are inside it.
-#[derive(Drop)]
+#[derive(Clone, Copy)]
 pub struct Window {
     pub left: usize,
     pub right: usize,
@@ -78,7 +80,7 @@ pub struct Window {
 }
 
 // The windows of a screen: the first so many of sixteen.
-#[derive(Drop)]
+#[derive(Clone, Copy)]
 pub struct Screen {
     pub windows: [Window; 16],
     pub count: usize,

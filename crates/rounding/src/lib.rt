@@ -1,9 +1,11 @@
 // Weighted sums on i64, their rounded quotient (document 01, "One scan", Rounding), and sizes.
+#![tactic(auto)]
+
 ghost use Rattle.std.specs.Prelude.{◌≡◌, ◌*◌, ◌≤◌, ◌<◌, pos, nat_abs, ◌+ℤ◌, ◌*ℤ◌};
 ghost use Rattle.scheme.specs.Rounding.{rounded};
 
 // A total so far. It goes from call to call in a struct, so that a loop's invariant speaks of the number and not of its bits.
-#[derive(Drop)]
+#[derive(Clone, Copy)]
 pub struct Total {
     pub t: i64,
 }

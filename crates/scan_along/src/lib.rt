@@ -1,4 +1,6 @@
 // Sums and corrections at the points of a grid by weights that are stretched along each station's wind (document 02, 5).
+#![tactic(auto)]
+
 ghost use Rattle.std.specs.Prelude.{◌≡◌, ℕ, ◌+◌, ◌*◌, ◌≤◌, ◌<◌, false, [], get_or, pos, nat_abs};
 ghost use Rattle.lists.specs.Sums.{up_to};
 ghost use Rattle.lists.specs.Filled.{Filled};
@@ -22,7 +24,7 @@ const PART: usize = 1;
 
 const STRENGTH: usize = 2;
 
-#[derive(Drop)]
+#[derive(Clone, Copy)]
 pub struct Wind {
     pub u: i32,
     pub v: i32,

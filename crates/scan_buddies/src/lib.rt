@@ -1,5 +1,7 @@
 // The buddy check (document 02, 7): after a scan's E test each survivor is held to the others within B of it. The survivors are put into chains by
 // cells of the plane, so that a station asks those of its own cell and of the eight around it, and no others.
+#![tactic(auto)]
+
 ghost use Rattle.std.specs.Prelude.{◌≡◌, List, [], ℕ, ◌+◌, ◌*◌, ◌≤◌, ◌<◌, length, get_or, pos, nat_abs, ◌-ℤ◌};
 ghost use Rattle.lists.specs.Filled.{Filled};
 ghost use Rattle.lists.specs.Chains.{Chained};
@@ -18,7 +20,7 @@ const ACROSS: usize = 38;
 const NO_CELL: usize = 1444;
 
 // How many neighbours a station hears, and the sum of their D.
-#[derive(Drop)]
+#[derive(Clone, Copy)]
 struct Told {
     count: u32,
     sum: i64,

@@ -1,4 +1,6 @@
 // One correction of a whole grid (document 01, "One scan", Correction), in the plan's mode (document 02, 5) and under its rule (document 02, 6).
+#![tactic(auto)]
+
 ghost use Rattle.std.specs.Prelude.{◌≡◌, ◌*◌};
 ghost use Rattle.scheme.specs.Units.{stored};
 ghost use Rattle.scan_point.specs.Near.{stations_with};

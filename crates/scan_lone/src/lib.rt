@@ -1,5 +1,7 @@
-// What the sum of typeof.weight.D at a point is divided by under rule 2 (document 02, 6): whether exactly one station is inside the radius, by the lists of
+// What the sum of weight·D at a point is divided by under rule 2 (document 02, 6): whether exactly one station is inside the radius, by the lists of
 // the stations near a grid row that both modes have.
+#![tactic(auto)]
+
 ghost use Rattle.std.specs.Prelude.{◌≡◌, ℕ, ◌+◌, ◌-◌, ◌*◌, ◌≤◌, ◌<◌};
 ghost use Rattle.lists.specs.Sums.{up_to};
 ghost use Rattle.scheme.specs.Units.{most_side, most_stations, listing_rule};
@@ -64,7 +66,7 @@ fn how_many(lx: &[i32; 512], ly: &[u32; 512], n: usize, i: usize, r2: u32) -> us
     inside_of_rest(inside, lx, ly, n, t, i, r2)
 }
 
-// What the sum of typeof.weight.D is divided by under rule 2 at column i of a grid row, w the sum of weights there; 0 where that is 0. It can be the scale only
+// What the sum of weight·D is divided by under rule 2 at column i of a grid row, w the sum of weights there; 0 where that is 0. It can be the scale only
 // where w is no more than one station's weight: elsewhere none are counted.
 pub fn divisor(w: u64, lx: &[i32; 512], ly: &[u32; 512], n: usize, i: usize, r2: u32) -> u64
     requires { (w ≤ most_weights) × (n ≤ most_stations) × (i < most_side) × ((t : ℕ) → t < n → Placed lx.now ly.now t)

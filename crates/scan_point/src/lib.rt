@@ -1,5 +1,7 @@
 // Sums and corrections at the points of a grid (document 01, "One scan", Correction; document 02, 6): what both modes share, and those by the round
 // weight.
+#![tactic(auto)]
+
 ghost use Rattle.std.specs.Prelude.{◌≡◌, ℕ, ◌+◌, ◌*◌, ◌≤◌, ◌<◌, cond, ltb, get_or, set, pos, nat_abs, ◌+ℤ◌, ◌*ℤ◌};
 ghost use Rattle.lists.specs.Sums.{up_to};
 ghost use Rattle.lists.specs.Filled.{Filled};
@@ -13,8 +15,8 @@ ghost use Rattle.scan_point.specs.Pass.{row_z, row_s, moved_by, PointReady, RowR
 
 use request::Terms;
 
-// The sum of weights, and the sum of typeof.weight.D.
-#[derive(Drop)]
+// The sum of weights, and the sum of weight·D.
+#[derive(Clone, Copy)]
 pub struct Sums {
     pub w: u64,
     pub wd: i64,
@@ -118,7 +120,7 @@ fn point_sums(
     rest_sums(s.w, s.wd, lx, ly, ld, n, t, i, r2)
 }
 
-// A point's value after its correction, the sum of typeof.weight.D divided by w; 0 if that is 0.
+// A point's value after its correction, the sum of weight·D divided by w; 0 if that is 0.
 fn moved(z: i32, w: u64, wd: i64) -> i32
     requires { (nat_abs z ≤ most_field) × (w ≤ most_weights) × (nat_abs wd ≤ most_limit * w) }
     ensures { result ≡ z +ℤ moved_by w wd }
@@ -179,7 +181,7 @@ fn near_row(
     n
 }
 
-// A point's new value and support, at its place in the grid, the sum of typeof.weight.D divided by w.
+// A point's new value and support, at its place in the grid, the sum of weight·D divided by w.
 pub fn set_point(z: &mut [i32], support: &mut [u8], p: usize, w: u64, wd: i64, bit: u8)
     requires { PointReady z.old support.old p bit × (w ≤ most_weights) × (nat_abs wd ≤ most_limit * w) }
     ensures { (z.new ≡ set z.old p (get_or z.old p (pos 0) +ℤ moved_by w wd))

@@ -1,4 +1,6 @@
 // Smoothing of the whole field, in place (document 01, "One scan", Smoothing; document 02, request 4).
+#![tactic(auto)]
+
 ghost use Rattle.std.specs.Prelude.{◌≡◌, ◌+◌, ◌-◌, ◌*◌, ◌≤◌, ◌<◌, length, get_or, pos, nat_abs};
 ghost use Rattle.lists.specs.Filled.{Filled};
 ghost use Rattle.scheme.specs.Units.{most_side, stored, field_of};

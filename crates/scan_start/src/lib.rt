@@ -1,5 +1,7 @@
 // The start of the work on an accepted request (document 01, "Verdicts before the first scan"): the first guess, no support and the first
 // verdicts, in the slices that the results go to.
+#![tactic(auto)]
+
 ghost use Rattle.std.specs.Prelude.{◌≡◌, ◌*◌, ◌≤◌, length};
 ghost use Rattle.lists.specs.Tab.{tab};
 ghost use Rattle.scheme.specs.Units.{most_stations};

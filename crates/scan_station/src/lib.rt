@@ -1,4 +1,6 @@
 // How a scan judges the stations (document 01, "One scan", Difference; document 02, request 1).
+#![tactic(auto)]
+
 ghost use Rattle.std.specs.Prelude.{◌≡◌, ◌≤◌, length, pos, nat_abs};
 ghost use Rattle.lists.specs.Filled.{Filled};
 ghost use Rattle.scheme.specs.Units.{most_scans};

@@ -1,4 +1,6 @@
 // The verdict of a row before the first scan (document 01, "Verdicts before the first scan"; document 02, request 1).
+#![tactic(auto)]
+
 ghost use Rattle.std.specs.Prelude.{◌≡◌, List, ◌≤◌, ℤ};
 ghost use Rattle.scheme.specs.Units.{most_side, most_beyond};
 ghost use Rattle.scheme.specs.Verdicts.{serves, out_of_service, before_scans};

@@ -1,5 +1,7 @@
 // The weight of a station at a point (document 01, "One scan", Weight; document 02, 3): the round one, and the one stretched along a wind
 // (document 02, 5).
+#![tactic(auto)]
+
 ghost use Rattle.std.specs.Prelude.{◌≡◌, cond, ltb, ◌+◌, ◌*◌, ◌≤◌, ◌<◌, nat_abs, ◌-ℤ◌};
 ghost use Rattle.scheme.specs.Weight.{square, weight};
 ghost use Rattle.scheme.specs.Most.{most_square};

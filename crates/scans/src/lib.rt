@@ -1,4 +1,6 @@
 // The work on an accepted request (document 01, "One scan"): the start, then the scans of the plan, in the slices that the results go to.
+#![tactic(auto)]
+
 ghost use Rattle.std.specs.Prelude.{◌≡◌, length};
 ghost use Rattle.lists.specs.Filled.{Filled};
 ghost use Rattle.scheme.specs.Units.{most_stations, R, E};

@@ -185,8 +185,8 @@ digits_over a [] none h = refl
 digits_over a (b ∷ rest) none h = rw (h, digits)
 digits_over a rest (more {a = x} {xs = ds} d r) h = rw (d, digits) (digits_over (10 * a + (x - 48)) rest r h)
 
-is_digit : (d : ℕ) → d < 10 → is_digit (digit d) ≡ true
-is_digit d h = rw (le-leb 48 (48 + d) (omega arith), le-leb (48 + d) 57 (omega arith))
+is-digit : (d : ℕ) → d < 10 → is_digit (digit d) ≡ true
+is-digit d h = rw (le-leb 48 (48 + d) (omega arith), le-leb (48 + d) 57 (omega arith))
 
 digits_last : {ds : List ℕ} (b : ℕ) → Digits ds → is_digit b ≡ true → Digits (ds ++ (b ∷ []))
 digits_last b none h = more h none
@@ -217,7 +217,7 @@ front = digit_ind Front one next
           low = f.low;
           some = λ k. f.some (omega arith);
           high = f.high;
-          all = digits_last (digit (n % 10)) f.all (is_digit (n % 10) (omega arith));
+          all = digits_last (digit (n % 10)) f.all (is-digit (n % 10) (omega arith));
         }
 
 module _ (n : ℕ) (rest : List ℕ) (h : Stops rest) where

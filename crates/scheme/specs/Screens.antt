@@ -269,9 +269,9 @@ module _ (c : Call) (s : Screen) (equal : bad_screen s ≡ false) (some : 0 < le
   abbrev all : Tile
   all = whole_at_each (asked c) (windows_of s)
 
-  in_order : singles ≡ tab n (λ k. single c (window_on s k))
+  in-order : singles ≡ tab n (λ k. single c (window_on s k))
   unfolding windows_of
-  in_order = map-tab (single c) n (window_on s)
+  in-order = map-tab (single c) n (window_on s)
 
   -- the screen
   outcome : ◌≡◌ {A = ℕ × Tile} (answer, left) (as_one (of_singles singles), unless_refused (of_singles singles) all found)
@@ -288,7 +288,7 @@ module _ (c : Call) (s : Screen) (equal : bad_screen s ≡ false) (some : 0 < le
       ∙ ap (λ (r : Refusal). (as_one r, unless_refused r (whole_at (asked c) (window_on s k)) (each.found k))) (ap₂ (window_refusal c (window_on s k)) (each.fits k h).grid_long (each.fits k h).support_long)
 
   accepted_each : of_singles singles ≡ accepted → (k : ℕ) → k < n → single c (window_on s k) ≡ accepted
-  accepted_each e = all-at (λ r. r ≡ accepted) n _ (rw in_order at (singly_accepted singles e))
+  accepted_each e = all-at (λ r. r ≡ accepted) n _ (rw in-order at (singly_accepted singles e))
 
   in-turn : of_singles singles ≡ accepted → all ≡ tile (join_to n (λ k. (each.left k).grid)) (join_to n (λ k. (each.left k).support))
   unfolding windows_of
@@ -305,7 +305,7 @@ module _ (c : Call) (s : Screen) (equal : bad_screen s ≡ false) (some : 0 < le
       record {
         refusal = ap (λ (o : ℕ × Tile). o.0) outcome;
         their_refusals = λ k h. ap (λ (o : ℕ × Tile). o.0) (outcome_of k h);
-        accepted_where_all_are = (accepted_each, λ h. none_refuses singles (rw in_order (all_below (λ r. r ≡ accepted) n _ h)));
+        accepted_where_all_are = (accepted_each, λ h. none_refuses singles (rw in-order (all_below (λ r. r ≡ accepted) n _ h)));
         leaves_in_turn = λ e. ap (λ (o : ℕ × Tile). o.1) outcome ∙ rw e (in-turn e);
         or_writes_nothing = λ number place e. ap (λ (o : ℕ × Tile). o.1) outcome ∙ rw e;
       }

@@ -1,4 +1,6 @@
 // The answer to a request (document 01): its refusal, or its analysis, as text.
+#![tactic(auto)]
+
 ghost use Rattle.std.specs.Prelude.{◌≡◌, length};
 ghost use Rattle.scheme.specs.Promises.{slices, Stands};
 ghost use Rattle.scheme.specs.Text.{most_bytes, reply_text};

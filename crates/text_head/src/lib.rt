@@ -1,5 +1,7 @@
 // The head of the request text (document 01): the lines before the scans; and the line of the buddy check (document 02, 7), which stands after
 // them.
+#![tactic(auto)]
+
 ghost use Rattle.std.specs.Prelude.{◌≡◌, ◌+◌, ◌≤◌, ◌<◌, ◌^◌, drop};
 ghost use Rattle.scheme.specs.Units.{no_buddies};
 ghost use Rattle.scheme.specs.Text.Reader.{reads};
@@ -17,7 +19,7 @@ const DEFAULT_AGE: u32 = 120;
 const DEFAULT_RULE: u32 = request::EQUATIONS;
 
 // What a line that may be left out says, or what that means; the number of the line after it, and its place.
-#[derive(Drop)]
+#[derive(Clone, Copy)]
 struct Optional {
     value: u32,
     line: u32,
@@ -25,7 +27,7 @@ struct Optional {
 }
 
 // What the lines before the scans say; the number of the line after them, and its place.
-#[derive(Drop)]
+#[derive(Clone, Copy)]
 pub struct Head {
     pub nx: u32,
     pub ny: u32,
@@ -38,14 +40,14 @@ pub struct Head {
     pub next: usize,
 }
 
-#[derive(Drop)]
+#[derive(Clone, Copy)]
 pub enum HeadRead {
     Value(Head),
     NotInForm(u32),
 }
 
 // What the line of the buddy check says, or that the check is off; the number of the line after it, and its place.
-#[derive(Drop)]
+#[derive(Clone, Copy)]
 pub struct Buddy {
     pub on: bool,
     pub radius: i32,

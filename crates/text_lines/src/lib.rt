@@ -1,4 +1,6 @@
 // Lines of the request text (document 01), one at a time: each at a place of the text.
+#![tactic(auto)]
+
 ghost use Rattle.std.specs.Prelude.{◌≡◌, ◌<◌, length, drop, [], ◌∷◌};
 ghost use Rattle.scheme.specs.Units.{most_stations};
 ghost use Rattle.scheme.specs.Text.Reader.{◌before◌};
@@ -11,13 +13,13 @@ ghost use Rattle.text_lines.specs.Told.{Sizes, entry_told, values_told};
 use text_pieces::{SignedRead, UnsignedRead, WordRead};
 
 // What a line says and the place after it, or that it is not in form.
-#[derive(Drop)]
+#[derive(Clone, Copy)]
 pub enum SizeRead {
     Value(u32, u32, usize),
     NotInForm,
 }
 
-#[derive(Drop)]
+#[derive(Clone, Copy)]
 pub enum EntryRead {
     Value(i32, i32, usize),
     NotInForm,

@@ -1,4 +1,6 @@
 // Pieces of a line of the request text (document 01): a word and the numbers of each type, read at a place of the text.
+#![tactic(auto)]
+
 ghost use Rattle.std.specs.Prelude.{◌≡◌, [], ◌∷◌, ℕ, ◌+◌, ◌-◌, ◌*◌, ◌≤◌, min, drop};
 ghost use Rattle.scheme.specs.Text.Reader.{reads};
 ghost use Rattle.scheme.specs.Text.Pieces.{word, digits, positive, natural, count, negative, signed};
@@ -6,33 +8,33 @@ ghost use Rattle.scheme.specs.RoundTrip.{is_digit};
 ghost use Rattle.text_pieces.specs.Told.{word_told, natural_told, unsigned_told, signed_told, follows, Within, Lies, most, capped};
 
 // What reading a piece gives: what it says with the place after it, or that it is not in form.
-#[derive(Drop)]
+#[derive(Clone, Copy)]
 pub enum WordRead {
     At(usize),
     NotInForm,
 }
 
 // A number of any length: what is greater than 2^32 is not told apart from it.
-#[derive(Drop)]
+#[derive(Clone, Copy)]
 enum NaturalRead {
     Value(u64, usize),
     NotInForm,
 }
 
-#[derive(Drop)]
+#[derive(Clone, Copy)]
 pub enum UnsignedRead {
     Value(u32, usize),
     NotInForm,
 }
 
-#[derive(Drop)]
+#[derive(Clone, Copy)]
 pub enum SignedRead {
     Value(i32, usize),
     NotInForm,
 }
 
 // Digits, as far as they go.
-#[derive(Drop)]
+#[derive(Clone, Copy)]
 struct Run {
     value: u64,
     next: usize,

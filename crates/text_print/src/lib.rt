@@ -1,5 +1,7 @@
 // The answer text (document 01): numbers, keyed lines and the rows of a grid, put into the caller's bytes from a place on.
 // Each function answers the place after what it put.
+#![tactic(auto)]
+
 ghost use Rattle.std.specs.Prelude.{◌≡◌, [], ◌∷◌, ◌+◌, ◌*◌, ◌≤◌, ◌<◌, length, nat_abs};
 ghost use Rattle.scheme.specs.Text.{first_two, analysis_text};
 ghost use Rattle.scheme.specs.Text.Pieces.{ascii, mark};

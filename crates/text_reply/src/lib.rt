@@ -1,4 +1,6 @@
 // The answer to any text (document 01): the text is read into terms and tables, and these are analysed.
+#![tactic(auto)]
+
 ghost use Rattle.std.specs.Prelude.{◌≡◌, length};
 ghost use Rattle.scheme.specs.Units.{most_scans};
 ghost use Rattle.scheme.specs.Most.{most_points};

@@ -1,4 +1,6 @@
 // The request text (document 01): its lines in their order, read into the caller's tables, or the first line not in form.
+#![tactic(auto)]
+
 ghost use Rattle.std.specs.Prelude.{◌≡◌, ◌+◌, ◌*◌, ◌≤◌, ◌<◌, ◌^◌, length, take, drop};
 ghost use Rattle.scheme.specs.Units.{most_scans, most_stations};
 ghost use Rattle.scheme.specs.Most.{most_points};
@@ -13,14 +15,14 @@ use text_lines::EntryRead;
 use text_pieces::{UnsignedRead, WordRead};
 
 // Where lines end, or the first of them that is not in form.
-#[derive(Drop)]
+#[derive(Clone, Copy)]
 enum LinesRead {
     Next(usize),
     NotInForm(u32),
 }
 
 // What the head and the line of the buddy check say and how many stations there are, or the first line not in form.
-#[derive(Drop)]
+#[derive(Clone, Copy)]
 pub enum RequestRead {
     Value(Head, Buddy, u32),
     NotInForm(u32),

@@ -1,5 +1,7 @@
 // Smoothing by itself, for the tests: through an analysis a field comes nowhere near the ends of what smoothing is proved for. It is in an
 // archive of its own, which nobody is handed.
+#![tactic(auto)]
+
 ghost use Rattle.std.specs.Prelude.{◌≡◌, ◌≤◌, length};
 ghost use Rattle.lists.specs.Members.{every};
 ghost use Rattle.scheme.specs.Most.{most_points};

@@ -1,4 +1,6 @@
 // A window query that is loaded (document 01, "Reach of a window"): the analysis of the cut alone, and of it the window's points.
+#![tactic(auto)]
+
 ghost use Rattle.std.specs.Prelude.{◌≡◌, ◌≤◌, length};
 ghost use Rattle.scheme.specs.Refusals.{in_order};
 ghost use Rattle.scheme.specs.Reach.{whole_at};

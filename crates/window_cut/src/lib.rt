@@ -1,4 +1,6 @@
 // What the cut holds: its stations, and its part of a field (document 01, "Reach of a window").
+#![tactic(auto)]
+
 ghost use Rattle.std.specs.Prelude.{◌≡◌, ◌+◌, length, pos};
 ghost use Rattle.lists.specs.Filled.{Filled};
 ghost use Rattle.scheme.specs.Units.{stored, most_stations};

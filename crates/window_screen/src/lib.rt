@@ -1,5 +1,7 @@
 // A screen of windows that is loaded (document 02, request 2): the request is tested once, and the windows are served by their cuts, or all of
 // them by one whole analysis where the cuts together have more points than the grid.
+#![tactic(auto)]
+
 ghost use Rattle.std.specs.Prelude.{◌≡◌, ◌*◌, length};
 ghost use Rattle.scheme.specs.Refusals.{in_order};
 ghost use Rattle.scheme.specs.Reach.{reach, whole_at_each};

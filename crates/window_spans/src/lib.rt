@@ -1,5 +1,7 @@
 // The reach of a window, the cut, and a station's row on it (document 01, "Reach of a window"; document 02,
 // requests 1 and 7).
+#![tactic(auto)]
+
 ghost use Rattle.std.specs.Prelude.{◌≡◌, cond, ◌+◌, ◌-◌, ◌*◌, ◌/◌, ◌≤◌, min, pos, nat_abs, ◌-ℤ◌};
 ghost use Rattle.scheme.specs.Units.{most_side, step, most_position, most_radius, most_buddy_radius};
 ghost use Rattle.scheme.specs.Reach.{reach, widened, on_span};

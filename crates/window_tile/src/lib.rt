@@ -1,4 +1,6 @@
 // Windows out of a whole analysis (document 01, "Reach of a window"; document 02, request 2).
+#![tactic(auto)]
+
 ghost use Rattle.std.specs.Prelude.{◌≡◌, length};
 ghost use Rattle.scheme.specs.Reach.{in_turn, whole_at_each};
 ghost use Rattle.scheme.specs.Promises.{tile};

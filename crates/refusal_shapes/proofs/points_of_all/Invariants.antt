@@ -1,0 +1,16 @@
+use Prim.Native.Nat.{ℕ, ◌+◌, ◌-◌, ◌≤◌}
+use native.Mathlib.Omega.{arith}
+use mathlib.Core.Path.{◌≡◌, refl, sym, ap, ap₂, ◌∙◌}
+use Rattle.lists.specs.Sums.{up_to, up_to_next}
+use Rattle.lists.specs.Turns.{sum_to, sum-tab, sum-most}
+use Rattle.scheme.specs.Refusals.{points_of}
+use Rattle.scheme.specs.Most.{most_points}
+use Rattle.scheme.specs.Accepted.{few_points}
+use Rattle.request.specs.Tables.{window_no}
+use Rattle.refusal_shapes.proofs.points_of_all.Given as goal
+
+abbrev pub invariant-loop-k : goal.invariant-loop-k
+invariant-loop-k l = (l.k ≤ l.screen.count) × (l.points ≡ sum_to l.k (λ m. points_of (window_no l.screen m)))
+
+abbrev pub decreases-loop-k : goal.decreases-loop-k
+decreases-loop-k l = l.screen.count - l.k

@@ -1,0 +1,17 @@
+use borrow.Author.Rules.{rules}
+use Prim.Native.Nat.{◌+◌, ◌-◌, ◌*◌, ◌≤◌}
+use native.Mathlib.Omega.{arith}
+use mathlib.Core.Path.{◌≡◌}
+use lib.ListN.{length}
+use Rattle.scheme.specs.Stored.{row_in}
+use Rattle.scheme.specs.Text.Pieces.{ascii}
+use Rattle.scheme.specs.Text.Printed.{integer, keyed, grid_lines}
+use Rattle.text_print.specs.Written.{Left, all_left, none_left, room_next, put_next}
+use Rattle.text_print.specs.Rows.{row_part, row_long, lines_from, lines_begin, lines_next, lines_done}
+use Rattle.text_print.proofs.row_lines.Given as goal
+
+abbrev pub invariant-loop-j : goal.invariant-loop-j
+invariant-loop-j l = (l.j ≤ l.ny) × Left l.initial.out l.at (grid_lines (ascii "row=") integer l.nx l.ny l.z) l.out l.p (lines_from integer (ascii "row=") l.nx l.ny l.z l.j)
+
+abbrev pub decreases-loop-j : goal.decreases-loop-j
+decreases-loop-j l = l.ny - l.j
