@@ -1,6 +1,6 @@
 #!/usr/bin/env python3
 """Brings the repository's own definitions and lemmas to today's spelling, once, right after port.py: words in snake case; a dash only between two
-names, as in length-tab; types and facts, and the letters of the paper (R, E, B, L, D, T, A), as they are. Functions of src/ keep their names.
+operations, as in length-tab; types and facts, and the letters of the paper (R, E, B, L, D, T, A), as they are. Functions of src/ keep their names.
 
 usage: python3 tools/respell.py [--list]     at the top of the repository; --list prints the map and writes nothing
 """
@@ -10,11 +10,11 @@ import re
 import sys
 
 # where a lemma in plain words would fall together with a definition, or with another name of its file, it keeps its dashes
-KEEP = set("all-judged bad-at bad-shape cell-of for-its-window in-form in-range in-turn is-accepted most-field most-pulls most-weights no-station on-grid on-span window-of".split())
+KEEP = set("after-within in-order is-digit most-difference most-reach off-grid positive-zero two-masts all-judged bad-at bad-shape cell-of for-its-window in-form in-range in-turn is-accepted most-field most-pulls most-weights no-station on-grid on-span window-of".split())
 DECLARES = re.compile(
     r"^\s*(?:(abbrev|unfoldable)\s+)?(?:pub\s+)?(?:(abbrev|data|record)\s+)?([^\s:(){}=.,\[\]|@]+(?: [^\s:(){}=.,\[\]|@]+)*)\s+(?:\{[^}]*\}\s*)?(?:\([^:]*:[^)]*\)\s*)*:\s")
-# words of std that name a function or an operation, beside our own definitions
-STD = set("length take drop map get_or filter fold sum reverse append add sub mul div mod min max neg not and or cond set nth zero suc pos negsuc nil cons".split())
+# operations on lists and numbers: std's, and ours that build lists
+STD = set("length take drop map get_or append add sub mul div neg set tab each each_from keep stored".split())
 WORD = re.compile(r"[A-Za-z0-9_'ℤℕ][A-Za-z0-9_'ℤℕ\-]*")
 
 
@@ -56,12 +56,10 @@ def snake(word):
 
 
 def respelled(name, of_data):
-    parts = name.split("-")
-    out = snake(parts[0])
-    for left, right in zip(parts, parts[1:]):
-        both = name not in of_data and {left, right} <= (of_data | STD)
-        out += ("-" if both else "_") + snake(right)
-    return out
+    """A dash stays only in the name of a law of one operation on another, as length-tab and map-append."""
+    parts = [snake(p) for p in name.split("-")]
+    law = len(parts) == 2 and set(parts) <= STD and name not in of_data
+    return ("-" if law else "_").join(parts)
 
 
 def targets():

@@ -11,7 +11,7 @@ use Rattle.scheme.specs.Accepted.{from_six, Formed, Fits, FitsWindow, FitsScreen
 use Rattle.request.specs.declared.Terms.{Terms}
 use Rattle.request.specs.declared.Screen.{Screen as Windows}
 use Rattle.request.specs.Tables.{station_in, request_in, window_no, windows_in, OnScreen}
-use Rattle.request.specs.Loaded.{Termed, Held, held, formed, same_refusal, same-analysis, same-window, same_screen}
+use Rattle.request.specs.Loaded.{Termed, Held, held, formed, same_refusal, same_analysis, same_window, same_screen}
 use Rattle.refusal.specs.Lengths.{Handed, Passed, WindowPassed, ScreenPassed}
 
 module _ (c : Call) (t : Terms) (numbers : List (List ℤ)) (minutes : List (List ℕ))
@@ -41,7 +41,7 @@ module _ (c : Call) (t : Terms) (numbers : List (List ℤ)) (minutes : List (Lis
 
     pub settles : (found : Analysis) {left : Analysis} {r : ℕ} → Settles (in_order (from_six q)) (analysis q) found r left
         → Settles (analysis_refusal c grid support verdict) (analysis (asked c)) found r left
-    settles found s = rw (p.rest, ← (same_refusal loaded), ← (same-analysis loaded)) s
+    settles found s = rw (p.rest, ← (same_refusal loaded), ← (same_analysis loaded)) s
 
   -- ---- the window query
 
@@ -51,7 +51,7 @@ module _ (c : Call) (t : Terms) (numbers : List (List ℤ)) (minutes : List (Lis
 
     pub window_settles : (found : Tile) {left : Tile} {r : ℕ} → Settles (in_order (from_six q)) (whole_at q w) found r left
         → Settles (window_refusal c w grid support) (whole_at (asked c) w) found r left
-    window_settles found s = rw (p.rest, ← (same_refusal loaded), ← (same-window loaded w)) s
+    window_settles found s = rw (p.rest, ← (same_refusal loaded), ← (same_window loaded w)) s
 
   -- ---- a screen
 

@@ -25,9 +25,9 @@ module _ (nx ny : ℕ) (z : Field ℤ) (support : Field ℕ) (x y : ℤ) where
     unfolding reading_in
     backed e = rw (on, e)
 
-    pub not-backed : is_backed nx ny support (place nx x) (place ny y) ≡ false → here (FirstGuess (double (sum_at nx ny z (place nx x) (place ny y)) 262144))
+    pub not_backed : is_backed nx ny support (place nx x) (place ny y) ≡ false → here (FirstGuess (double (sum_at nx ny z (place nx x) (place ny y)) 262144))
     unfolding reading_in
-    not-backed e = rw (on, e)
+    not_backed e = rw (on, e)
 
 -- ---- of any field
 

@@ -55,6 +55,6 @@ module _ (nx ny : ℕ) (field : List ℤ) where
   unfolding summary summary_refusal refused_with
   summary_refused e = rw e
 
-  pub summary-given : (units : Units) → bad_shape nx ny (length field) ≡ false → units ≡ units_of field → record { refusal = 0; place = 0; units = units } ≡ summary nx ny field
+  pub summary_given : (units : Units) → bad_shape nx ny (length field) ≡ false → units ≡ units_of field → record { refusal = 0; place = 0; units = units } ≡ summary nx ny field
   unfolding summary summary_refusal refused_with
-  summary-given units e u = rw (e, u)
+  summary_given units e u = rw (e, u)

@@ -4,7 +4,7 @@ use Rattle.std.proofs.Common.{arith, sym, ◌∙◌, inl, inr, le-leb}
 use Rattle.std.proofs.lemmas.Bool.{lt-leb}
 use Rattle.std.specs.Int.Signed.{le_z, lt_z, non_neg}
 use Rattle.integers.specs.Parts.{up, dn, add_parts, minus_parts}
-use Rattle.integers.specs.Order.{less_parts, not_less_parts, most_parts, not-most_parts}
+use Rattle.integers.specs.Order.{less_parts, not_less_parts, most_parts, not_most_parts}
 use Rattle.lists.specs.Tests.{lt_or_le, true_or_false}
 use Rattle.scheme.specs.Units.{step}
 use Rattle.scheme.specs.Verdicts.{near_axis}
@@ -19,7 +19,7 @@ as_naturals a b c d f g = go (true_or_false (le_z a b)) (lt_or_le d c)
     go : (le_z a b ≡ true) ⊎ (le_z a b ≡ false) → (d < c) ⊎ (c ≤ d) → le_z a b ≡ leb c d
     go (inl e) l = e ∙ sym (le-leb c d (f (most_parts a b e)))
     go (inr e) (inl l) = e ∙ sym (lt-leb c d l)
-    go (inr e) (inr l) = absurd (omega (arith, not-most_parts a b e, g l))
+    go (inr e) (inr l) = absurd (omega (arith, not_most_parts a b e, g l))
 
 pub near_is : (off n : ℕ) (x : ℤ) → le_z (pos 0 -ℤ pos off) x && le_z x (pos (step * (n - 1)) +ℤ pos off) ≡ near_axis off n x
 unfolding near_axis

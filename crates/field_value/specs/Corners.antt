@@ -5,7 +5,7 @@ use Rattle.scheme.specs.Units.{most_side, field_of, step}
 use Rattle.scheme.specs.Value.{cell, corners, sum_at}
 use Rattle.scheme.specs.Most.{most_points}
 use Rattle.scheme.specs.Accepted.{Shaped}
-use Rattle.scheme.specs.Cells.{cell-inside, cell_low, cell_high}
+use Rattle.scheme.specs.Cells.{cell_inside, cell_low, cell_high}
 
 unfoldable pub blend : (a b : ℕ) → (p q r s : ℤ) → ℤ
 blend a b p q r s =
@@ -33,8 +33,8 @@ pub in_cell : (nx ny x y : ℕ) → Shaped nx ny (nx * ny) → x ≤ step * (nx 
     → InCell nx ny x y m n
 in_cell nx ny x y shape on_x on_y m n em en =
     record {
-      left = omega (arith, cell-inside nx x shape.two_columns, shape.few_columns);
-      top = omega (arith, cell-inside ny y shape.two-rows, shape.few_rows);
+      left = omega (arith, cell_inside nx x shape.two_columns, shape.few_columns);
+      top = omega (arith, cell_inside ny y shape.two_rows, shape.few_rows);
       from_x = omega (arith, cell_low nx x);
       from_y = omega (arith, cell_low ny y);
       few = mul-le-mul shape.few_columns shape.few_rows;
@@ -43,8 +43,8 @@ in_cell nx ny x y shape on_x on_y m n em en =
         a_is = rw em;
         b_is = rw en;
         a_few = omega (arith, cell_high nx x shape.two_columns on_x);
-        b_few = omega (arith, cell_high ny y shape.two-rows on_y);
-        last = corner_in (omega (arith, cell-inside nx x shape.two_columns)) (omega (arith, cell-inside ny y shape.two-rows));
+        b_few = omega (arith, cell_high ny y shape.two_rows on_y);
+        last = corner_in (omega (arith, cell_inside nx x shape.two_columns)) (omega (arith, cell_inside ny y shape.two_rows));
       };
     }
   where

@@ -10,7 +10,7 @@ two_steps k n b some =
     ap (λ (m : ℕ). m / b) parts ∙ add-mul-div_right (k * (n % b)) (k * (n / b)) some ∙ omega arith
 
 -- a fraction that is no larger, by products crosswise, has no larger whole part
-pub whole-part_order : (a b c d : ℕ) → 0 < b → 0 < d → a * d ≤ c * b → a / b ≤ c / d
-whole-part_order a b c d some-b some-d h =
+pub whole_part_order : (a b c d : ℕ) → 0 < b → 0 < d → a * d ≤ c * b → a / b ≤ c / d
+whole_part_order a b c d some-b some-d h =
     (le-div_iff_mul-le {k = d} some-d).1
     (le_of_mul-le-mul_right {m = a / b * d} {n = c} {k = b} (omega (arith, mul-le-mul_right d (div-mul-le_self a b))) some-b)

@@ -25,8 +25,8 @@ most_parts (pos a) (negsuc b) e = absurd (never (cc))
 most_parts (negsuc a) (pos b) e = omega arith
 most_parts (negsuc a) (negsuc b) e = omega (arith, leb-true b a e)
 
-pub not-most_parts : (a b : ℤ) → le_z a b ≡ false → up b + dn a < up a + dn b
-not-most_parts (pos a) (pos b) e = omega (arith, leb-false a b e)
-not-most_parts (pos a) (negsuc b) e = omega arith
-not-most_parts (negsuc a) (pos b) e = absurd (never e)
-not-most_parts (negsuc a) (negsuc b) e = omega (arith, leb-false b a e)
+pub not_most_parts : (a b : ℤ) → le_z a b ≡ false → up b + dn a < up a + dn b
+not_most_parts (pos a) (pos b) e = omega (arith, leb-false a b e)
+not_most_parts (pos a) (negsuc b) e = omega arith
+not_most_parts (negsuc a) (pos b) e = absurd (never e)
+not_most_parts (negsuc a) (negsuc b) e = omega (arith, leb-false b a e)

@@ -40,23 +40,23 @@ add_parts (pos a) (negsuc b) = omega (arith, sub_parts a (suc b))
 add_parts (negsuc a) (pos b) = omega (arith, sub_parts b (suc a))
 add_parts (negsuc a) (negsuc b) = omega arith
 
-pub neg-up : (a : ℤ) → up (neg_ℤ a) ≡ dn a
-neg-up (pos zero) = refl
-neg-up (pos (suc n)) = refl
-neg-up (negsuc n) = refl
+pub neg_up : (a : ℤ) → up (neg_ℤ a) ≡ dn a
+neg_up (pos zero) = refl
+neg_up (pos (suc n)) = refl
+neg_up (negsuc n) = refl
 
-pub neg-dn : (a : ℤ) → dn (neg_ℤ a) ≡ up a
-neg-dn (pos zero) = refl
-neg-dn (pos (suc n)) = refl
-neg-dn (negsuc n) = refl
+pub neg_dn : (a : ℤ) → dn (neg_ℤ a) ≡ up a
+neg_dn (pos zero) = refl
+neg_dn (pos (suc n)) = refl
+neg_dn (negsuc n) = refl
 
 pub minus_parts : (a b : ℤ) → up (a -ℤ b) + (dn a + up b) ≡ dn (a -ℤ b) + (up a + dn b)
-minus_parts a b = omega (arith, add_parts a (neg_ℤ b), neg-up b, neg-dn b)
+minus_parts a b = omega (arith, add_parts a (neg_ℤ b), neg_up b, neg_dn b)
 
 pub mul_parts : (a b : ℤ) → up (a *ℤ b) + (up a * dn b + dn a * up b) ≡ dn (a *ℤ b) + (up a * up b + dn a * dn b)
 mul_parts (pos a) (pos b) = omega arith
-mul_parts (pos a) (negsuc b) = omega (arith, neg-up (pos (a * suc b)), neg-dn (pos (a * suc b)))
-mul_parts (negsuc a) (pos b) = omega (arith, neg-up (pos (suc a * b)), neg-dn (pos (suc a * b)))
+mul_parts (pos a) (negsuc b) = omega (arith, neg_up (pos (a * suc b)), neg_dn (pos (a * suc b)))
+mul_parts (negsuc a) (pos b) = omega (arith, neg_up (pos (suc a * b)), neg_dn (pos (suc a * b)))
 mul_parts (negsuc a) (negsuc b) = omega arith
 
 pub size_parts : (a : ℤ) → nat_abs a ≡ up a + dn a

@@ -33,18 +33,18 @@ pub record Walked {S : Type 0} (nil : S) (plus : S → S → S) (kind : ℕ → 
 -- ---- laws
 
 module _ (kind : ℕ → ℕ) (c : ℕ) where
-  last-here : (k : ℕ) → kind k ≡ c → last kind c (suc k) ≡ suc k
+  last_here : (k : ℕ) → kind k ≡ c → last kind c (suc k) ≡ suc k
   unfolding last
-  last-here k e = rw (eq-eqb (kind k) c e)
+  last_here k e = rw (eq-eqb (kind k) c e)
 
-  last-before : (k : ℕ) → (kind k ≡ c → ⊥) → last kind c (suc k) ≡ last kind c k
+  last_before : (k : ℕ) → (kind k ≡ c → ⊥) → last kind c (suc k) ≡ last kind c k
   unfolding last
-  last-before k e = rw (ne_eqb (kind k) c e)
+  last_before k e = rw (ne_eqb (kind k) c e)
 
-  pub last-most : (n : ℕ) → last kind c n ≤ n
+  pub last_most : (n : ℕ) → last kind c n ≤ n
   unfolding last
-  last-most zero = omega arith
-  last-most (suc k) = go (true_or_false (eqb (kind k) c)) (last-most k)
+  last_most zero = omega arith
+  last_most (suc k) = go (true_or_false (eqb (kind k) c)) (last_most k)
     where
       go : (eqb (kind k) c ≡ true) ⊎ (eqb (kind k) c ≡ false) → last kind c k ≤ k → cond (eqb (kind k) c) (suc k) (last kind c k) ≤ suc k
       go (inl e) h = rw e (omega arith)
@@ -57,15 +57,15 @@ module _ (kind : ℕ → ℕ) (c : ℕ) where
     where
       go : (eqb (kind k) c ≡ true) ⊎ (eqb (kind k) c ≡ false) → last kind c (last kind c k) ≡ last kind c k
           → last kind c (last kind c (suc k)) ≡ last kind c (suc k)
-      go (inl e) h = let s = last-here k (eqb-true (kind k) c e) in ap (last kind c) s
-      go (inr e) h = rw (last-before k (eqb-false (kind k) c e)) h
+      go (inl e) h = let s = last_here k (eqb-true (kind k) c e) in ap (last kind c) s
+      go (inr e) h = rw (last_before k (eqb-false (kind k) c e)) h
 
   pub in_kind : (k : ℕ) → last kind c (suc k) ≡ suc k → kind k ≡ c
   in_kind k e = go (true_or_false (eqb (kind k) c))
     where
       go : (eqb (kind k) c ≡ true) ⊎ (eqb (kind k) c ≡ false) → kind k ≡ c
       go (inl t) = eqb-true (kind k) c t
-      go (inr t) = absurd (omega (arith, last-before k (eqb-false (kind k) c t), last-most k, e))
+      go (inr t) = absurd (omega (arith, last_before k (eqb-false (kind k) c t), last_most k, e))
 
 -- ---- a loop makes them
 
@@ -89,10 +89,10 @@ module _ (kind : ℕ → ℕ) (kinds : ℕ) where
           go (inl t) =
               let e = eqb-true (kind n) b t in
               let s : b ≡ c = sym (ec ∙ e) in
-              ap (λ (i : ℕ). get_or (set heads c m) i 0) s ∙ get_or-set_same heads c m 0 wide ∙ sym (ap (last kind b) next_is ∙ last-here kind b n e ∙ sym next_is)
+              ap (λ (i : ℕ). get_or (set heads c m) i 0) s ∙ get_or-set_same heads c m 0 wide ∙ sym (ap (last kind b) next_is ∙ last_here kind b n e ∙ sym next_is)
           go (inr t) =
               let e = eqb-false (kind n) b t in
-              get_or-set_other heads c b m 0 (λ (q : b ≡ c). e (sym (q ∙ ec))) ∙ p.head b h ∙ sym (ap (last kind b) next_is ∙ last-before kind b n e)
+              get_or-set_other heads c b m 0 (λ (q : b ≡ c). e (sym (q ∙ ec))) ∙ p.head b h ∙ sym (ap (last kind b) next_is ∙ last_before kind b n e)
 
       link : (k : ℕ) → k < m → get_or (set next n v) k 0 ≡ last kind (kind k) k
       link k h = go (lt_or_le k n)
@@ -110,26 +110,26 @@ module _ {S : Type 0} (nil : S) (plus : S → S → S) (plus_nil : (t : S) → p
   abbrev sum_to : ℕ → S
   sum_to = sum_of nil plus kind c f
 
-  sum-here : (k : ℕ) → kind k ≡ c → sum_to (suc k) ≡ plus (sum_to k) (f k)
+  sum_here : (k : ℕ) → kind k ≡ c → sum_to (suc k) ≡ plus (sum_to k) (f k)
   unfolding sum_of up_to
-  sum-here k e = rw (eq-eqb (kind k) c e)
+  sum_here k e = rw (eq-eqb (kind k) c e)
 
-  sum-other : (k : ℕ) → (kind k ≡ c → ⊥) → sum_to (suc k) ≡ sum_to k
+  sum_other : (k : ℕ) → (kind k ≡ c → ⊥) → sum_to (suc k) ≡ sum_to k
   unfolding sum_of up_to
-  sum-other k e = rw (ne_eqb (kind k) c e) (plus_nil _)
+  sum_other k e = rw (ne_eqb (kind k) c e) (plus_nil _)
 
   -- past the last there are none
-  sum-last : (n : ℕ) → sum_to (last kind c n) ≡ sum_to n
-  sum-last zero = unfold last in refl
-  sum-last (suc k) = go (true_or_false (eqb (kind k) c)) (sum-last k)
+  sum_last : (n : ℕ) → sum_to (last kind c n) ≡ sum_to n
+  sum_last zero = unfold last in refl
+  sum_last (suc k) = go (true_or_false (eqb (kind k) c)) (sum_last k)
     where
       go : (eqb (kind k) c ≡ true) ⊎ (eqb (kind k) c ≡ false) → sum_to (last kind c k) ≡ sum_to k → sum_to (last kind c (suc k)) ≡ sum_to (suc k)
-      go (inl e) h = let s = last-here kind c k (eqb-true (kind k) c e) in ap sum_to s
-      go (inr e) h = let s = last-before kind c k (eqb-false (kind k) c e) in ap sum_to s ∙ h ∙ sym (sum-other k (eqb-false (kind k) c e))
+      go (inl e) h = let s = last_here kind c k (eqb-true (kind k) c e) in ap sum_to s
+      go (inr e) h = let s = last_before kind c k (eqb-false (kind k) c e) in ap sum_to s ∙ h ∙ sym (sum_other k (eqb-false (kind k) c e))
 
   -- from what was there before
   pub walk_start : (n : ℕ) (before : S) → Walked nil plus kind c f n (last kind c n) before (plus before (sum_to n))
-  walk_start n before = record { no_more = last-most kind c n; in_chain = last_again kind c n; sum = ap (plus before) (sum-last n) }
+  walk_start n before = record { no_more = last_most kind c n; in_chain = last_again kind c n; sum = ap (plus before) (sum_last n) }
 
   pub walk_turn : (n r k : ℕ) (so_far all : S) → r ≡ suc k → Walked nil plus kind c f n r so_far all
       → (kind k ≡ c) × Walked nil plus kind c f n (last kind (kind k) k) (plus so_far (f k)) all
@@ -140,11 +140,11 @@ module _ {S : Type 0} (nil : S) (plus : S → S → S) (plus_nil : (t : S) → p
 
       rest : plus (plus so_far (f k)) (sum_to (last kind c k)) ≡ all
       rest =
-          ap (plus (plus so_far (f k))) (sum-last k) ∙ assoc so_far (f k) (sum_to k)
-          ∙ ap (plus so_far) (comm (f k) (sum_to k) ∙ sym (sum-here k here)) ∙ sym (ap (λ (i : ℕ). plus so_far (sum_to i)) er) ∙ w.sum
+          ap (plus (plus so_far (f k))) (sum_last k) ∙ assoc so_far (f k) (sum_to k)
+          ∙ ap (plus so_far) (comm (f k) (sum_to k) ∙ sym (sum_here k here)) ∙ sym (ap (λ (i : ℕ). plus so_far (sum_to i)) er) ∙ w.sum
 
       next : Walked nil plus kind c f n (last kind c k) (plus so_far (f k)) all
-      next = record { no_more = omega (arith, last-most kind c k, w.no_more); in_chain = last_again kind c k; sum = rest }
+      next = record { no_more = omega (arith, last_most kind c k, w.no_more); in_chain = last_again kind c k; sum = rest }
 
       subst_kind : Walked nil plus kind c f n (last kind (kind k) k) (plus so_far (f k)) all
       subst_kind = rw here next

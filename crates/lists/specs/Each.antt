@@ -7,7 +7,7 @@ use Rattle.std.proofs.Math.Bool.{cond}
 use mathlib.Core.List.{List, [], ◌∷◌, ◌++◌, map, append_assoc}
 use Rattle.std.proofs.Math.Dec.{eqb-zero-suc, eqb-suc-zero, eqb-suc-suc}
 use Rattle.lists.specs.Tab.{tab, length-tab, get_or_tab, is_tab}
-use Rattle.lists.specs.Sums.{total, up_to, front, up_to_same, total-tab}
+use Rattle.lists.specs.Sums.{total, up_to, front, up_to_same, total_tab}
 use Rattle.lists.specs.Members.{All, none, more}
 use Rattle.lists.specs.Parted.{each_from, each}
 
@@ -42,14 +42,14 @@ module _ {A B : Type 0} (f : A → List A → B) where
 
   -- what holds of f of each, whatever the others are
   module _ (P : A → Type 0) (Q : B → Type 0) (so : (a : A) (others : List A) → P a → Q (f a others)) where
-    all-each_from : (ws : List A) {xs : List A} → All P xs → All Q (each_from f ws xs)
+    all_each_from : (ws : List A) {xs : List A} → All P xs → All Q (each_from f ws xs)
     unfolding each_from
-    all-each_from ws none = none
-    all-each_from ws (more {a = a} {xs = xs} h r) = more (so a (ws ++ xs) h) (all-each_from (ws ++ (a ∷ [])) r)
+    all_each_from ws none = none
+    all_each_from ws (more {a = a} {xs = xs} h r) = more (so a (ws ++ xs) h) (all_each_from (ws ++ (a ∷ [])) r)
 
-    pub all-each : {xs : List A} → All P xs → All Q (each f xs)
+    pub all_each : {xs : List A} → All P xs → All Q (each f xs)
     unfolding each
-    all-each r = all-each_from [] r
+    all_each r = all_each_from [] r
 
 -- ---- of a list made from another
 
@@ -79,9 +79,9 @@ module _ {A B : Type 0} (turn : A → B) (f : A → List A → A) (f' : B → Li
         ap (λ (zs : List B). each_from f' zs (map turn xs)) (sym (map-append turn ws (a ∷ []))) ∙ each_from_turned (ws ++ (a ∷ [])) xs,
       )
 
-  pub each-turned : (xs : List A) → each f' (map turn xs) ≡ map turn (each f xs)
+  pub each_turned : (xs : List A) → each f' (map turn xs) ≡ map turn (each f xs)
   unfolding each
-  each-turned xs = each_from_turned [] xs
+  each_turned xs = each_from_turned [] xs
 
 -- of a table
 pub each-tab : {A B : Type 0} (f : A → List A → B) (o : B) (n : ℕ) (r : ℕ → A) → each f (tab n r) ≡ tab n (λ k. f (r k) (without k (tab n r)))
@@ -94,16 +94,16 @@ each-tab f o n r = is_tab o n _ (each f (tab n r)) (length-each f (tab n r) ∙ 
 
 -- ---- the total over the others of a table: over its index, but for one
 
-module _ {S : Type 0} (nil : S) (plus : S → S → S) (nil-plus : (t : S) → plus nil t ≡ t) (plus_nil : (t : S) → plus t nil ≡ t)
+module _ {S : Type 0} (nil : S) (plus : S → S → S) (nil_plus : (t : S) → plus nil t ≡ t) (plus_nil : (t : S) → plus t nil ≡ t)
     (assoc : (a b c : S) → plus (plus a b) c ≡ plus a (plus b c)) {A : Type 0} (g : A → S) where
-  pub total-without : (n k : ℕ) (r : ℕ → A) → total nil plus g (without k (tab n r)) ≡ up_to nil plus n (λ j. cond (eqb j k) nil (g (r j)))
+  pub total_without : (n k : ℕ) (r : ℕ → A) → total nil plus g (without k (tab n r)) ≡ up_to nil plus n (λ j. cond (eqb j k) nil (g (r j)))
   unfolding without tab total
-  total-without zero k r = unfold up_to in refl
-  total-without (suc n) zero r =
-      total-tab nil plus nil-plus plus_nil assoc g n (λ j. r (suc j))
+  total_without zero k r = unfold up_to in refl
+  total_without (suc n) zero r =
+      total_tab nil plus nil_plus plus_nil assoc g n (λ j. r (suc j))
       ∙ up_to_same nil plus n _ (λ j. cond (eqb (suc j) 0) nil (g (r (suc j)))) (λ j h. rw (eqb-suc-zero j))
-      ∙ sym (front nil plus nil-plus plus_nil assoc n (λ j. cond (eqb j 0) nil (g (r j))) ∙ nil-plus _)
-  total-without (suc n) (suc k) r =
-      ap (plus (g (r 0))) (total-without n k (λ j. r (suc j)) ∙ up_to_same nil plus n _ (λ j. cond (eqb (suc j) (suc k)) nil (g (r (suc j)))) (λ j h. rw (eqb-suc-suc j k)))
-      ∙ sym (front nil plus nil-plus plus_nil assoc n (λ j. cond (eqb j (suc k)) nil (g (r j)))
+      ∙ sym (front nil plus nil_plus plus_nil assoc n (λ j. cond (eqb j 0) nil (g (r j))) ∙ nil_plus _)
+  total_without (suc n) (suc k) r =
+      ap (plus (g (r 0))) (total_without n k (λ j. r (suc j)) ∙ up_to_same nil plus n _ (λ j. cond (eqb (suc j) (suc k)) nil (g (r (suc j)))) (λ j h. rw (eqb-suc-suc j k)))
+      ∙ sym (front nil plus nil_plus plus_nil assoc n (λ j. cond (eqb j (suc k)) nil (g (r j)))
       ∙ ap (λ (b : Bool). plus (cond b nil (g (r 0))) (up_to nil plus n (λ j. cond (eqb (suc j) (suc k)) nil (g (r (suc j)))))) (eqb-zero-suc k))

@@ -54,10 +54,10 @@ good_more n m bad e g h k l = go (lt_or_le k n)
     go (inl p) = g k p
     go (inr p) = let q : k ≡ n = omega arith in rw q h
 
-pub good-first : (n : ℕ) (bad : ℕ → Bool) → Good n bad → first n bad ≡ nowhere
+pub good_first : (n : ℕ) (bad : ℕ → Bool) → Good n bad → first n bad ≡ nowhere
 unfolding first or_next
-good-first zero bad g = refl
-good-first (suc n) bad g = rw (good-first n bad (λ k h. g k (omega arith)), g n (omega arith))
+good_first zero bad g = refl
+good_first (suc n) bad g = rw (good_first n bad (λ k h. g k (omega arith)), g n (omega arith))
 
 pub bad_first : (n : ℕ) (bad : ℕ → Bool) (k : ℕ) → FirstAt n bad k → first n bad ≡ at k
 unfolding first or_next
@@ -68,15 +68,15 @@ bad_first (suc n) bad k f = go (lt_or_le k n) (λ p. bad_first n bad k (record {
     go (inl p) r = rw (r p)
     go (inr p) r =
         let e : n ≡ k = omega (arith, f.inside) in
-        rw e (rw (good-first k bad f.before, f.here))
+        rw e (rw (good_first k bad f.before, f.here))
 
 -- and what was found is so
 pub data Search (n : ℕ) (bad : ℕ → Bool) : Type 0 where
-  all-good : first n bad ≡ nowhere → Good n bad → Search n bad
+  all_good : first n bad ≡ nowhere → Good n bad → Search n bad
   bad-at : (k : ℕ) → first n bad ≡ at k → FirstAt n bad k → Search n bad
 
 pub search : (n : ℕ) (bad : ℕ → Bool) → Search n bad
-search zero bad = all-good (unfold first in refl) (λ k h. absurd (omega arith))
+search zero bad = all_good (unfold first in refl) (λ k h. absurd (omega arith))
 search (suc n) bad = go (search n bad) (true_or_false (bad n))
   where
     bad_here : Good n bad → bad n ≡ true → FirstAt (suc n) bad n
@@ -87,16 +87,16 @@ search (suc n) bad = go (search n bad) (true_or_false (bad n))
 
     go : Search n bad → (bad n ≡ true) ⊎ (bad n ≡ false) → Search (suc n) bad
     go (bad-at k e f) b = bad-at k (bad_first (suc n) bad k (later k f)) (later k f)
-    go (all-good e g) (inl t) = bad-at n (bad_first (suc n) bad n (bad_here g t)) (bad_here g t)
-    go (all-good e g) (inr t) =
+    go (all_good e g) (inl t) = bad-at n (bad_first (suc n) bad n (bad_here g t)) (bad_here g t)
+    go (all_good e g) (inr t) =
         let h : Good (suc n) bad = good_more n (suc n) bad (omega arith) g t in
-        all-good (good-first (suc n) bad h) h
+        all_good (good_first (suc n) bad h) h
 
 pub first_good : (n : ℕ) (bad : ℕ → Bool) → first n bad ≡ nowhere → Good n bad
 first_good n bad e = go (search n bad)
   where
     go : Search n bad → Good n bad
-    go (all-good q g) = g
+    go (all_good q g) = g
     go (bad-at k q f) = absurd (let z : ◌≡◌ {A = ℕ} 0 1 = cc in omega arith)
 
 -- how a search ends
@@ -104,7 +104,7 @@ pub ends_at : (n : ℕ) (bad : ℕ → Bool) (k : ℕ) → k < n → Good k bad 
 ends_at n bad k h g b = rw (lt-ltb k n h) (sym (bad_first n bad k (record { inside = h; here = b; before = g })))
 
 pub ends_past : (n : ℕ) (bad : ℕ → Bool) (k : ℕ) → n ≤ k → Good n bad → ended n k ≡ first n bad
-ends_past n bad k h g = rw (le-ltb k n h) (sym (good-first n bad g))
+ends_past n bad k h g = rw (le-ltb k n h) (sym (good_first n bad g))
 
 -- ---- a search of a list is one of its places
 
@@ -130,34 +130,34 @@ module _ {A : Type 0} (bad : A → Bool) (o : A) where
   in_places l = go (search (length l) (bad_at l))
     where
       go : Search (length l) (bad_at l) → first_in bad l ≡ first (length l) (bad_at l)
-      go (all-good e g) = from_good l 0 g ∙ sym e
+      go (all_good e g) = from_good l 0 g ∙ sym e
       go (bad-at k e f) = from_bad l 0 k f ∙ ap at (let n : 0 + k ≡ k = omega arith in n) ∙ sym e
 
-pub first-same : (n : ℕ) (p q : ℕ → Bool) → ((k : ℕ) → k < n → p k ≡ q k) → first n p ≡ first n q
+pub first_same : (n : ℕ) (p q : ℕ → Bool) → ((k : ℕ) → k < n → p k ≡ q k) → first n p ≡ first n q
 unfolding first
-first-same zero p q h = refl
-first-same (suc n) p q h = rw (first-same n p q (λ k l. h k (omega arith)), h n (omega arith))
+first_same zero p q h = refl
+first_same (suc n) p q h = rw (first_same n p q (λ k l. h k (omega arith)), h n (omega arith))
 
 pub in_table : {A : Type 0} (bad : A → Bool) (n : ℕ) (f : ℕ → A) → first_in bad (tab n f) ≡ first n (λ k. bad (f k))
 in_table bad n f =
     in_places bad (f 0) (tab n f)
     ∙ ap (λ (m : ℕ). first m (λ k. bad (get_or (tab n f) k (f 0)))) (length-tab n f)
-    ∙ first-same n (λ k. bad (get_or (tab n f) k (f 0))) (λ k. bad (f k)) (λ k h. ap bad (get_or_tab n f k (f 0) h))
+    ∙ first_same n (λ k. bad (get_or (tab n f) k (f 0))) (λ k. bad (f k)) (λ k h. ap bad (get_or_tab n f k (f 0) h))
 
 -- a search of what is made of a list, and one by the same tests
-pub first-map : {A B : Type 0} (bad : B → Bool) (f : A → B) (k : ℕ) (l : List A) → first_from k bad (map f l) ≡ first_from k (λ a. bad (f a)) l
+pub first_map : {A B : Type 0} (bad : B → Bool) (f : A → B) (k : ℕ) (l : List A) → first_from k bad (map f l) ≡ first_from k (λ a. bad (f a)) l
 unfolding first_from
-first-map bad f k [] = refl
-first-map bad f k (a ∷ l) = rw (first-map bad f (suc k) l)
+first_map bad f k [] = refl
+first_map bad f k (a ∷ l) = rw (first_map bad f (suc k) l)
 
-pub first-same_tests : {A : Type 0} (p q : A → Bool) (k : ℕ) (l : List A) → ((a : A) → p a ≡ q a) → first_from k p l ≡ first_from k q l
+pub first_same_tests : {A : Type 0} (p q : A → Bool) (k : ℕ) (l : List A) → ((a : A) → p a ≡ q a) → first_from k p l ≡ first_from k q l
 unfolding first_from
-first-same_tests p q k [] h = refl
-first-same_tests p q k (a ∷ l) h = rw (h a, first-same_tests p q (suc k) l h)
+first_same_tests p q k [] h = refl
+first_same_tests p q k (a ∷ l) h = rw (h a, first_same_tests p q (suc k) l h)
 
 -- no element is bad
 pub none_bad : {A : Type 0} (bad : A → Bool) (o : A) (l : List A) → first_in bad l ≡ nowhere → (k : ℕ) → k < length l → bad (get_or l k o) ≡ false
 none_bad bad o l e = first_good (length l) (λ k. bad (get_or l k o)) (sym (in_places bad o l) ∙ e)
 
 pub all_fine : {A : Type 0} (bad : A → Bool) (o : A) (l : List A) → ((k : ℕ) → k < length l → bad (get_or l k o) ≡ false) → first_in bad l ≡ nowhere
-all_fine bad o l g = in_places bad o l ∙ good-first (length l) (λ k. bad (get_or l k o)) g
+all_fine bad o l g = in_places bad o l ∙ good_first (length l) (λ k. bad (get_or l k o)) g

@@ -43,16 +43,16 @@ kept_from {A = A} p o (a ∷ xs) r l = go (true_or_false (p a)) r l (kept_from p
     go (inr e) r l f = rw e (later (get_or (keep p xs) r o) (f r (rw e at l)))
 
 -- what is left out gives nothing: the totals are equal
-pub total-keep : {A S : Type 0} (nil : S) (plus : S → S → S) (nil-plus : (t : S) → plus nil t ≡ t) (f : A → S) (p : A → Bool) {xs : List A}
+pub total_keep : {A S : Type 0} (nil : S) (plus : S → S → S) (nil_plus : (t : S) → plus nil t ≡ t) (f : A → S) (p : A → Bool) {xs : List A}
     → All (λ a. p a ≡ false → f a ≡ nil) xs → total nil plus f (keep p xs) ≡ total nil plus f xs
 unfolding total keep
-total-keep nil plus nil-plus f p none = refl
-total-keep {A = A} {S = S} nil plus nil-plus f p (more {a = a} {xs = xs} h r) = go (p a) h (total-keep nil plus nil-plus f p r)
+total_keep nil plus nil_plus f p none = refl
+total_keep {A = A} {S = S} nil plus nil_plus f p (more {a = a} {xs = xs} h r) = go (p a) h (total_keep nil plus nil_plus f p r)
   where
     go : (b : Bool) → (b ≡ false → f a ≡ nil) → total nil plus f (keep p xs) ≡ total nil plus f xs
         → total nil plus f (cond b (a ∷ keep p xs) (keep p xs)) ≡ plus (f a) (total nil plus f xs)
     go true g e = ap (plus (f a)) e
-    go false g e = e ∙ sym (rw (g refl) (nil-plus (total nil plus f xs)))
+    go false g e = e ∙ sym (rw (g refl) (nil_plus (total nil plus f xs)))
 
 -- keeping, and a change that the test does not see
 pub keep-map : {A B : Type 0} (p : A → Bool) (q : B → Bool) (f : A → B) → ((a : A) → q (f a) ≡ p a) → (xs : List A)

@@ -23,11 +23,11 @@ every p (a ∷ xs) = p a && every p xs
 -- ---- laws
 
 -- what the test finds of every element, and of what stands past the end, holds at every place
-pub every-at : {A : Type 0} (p : A → Bool) (o : A) → p o ≡ true → (xs : List A) → every p xs ≡ true → (k : ℕ) → p (get_or xs k o) ≡ true
+pub every_at : {A : Type 0} (p : A → Bool) (o : A) → p o ≡ true → (xs : List A) → every p xs ≡ true → (k : ℕ) → p (get_or xs k o) ≡ true
 unfolding every
-every-at p o e [] h k = e
-every-at p o e (a ∷ xs) h zero = (and_true (p a) (every p xs) h).0
-every-at p o e (a ∷ xs) h (suc k) = every-at p o e xs (and_true (p a) (every p xs) h).1 k
+every_at p o e [] h k = e
+every_at p o e (a ∷ xs) h zero = (and_true (p a) (every p xs) h).0
+every_at p o e (a ∷ xs) h (suc k) = every_at p o e xs (and_true (p a) (every p xs) h).1 k
 
 pub all_map : {A B : Type 0} (P : A → Type 0) (Q : B → Type 0) (f : A → B) → ((a : A) → P a → Q (f a)) → {xs : List A} → All P xs → All Q (map f xs)
 all_map P Q f g none = none
@@ -62,14 +62,14 @@ unfolding tab
 all_below P zero f h = none
 all_below P (suc n) f h = more (h 0 (omega arith)) (all_below P n (λ k. f (suc k)) (λ k l. h (suc k) (omega arith)))
 
-pub all-at : {A : Type 0} (P : A → Type 0) (n : ℕ) (f : ℕ → A) → All P (tab n f) → (k : ℕ) → k < n → P (f k)
+pub all_at : {A : Type 0} (P : A → Type 0) (n : ℕ) (f : ℕ → A) → All P (tab n f) → (k : ℕ) → k < n → P (f k)
 unfolding tab
-all-at P zero f h k l = absurd (omega arith)
-all-at P (suc n) f (more e h) zero l = e
-all-at P (suc n) f (more e h) (suc k) l = all-at P n (λ i. f (suc i)) h k (omega arith)
+all_at P zero f h k l = absurd (omega arith)
+all_at P (suc n) f (more e h) zero l = e
+all_at P (suc n) f (more e h) (suc k) l = all_at P n (λ i. f (suc i)) h k (omega arith)
 
-pub all-tab : {A : Type 0} (P : A → Type 0) (n : ℕ) (f : ℕ → A) → ((k : ℕ) → P (f k)) → All P (tab n f)
-all-tab P n f h = all_below P n f (λ k l. h k)
+pub all_tab : {A : Type 0} (P : A → Type 0) (n : ℕ) (f : ℕ → A) → ((k : ℕ) → P (f k)) → All P (tab n f)
+all_tab P n f h = all_below P n f (λ k l. h k)
 
 pub some_also : {A : Type 0} (P Q : A → Type 0) → ((a : A) → P a → Q a) → {xs : List A} → Some P xs → Some Q xs
 some_also P Q f (here {a = a} h) = here (f a h)

@@ -5,7 +5,7 @@ use Rattle.std.specs.Prelude.{◌≡◌, Bool, cond, length, get_or}
 use Rattle.std.proofs.Math.Path.{refl}
 use Rattle.std.proofs.Math.Bool.{true, false}
 use mathlib.Core.List.{List, [], ◌∷◌, ◌++◌, map}
-use Rattle.lists.specs.Tests.{not-both}
+use Rattle.lists.specs.Tests.{not_both}
 use Rattle.lists.specs.Sums.{total}
 use Rattle.lists.specs.Keep.{keep}
 
@@ -31,11 +31,11 @@ pub data Parted {A B : Type 0} (K : A → B → Type 0) (G : A → Type 0) : Lis
 
 -- ---- laws
 
-pub rank-map : {A B : Type 0} (p : B → Bool) (f : A → B) (xs : List A) (k : ℕ) → rank p (map f xs) k ≡ rank (λ a. p (f a)) xs k
+pub rank_map : {A B : Type 0} (p : B → Bool) (f : A → B) (xs : List A) (k : ℕ) → rank p (map f xs) k ≡ rank (λ a. p (f a)) xs k
 unfolding rank
-rank-map p f [] k = refl
-rank-map p f (a ∷ xs) zero = refl
-rank-map p f (a ∷ xs) (suc k) = rw (rank-map p f xs k)
+rank_map p f [] k = refl
+rank_map p f (a ∷ xs) zero = refl
+rank_map p f (a ∷ xs) (suc k) = rw (rank_map p f xs k)
 
 -- where none sees the others
 each_from_map : {A B : Type 0} (f : A → B) (ws xs : List A) → each_from (λ a others. f a) ws xs ≡ map f xs
@@ -119,7 +119,7 @@ module _ {A B : Type 0} {K : A → B → Type 0} {G : A → Type 0} where
   unfolding rank
   parted_at p fk fg o o' end k l e = absurd (omega arith)
   parted_at p fk fg o o' (kept h r) zero l e = h
-  parted_at p fk fg o o' (gone {a = a} h r) zero l e = absurd (not-both (sym e ∙ fg a h))
+  parted_at p fk fg o o' (gone {a = a} h r) zero l e = absurd (not_both (sym e ∙ fg a h))
   parted_at p fk fg o o' (kept {a = a} {b = b} h r) (suc k) l e =
       rw (fk a b h) (parted_at p fk fg o o' r k (le_of_suc-le-suc l) e)
   parted_at p fk fg o o' (gone {a = a} h r) (suc k) l e =

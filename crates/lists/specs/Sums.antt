@@ -20,25 +20,25 @@ up_to nil plus (suc n) f = plus (up_to nil plus n f) (f n)
 -- ---- laws
 
 -- the sum over a table of records is the sum over its index
-module _ {S : Type 0} (nil : S) (plus : S → S → S) (nil-plus : (t : S) → plus nil t ≡ t) (plus_nil : (t : S) → plus t nil ≡ t)
+module _ {S : Type 0} (nil : S) (plus : S → S → S) (nil_plus : (t : S) → plus nil t ≡ t) (plus_nil : (t : S) → plus t nil ≡ t)
     (assoc : (a b c : S) → plus (plus a b) c ≡ plus a (plus b c)) where
   pub front : (n : ℕ) (f : ℕ → S) → up_to nil plus (suc n) f ≡ plus (f 0) (up_to nil plus n (λ k. f (suc k)))
   unfolding up_to
-  front zero f = nil-plus (f 0) ∙ sym (plus_nil (f 0))
+  front zero f = nil_plus (f 0) ∙ sym (plus_nil (f 0))
   front (suc n) f =
       ap (λ (t : S). plus t (f (suc n))) (front n f) ∙ assoc (f 0) (up_to nil plus n (λ k. f (suc k))) (f (suc n))
 
-  pub total-tab : {A : Type 0} (f : A → S) (n : ℕ) (g : ℕ → A) → total nil plus f (tab n g) ≡ up_to nil plus n (λ k. f (g k))
+  pub total_tab : {A : Type 0} (f : A → S) (n : ℕ) (g : ℕ → A) → total nil plus f (tab n g) ≡ up_to nil plus n (λ k. f (g k))
   unfolding total tab
-  total-tab f zero g = unfold up_to in refl
-  total-tab f (suc n) g =
-      ap (plus (f (g 0))) (total-tab f n (λ k. g (suc k))) ∙ sym (front n (λ k. f (g k)))
+  total_tab f zero g = unfold up_to in refl
+  total_tab f (suc n) g =
+      ap (plus (f (g 0))) (total_tab f n (λ k. g (suc k))) ∙ sym (front n (λ k. f (g k)))
 
 module _ {A S : Type 0} (nil : S) (plus : S → S → S) where
-  pub total-map : {B : Type 0} (f : B → S) (g : A → B) (xs : List A) → total nil plus f (map g xs) ≡ total nil plus (λ a. f (g a)) xs
+  pub total_map : {B : Type 0} (f : B → S) (g : A → B) (xs : List A) → total nil plus f (map g xs) ≡ total nil plus (λ a. f (g a)) xs
   unfolding total
-  total-map f g [] = refl
-  total-map f g (a ∷ xs) = ap (plus (f (g a))) (total-map f g xs)
+  total_map f g [] = refl
+  total_map f g (a ∷ xs) = ap (plus (f (g a))) (total_map f g xs)
 
   -- what holds of nothing, of each share, and of a sum if of its two parts, holds of the total
   pub total_ind : (P : S → Type 0) (f : A → S) → P nil → ((a : A) (t : S) → P t → P (plus (f a) t)) → (xs : List A) → P (total nil plus f xs)
@@ -72,7 +72,7 @@ up_to_size (suc n) f g h =
     omega (arith, size_add (up_to (pos 0) ◌+ℤ◌ n f) (f n), up_to_size n f g (λ k l. h k (omega arith)), h n (omega arith))
 
 -- two sums over one index are one
-module _ {S : Type 0} (nil : S) (plus : S → S → S) (nil-plus : (t : S) → plus nil t ≡ t)
+module _ {S : Type 0} (nil : S) (plus : S → S → S) (nil_plus : (t : S) → plus nil t ≡ t)
     (assoc : (a b c : S) → plus (plus a b) c ≡ plus a (plus b c)) (comm : (a b : S) → plus a b ≡ plus b a) where
   exchange : (a b c d : S) → plus (plus a b) (plus c d) ≡ plus (plus a c) (plus b d)
   exchange a b c d =
@@ -80,6 +80,6 @@ module _ {S : Type 0} (nil : S) (plus : S → S → S) (nil-plus : (t : S) → p
 
   pub up_to_both : (n : ℕ) (f g : ℕ → S) → plus (up_to nil plus n f) (up_to nil plus n g) ≡ up_to nil plus n (λ k. plus (f k) (g k))
   unfolding up_to
-  up_to_both zero f g = nil-plus nil
+  up_to_both zero f g = nil_plus nil
   up_to_both (suc n) f g =
       exchange (up_to nil plus n f) (f n) (up_to nil plus n g) (g n) ∙ ap (λ (t : S). plus t (plus (f n) (g n))) (up_to_both n f g)

@@ -43,8 +43,8 @@ module _ {A : Type 0} where
       below : (k : ℕ) → k < length l → k < n
       below k p = omega arith
 
-  pub tab-same : (n : ℕ) (f g : ℕ → A) → ((k : ℕ) → k < n → f k ≡ g k) → tab n f ≡ tab n g
-  tab-same n f g h = is_tab (f 0) n g (tab n f) (length-tab n f) (λ k p. get_or_tab n f k (f 0) p ∙ h k p)
+  pub tab_same : (n : ℕ) (f g : ℕ → A) → ((k : ℕ) → k < n → f k ≡ g k) → tab n f ≡ tab n g
+  tab_same n f g h = is_tab (f 0) n g (tab n f) (length-tab n f) (λ k p. get_or_tab n f k (f 0) p ∙ h k p)
 
 -- equal tables are as long, and have the same at each place
 pub tab_tells : {A : Type 0} (n m : ℕ) (f g : ℕ → A) → tab n f ≡ tab m g → (n ≡ m) × ((k : ℕ) → k < n → f k ≡ g k)
@@ -54,17 +54,17 @@ tab_tells {A = A} n m f g e = (long, λ k h. sym (get_or_tab n f k (f 0) h) ∙ 
     long = sym (length-tab n f) ∙ ap length e ∙ length-tab m g
 
 -- a table grows at its end, as a loop fills it
-tab-last : {A : Type 0} (n : ℕ) (f : ℕ → A) → tab (suc n) f ≡ tab n f ++ (f n ∷ [])
+tab_last : {A : Type 0} (n : ℕ) (f : ℕ → A) → tab (suc n) f ≡ tab n f ++ (f n ∷ [])
 unfolding tab
-tab-last zero f = refl
-tab-last {A = A} (suc n) f = ap (λ (l : List A). f 0 ∷ l) (tab-last n (λ k. f (suc k)))
+tab_last zero f = refl
+tab_last {A = A} (suc n) f = ap (λ (l : List A). f 0 ∷ l) (tab_last n (λ k. f (suc k)))
 
 pub tab_more : {A : Type 0} (n : ℕ) (f : ℕ → A) → tab (n + 1) f ≡ tab n f ++ (f n ∷ [])
-tab_more n f = ap (λ (m : ℕ). tab m f) (add-one n) ∙ tab-last n f
+tab_more n f = ap (λ (m : ℕ). tab m f) (add-one n) ∙ tab_last n f
 
 pub tab_grows : {A : Type 0} (n : ℕ) (f g : ℕ → A) (a : A) → ((k : ℕ) → k < n → g k ≡ f k) → g n ≡ a → tab (n + 1) g ≡ tab n f ++ (a ∷ [])
 tab_grows {A = A} n f g a h e =
-    tab_more n g ∙ ap (λ (l : List A). l ++ (g n ∷ [])) (tab-same n g f h)
+    tab_more n g ∙ ap (λ (l : List A). l ++ (g n ∷ [])) (tab_same n g f h)
     ∙ ap (λ (b : A). tab n f ++ (b ∷ [])) e
 
 pub map-tab : {A B : Type 0} (g : A → B) (n : ℕ) (f : ℕ → A) → map g (tab n f) ≡ tab n (λ k. g (f k))

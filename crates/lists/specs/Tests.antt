@@ -14,15 +14,15 @@ pub true_or_false : (b : Bool) → (b ≡ true) ⊎ (b ≡ false)
 true_or_false true = inl refl
 true_or_false false = inr refl
 
-pub not-both : true ≡ false → ⊥
-not-both e = let z : ◌≡◌ {A = ℕ} 0 1 = cc in omega arith
+pub not_both : true ≡ false → ⊥
+not_both e = let z : ◌≡◌ {A = ℕ} 0 1 = cc in omega arith
 
 pub and_true : (a b : Bool) → a && b ≡ true → (a ≡ true) × (b ≡ true)
 and_true true b e = (refl, e)
-and_true false b e = absurd (not-both (cc))
+and_true false b e = absurd (not_both (cc))
 
 pub or_false : (a b : Bool) → a || b ≡ false → (a ≡ false) × (b ≡ false)
-or_false true b e = absurd (not-both e)
+or_false true b e = absurd (not_both e)
 or_false false b e = (refl, e)
 
 -- two comparisons of which each says the other are one

@@ -4,7 +4,7 @@ use Rattle.std.proofs.Common.{arith, zero-add, add-zero, add_assoc, sym, ap, ◌
 use Rattle.std.proofs.Math.Seq.{take-length}
 use Rattle.lists.specs.Tests.{lt_or_le}
 use Rattle.lists.specs.Tab.{tab}
-use Rattle.lists.specs.Sums.{total, up_to, total-tab}
+use Rattle.lists.specs.Sums.{total, up_to, total_tab}
 
 -- how many elements n parts have, and the parts one after the other
 abbrev pub sum_to : ℕ → (ℕ → ℕ) → ℕ
@@ -15,16 +15,16 @@ join_to n f = up_to [] ◌++◌ n f
 
 -- ---- laws
 
-pub sum-tab : {A : Type 0} (f : A → ℕ) (n : ℕ) (g : ℕ → A) → total 0 ◌+◌ f (tab n g) ≡ sum_to n (λ k. f (g k))
-sum-tab = total-tab 0 ◌+◌ zero-add add-zero add_assoc
+pub sum_tab : {A : Type 0} (f : A → ℕ) (n : ℕ) (g : ℕ → A) → total 0 ◌+◌ f (tab n g) ≡ sum_to n (λ k. f (g k))
+sum_tab = total_tab 0 ◌+◌ zero-add add-zero add_assoc
 
 pub join_tab : {A B : Type 0} (f : A → List B) (n : ℕ) (g : ℕ → A) → total [] ◌++◌ f (tab n g) ≡ join_to n (λ k. f (g k))
-join_tab = total-tab [] ◌++◌ (λ t. refl) append-nil append_assoc
+join_tab = total_tab [] ◌++◌ (λ t. refl) append-nil append_assoc
 
-pub sum-most : (most n : ℕ) (f : ℕ → ℕ) → ((k : ℕ) → k < n → f k ≤ most) → sum_to n f ≤ n * most
+pub sum_most : (most n : ℕ) (f : ℕ → ℕ) → ((k : ℕ) → k < n → f k ≤ most) → sum_to n f ≤ n * most
 unfolding up_to
-sum-most most zero f h = omega arith
-sum-most most (suc n) f h = omega (arith, sum-most most n f (λ k l. h k (omega arith)), h n (omega arith))
+sum_most most zero f h = omega arith
+sum_most most (suc n) f h = omega (arith, sum_most most n f (λ k l. h k (omega arith)), h n (omega arith))
 
 -- part k has room
 pub sum_room : (n k : ℕ) (f : ℕ → ℕ) → k < n → sum_to k f + f k ≤ sum_to n f

@@ -33,9 +33,9 @@ module _ (number place : ℕ) (rest : List Refusal) {test bad : Bool} {r : ℕ} 
   unfolding in_order refused_with
   refused_here some e h = rw (sym is ∙ e) (record { same = h; only = λ z. absurd (omega arith) })
 
-  pub not-here : test ≡ false → Coded r (in_order rest) → Coded r (in_order (refused_with number place bad ∷ rest))
+  pub not_here : test ≡ false → Coded r (in_order rest) → Coded r (in_order (refused_with number place bad ∷ rest))
   unfolding in_order refused_with
-  not-here e h = rw (sym is ∙ e) h
+  not_here e h = rw (sym is ∙ e) h
 
 -- and so of a search over n places that ends at k
 module _ (number : ℕ) (rest : List Refusal) {n k r : ℕ} {f : Found} (is : ended n k ≡ f) where

@@ -23,10 +23,10 @@ range most some (negsuc n) = go (lt_or_le n most)
 
 -- ---- the mark, as the machine's bits say it
 
-pub mark-bits : (v : ℤ) → SFits w32 v → eqb (of_z w32 v) 2147483648 ≡ is_missing v
+pub mark_bits : (v : ℤ) → SFits w32 v → eqb (of_z w32 v) 2147483648 ≡ is_missing v
 unfolding is_missing
-mark-bits (pos n) f = ne_eqb n 2147483648 (λ (e : n ≡ 2147483648). absurd (omega (arith, f.sfits)))
-mark-bits (negsuc n) f = go (lt_or_le n 2147483647)
+mark_bits (pos n) f = ne_eqb n 2147483648 (λ (e : n ≡ 2147483648). absurd (omega (arith, f.sfits)))
+mark_bits (negsuc n) f = go (lt_or_le n 2147483647)
   where
     go : (n < 2147483647) ⊎ (2147483647 ≤ n) → eqb (of_z w32 (negsuc n)) 2147483648 ≡ leb n 2147483647 && leb 2147483647 n
     go (inl h) =
@@ -39,10 +39,10 @@ mark-bits (negsuc n) f = go (lt_or_le n 2147483647)
 -- ---- what is searched
 
 -- after the first, a radius rises if it is above the one before it
-pub rising-after : (p : Plan) (m : ℕ) → (m ≡ 0 → ⊥) → lt_z (get_or p.radius (m - 1) (pos 0)) (get_or p.radius m (pos 0)) ≡ rising p m
+pub rising_after : (p : Plan) (m : ℕ) → (m ≡ 0 → ⊥) → lt_z (get_or p.radius (m - 1) (pos 0)) (get_or p.radius m (pos 0)) ≡ rising p m
 unfolding rising
-rising-after p zero h = absurd (h refl)
-rising-after p (suc m) h = let e : suc m - 1 ≡ m = omega arith in rw e
+rising_after p zero h = absurd (h refl)
+rising_after p (suc m) h = let e : suc m - 1 ≡ m = omega arith in rw e
 
 -- the values of a first guess, by their places
 abbrev pub guess_bad : List ℤ → ℕ → Bool

@@ -1,7 +1,7 @@
 -- What loading makes of a call: terms and tables that hold the request that it asks, up to plan entries that are not read.
 use Rattle.std.specs.Prelude.{ℕ, ◌≤◌, ◌<◌, ◌≡◌, refl, List, [], ◌∷◌, length, get_or, ℤ, pos}
 use Rattle.std.proofs.Common.{arith, ap, ◌∙◌}
-use Rattle.lists.specs.Tab.{tab, tab-same, length-tab}
+use Rattle.lists.specs.Tab.{tab, tab_same, length-tab}
 use Rattle.lists.specs.Filled.{Filled}
 use Rattle.scheme.specs.Units.{station_at, stations_of, most_scans, wind_mode, Plan, Request, Call, asked}
 use Rattle.scheme.specs.Refusals.{Window, windows_of}
@@ -44,7 +44,7 @@ module _ (x y value : List ℤ) (observed from until : List ℕ) (wind_u wind_v 
       → Filled [] (minutes_at observed from until) 0 (length observed) m₀ m
       → tab (length x) (station_in n m) ≡ stations_of (eight_columns x y value observed from until wind_u wind_v)
   unfolding stations_of station_at station_of
-  loads e p r = tab-same (length x) _ _ (λ k h. rw (p.new k (omega arith) h, r.new k (omega arith) (omega (arith, e))))
+  loads e p r = tab_same (length x) _ _ (λ k h. rw (p.new k (omega arith) h, r.new k (omega arith) (omega (arith, e))))
 
 -- the windows that are loaded
 abbrev pub ends_at : (left right top bottom : List ℕ) → ℕ → Ends
@@ -53,7 +53,7 @@ ends_at left right top bottom k = record { left = get_or left k 0; right = get_o
 pub windows_loaded : (left right top bottom : List ℕ) (w₀ w : List Ends) → Filled no_ends (ends_at left right top bottom) 0 (length left) w₀ w
     → windows_in (record { windows = w; count = length left }) ≡ windows_of (four_columns left right top bottom)
 unfolding windows_of
-windows_loaded left right top bottom w₀ w p = tab-same (length left) _ _ (λ k h. ap window_in (p.new k (omega arith) h))
+windows_loaded left right top bottom w₀ w p = tab_same (length left) _ _ (λ k h. ap window_in (p.new k (omega arith) h))
 
 -- ---- terms, first guess and tables that hold a request: all of it but plan entries past the count
 
@@ -74,14 +74,14 @@ module _ {t : Terms} {guess : List ℤ} {numbers : List (List ℤ)} {minutes : L
   pub same_refusal : from_six (request_in t guess numbers minutes) ≡ from_six q
   same_refusal = ap from_six as_held ∙ same_from_six q (plan_in t) h.plan
 
-  pub same-analysis : analysis (request_in t guess numbers minutes) ≡ analysis q
-  same-analysis = ap analysis as_held ∙ entries_past_the_count_change_no_analysis q (plan_in t) h.plan
+  pub same_analysis : analysis (request_in t guess numbers minutes) ≡ analysis q
+  same_analysis = ap analysis as_held ∙ entries_past_the_count_change_no_analysis q (plan_in t) h.plan
 
-  pub same-window : (w : Window) → whole_at (request_in t guess numbers minutes) w ≡ whole_at q w
-  same-window w = ap (λ (p : Request). whole_at p w) as_held ∙ entries_past_the_count_change_no_window q (plan_in t) h.plan w
+  pub same_window : (w : Window) → whole_at (request_in t guess numbers minutes) w ≡ whole_at q w
+  same_window w = ap (λ (p : Request). whole_at p w) as_held ∙ entries_past_the_count_change_no_window q (plan_in t) h.plan w
 
   pub same_screen : (s : Screen) → whole_at_each (request_in t guess numbers minutes) (windows_in s) ≡ whole_at_each q (windows_in s)
-  same_screen s = turn_same _ _ s (λ k h. same-window (window_no s k))
+  same_screen s = turn_same _ _ s (λ k h. same_window (window_no s k))
 
 -- ---- a call that is loaded
 

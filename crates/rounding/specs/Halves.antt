@@ -2,7 +2,7 @@
 use Rattle.std.specs.Prelude.{ℕ, suc, ◌+◌, ◌*◌, ◌≡◌, refl, true, false, ℤ, pos, negsuc, neg_ℤ, ◌+ℤ◌, ◌-ℤ◌, ◌*ℤ◌}
 use Rattle.std.proofs.Common.{arith}
 use Rattle.std.specs.Int.Signed.{lt_z, quot_z}
-use Rattle.integers.specs.Parts.{eq_parts, minus_parts, mul_parts, neg-up, neg-dn}
+use Rattle.integers.specs.Parts.{eq_parts, minus_parts, mul_parts, neg_up, neg_dn}
 use Rattle.integers.specs.Sizes.{quot_neg}
 use Rattle.integers.specs.Order.{less_parts, not_less_parts}
 use Rattle.scheme.specs.Rounding.{rounded}
@@ -16,8 +16,8 @@ below_zero n d =
       arith,
       minus_parts (pos 2 *ℤ negsuc n) (pos d),
       mul_parts (pos 2) (negsuc n),
-      neg-up (pos (2 * suc n + d)),
-      neg-dn (pos (2 * suc n + d)),
+      neg_up (pos (2 * suc n + d)),
+      neg_dn (pos (2 * suc n + d)),
     ))
 
 pub quotient_below : (n : ℤ) (d : ℕ) → lt_z n (pos 0) ≡ true → quot_z (pos 2 *ℤ n -ℤ pos d) (pos (2 * d)) ≡ rounded n d

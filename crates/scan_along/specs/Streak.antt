@@ -12,12 +12,12 @@ use Rattle.scheme.specs.Units.{step, Wind, most_wind, most_stations, wind_mode}
 use Rattle.scheme.specs.Weight.{square, strength, inside, weight_at}
 use Rattle.scheme.specs.Correction.{Sums}
 use Rattle.scheme.specs.Most.{most_square}
-use Rattle.scheme.specs.Weights.{inside-alone}
+use Rattle.scheme.specs.Weights.{inside_alone}
 use Rattle.scheme.specs.Streaks.{Fair}
-use Rattle.scheme.specs.Gifts.{weighed, gift-weighed}
-use Rattle.scan_weight.specs.Along.{calmed, calmed-fair, weight_by, beyond, weight_by-most, by_wind, most_strength, strength_small, most_part, part_small}
+use Rattle.scheme.specs.Gifts.{weighed, gift_weighed}
+use Rattle.scan_weight.specs.Along.{calmed, calmed_fair, weight_by, beyond, weight_by_most, by_wind, most_strength, strength_small, most_part, part_small}
 use Rattle.scan_lone.specs.Inside.{inside_in}
-use Rattle.scan_point.specs.Near.{Stations, wind_in, x_at, y_at, wind_at, verdict_at, d_at, share_at, Slight, weighed_slight, row_gap, Inside, Ready, Near, near_is_accepted, near-gathered, accepted_shares}
+use Rattle.scan_point.specs.Near.{Stations, wind_in, x_at, y_at, wind_at, verdict_at, d_at, share_at, Slight, weighed_slight, row_gap, Inside, Ready, Near, near_is_accepted, near_gathered, accepted_shares}
 use Rattle.scan_point.specs.Round.{Sized, Roomy, roomy_set, sized_set, new_x, new_y, new_d, next_sized}
 
 -- of a wind, for the points of a row that the station is dy off
@@ -45,17 +45,17 @@ along_share lx ly ld lw r2 i t =
 
 pub record Streaked (streak : List ℤ) : Type 0 where
   pub u_small : nat_abs (get_or streak 0 (pos 0)) ≤ most_wind
-  pub part-most : nat_abs (get_or streak 1 (pos 0)) ≤ most_part
+  pub part_most : nat_abs (get_or streak 1 (pos 0)) ≤ most_part
   pub strength_is : get_or streak 2 (pos 0) ≡ pos (strength_at streak)
-  pub strength-most : strength_at streak ≤ most_strength
+  pub strength_most : strength_at streak ≤ most_strength
 
 pub streaked : (w : Wind) (dy : ℤ) → Fair w → square dy < most_square → Streaked (streak_of w dy)
 streaked w dy fair near =
     record {
       u_small = fair.0;
-      part-most = part_small w.v dy fair.1 near;
+      part_most = part_small w.v dy fair.1 near;
       strength_is = refl;
-      strength-most = strength_small w fair;
+      strength_most = strength_small w fair;
     }
 
 pub record SizedAlong (lx : List ℤ) (ly : List ℕ) (ld : List ℤ) (lw : List (List ℤ)) (t : ℕ) : Type 0 where
@@ -70,12 +70,12 @@ along_slight lx ly ld lw r2 i t s =
     let d2 : ℕ = square dx + get_or ly t 0 in
     let w : ℕ = weight_by r2 d2 (strength_at (get_or lw t [])) (q_at (get_or lw t []) dx) in
     weighed_slight (ltb d2 r2) w (get_or ld t (pos 0))
-    (inside-alone w r2 d2 (weight_by-most r2 d2 (strength_at (get_or lw t [])) (q_at (get_or lw t []) dx)) (beyond r2 d2 (strength_at (get_or lw t [])) (q_at (get_or lw t []) dx)))
+    (inside_alone w r2 d2 (weight_by_most r2 d2 (strength_at (get_or lw t [])) (q_at (get_or lw t []) dx)) (beyond r2 d2 (strength_at (get_or lw t [])) (q_at (get_or lw t []) dx)))
     s.sized.d_small
 
-pub along-inside : (lx : List ℤ) (ly : List ℕ) (ld : List ℤ) (lw : List (List ℤ)) (r2 i t : ℕ) → (along_share lx ly ld lw r2 i t).inside ≡ inside_in lx ly r2 i t
+pub along_inside : (lx : List ℤ) (ly : List ℕ) (ld : List ℤ) (lw : List (List ℤ)) (r2 i t : ℕ) → (along_share lx ly ld lw r2 i t).inside ≡ inside_in lx ly r2 i t
 unfolding along_share inside_in
-along-inside lx ly ld lw r2 i t = refl
+along_inside lx ly ld lw r2 i t = refl
 
 -- ---- gathering
 
@@ -143,7 +143,7 @@ module _ (all : Stations) (r2 j : ℕ) (bounded : r2 ≤ most_square) (ok : Read
         sized = next_sized all r2 j bounded ok lx ly ld room.roomy n k turn few close;
         streak =
             rw new_w
-            (streaked (calmed (wind_at all k)) (y_at all k -ℤ pos (step * j)) (calmed-fair (wind_at all k) (ok.inside k turn accepted).wind-fair)
+            (streaked (calmed (wind_at all k)) (y_at all k -ℤ pos (step * j)) (calmed_fair (wind_at all k) (ok.inside k turn accepted).wind_fair)
             (omega (arith, gap_is, close, bounded)));
       }
 
@@ -154,7 +154,7 @@ module _ (all : Stations) (r2 j : ℕ) (bounded : r2 ≤ most_square) (ok : Read
       let dy : ℤ = y_at all k -ℤ pos (step * j) in
       rw (new_x lx ly ld n (x_at all k) gap (d_at all k) room.roomy n_room, new_y lx ly ld n (x_at all k) gap (d_at all k) room.roomy n_room, new_d lx ly ld n (x_at all k) gap (d_at all k) room.roomy n_room, new_w, gap_is)
       (sym (accepted_shares all r2 i j k accepted
-      ∙ gift-weighed all.mode r2 (wind_at all k) (d_at all k) dx dy
+      ∙ gift_weighed all.mode r2 (wind_at all k) (d_at all k) dx dy
       ∙ ap (λ (m : ℕ). weighed (inside r2 dx dy) (weight_at m r2 (wind_at all k) dx dy) (d_at all k)) windy
       ∙ ap (λ (w : ℕ). weighed (inside r2 dx dy) w (d_at all k)) (by_wind r2 (wind_at all k) dx dy)))
 
@@ -164,4 +164,4 @@ module _ (all : Stations) (r2 j : ℕ) (bounded : r2 ≤ most_square) (ok : Read
       → s ≡ streak
       → RoomyAlong (set lx n x) (set ly n g) (set ld n d) (set lw n s)
       × Near (along_share (set lx n x) (set ly n g) (set ld n d) (set lw n s) r2) (SizedAlong (set lx n x) (set ly n g) (set ld n d) (set lw n s)) (n + 1) all r2 j (k + 1)
-  next_gathered near ex eg ed es = rw (ex, eg, ed, es) (roomy', near-gathered near kept kept_fine new new_fine)
+  next_gathered near ex eg ed es = rw (ex, eg, ed, es) (roomy', near_gathered near kept kept_fine new new_fine)

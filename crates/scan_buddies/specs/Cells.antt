@@ -6,7 +6,7 @@ use Rattle.std.proofs.Math.Nat.{add-div_right}
 use borrow.Author.Tests.{ltb-true, ltb-false}
 use Rattle.integers.specs.Parts.{up, dn, eq_parts, add_parts, size_parts}
 use Rattle.integers.specs.Sizes.{apart}
-use Rattle.integers.specs.Fractions.{whole-part_order}
+use Rattle.integers.specs.Fractions.{whole_part_order}
 use Rattle.lists.specs.Tests.{lt_or_le, cond_both}
 use Rattle.lists.specs.Chains.{Chained}
 use Rattle.scheme.specs.Units.{most_stations, most_beyond}
@@ -93,11 +93,11 @@ module _ (side : ℕ) (wide : least_side ≤ side) where
   -- what is less than a side apart is in the same cell or in the next
   next_cell : (a b : ℕ) → a ≤ b + side → a / side ≤ b / side + 1
   next_cell a b h =
-      omega (arith, whole-part_order a side (b + side) side (omega arith) (omega arith) (mul-le-mul h (omega arith)), add-div_right b {k = side} (omega arith))
+      omega (arith, whole_part_order a side (b + side) side (omega arith) (omega arith) (mul-le-mul h (omega arith)), add-div_right b {k = side} (omega arith))
 
-  pub along-near : (a b : ℤ) → OnAxis a → OnAxis b → nat_abs (a -ℤ b) < side → (cell_along side a ≤ cell_along side b + 1) × (cell_along side b ≤ cell_along side a + 1)
+  pub along_near : (a b : ℤ) → OnAxis a → OnAxis b → nat_abs (a -ℤ b) < side → (cell_along side a ≤ cell_along side b + 1) × (cell_along side b ≤ cell_along side a + 1)
   unfolding cell_along
-  along-near a b on on' h =
+  along_near a b on on' h =
       let (p, q) = apart a b in
       (omega (arith, next_cell (offset a) (offset b) (omega (arith, on.low, on'.low))), omega (arith, next_cell (offset b) (offset a) (omega (arith, on.low, on'.low))))
 

@@ -10,10 +10,10 @@ use Rattle.lists.specs.Sums.{up_to, up_to_next, up_to_same, up_to_both}
 use Rattle.scheme.specs.Verdicts.{is_accepted}
 use Rattle.scheme.specs.Weight.{squares, inside}
 use Rattle.scheme.specs.Buddies.{Heard, silence, both}
-use Rattle.scheme.specs.Adding.{silence-both, both-silence, both_assoc}
+use Rattle.scheme.specs.Adding.{silence_both, both_silence, both_assoc}
 use Rattle.scan_buddies.specs.Aside.{x_of, y_of, said, heard_at, OnAxis, Standing, AllStanding}
 use Rattle.scan_buddies.specs.Voices.{told, both_comm, OfAtMost, of_none, of_one, sum_of_most, between, from_cells, among_them, below_them, beyond_them}
-use Rattle.scan_buddies.specs.Cells.{across, cells, kinds, side_of, cell_along, cell_of, cell_for, cell_at, Survivors, side_least, side_wide, InRow, along_in_row, along-near, inside_axes}
+use Rattle.scan_buddies.specs.Cells.{across, cells, kinds, side_of, cell_along, cell_of, cell_for, cell_at, Survivors, side_least, side_wide, InRow, along_in_row, along_near, inside_axes}
 
 -- row j is at distance below B from row k
 abbrev pub near : (radius : ℕ) (numbers : List (List ℤ)) (k j : ℕ) → Bool
@@ -33,14 +33,14 @@ rows_of cell n first rows f = up_to silence both rows (λ r. three cell n (first
 
 -- ---- laws
 
-three-rows : (cell : ℕ → ℕ) (n first : ℕ) (f : ℕ → Heard)
+three_rows : (cell : ℕ → ℕ) (n first : ℕ) (f : ℕ → Heard)
     → rows_of cell n first 3 f ≡ both (both (three cell n first f) (three cell n (first + across) f)) (three cell n (first + 2 * across) f)
 unfolding rows_of up_to
-three-rows cell n first f =
+three_rows cell n first f =
     let here : ℕ → Heard = λ i. three cell n i f in
     let none : first + 0 * across ≡ first = omega arith in
     let one : first + 1 * across ≡ first + across = omega arith in
-    ap (λ (h : Heard). both (both h (here (first + 1 * across))) (here (first + 2 * across))) (silence-both (here (first + 0 * across)) ∙ ap here none)
+    ap (λ (h : Heard). both (both h (here (first + 1 * across))) (here (first + 2 * across))) (silence_both (here (first + 0 * across)) ∙ ap here none)
     ∙ ap (λ (i : ℕ). both (both (here first) (here i)) (here (first + 2 * across))) one
 
 -- a row of cells more
@@ -69,24 +69,24 @@ module _ (radius : ℕ) (numbers : List (List ℤ)) (ds : List ℤ) (k : ℕ) wh
     unfolding voice
     voice_far h = rw (ne_eqb j k other, ← is, le-ltb d2 (radius * radius) h)
 
-    pub voice-near : d2 < radius * radius → voice radius numbers ds k j ≡ told 1 (get_or ds j (pos 0))
+    pub voice_near : d2 < radius * radius → voice radius numbers ds k j ≡ told 1 (get_or ds j (pos 0))
     unfolding voice
-    voice-near h = rw (ne_eqb j k other, ← is, lt-ltb d2 (radius * radius) h)
+    voice_near h = rw (ne_eqb j k other, ← is, lt-ltb d2 (radius * radius) h)
 
   survivor_says : (st : List ℕ) (j : ℕ) → is_accepted (get_or st j 0) ≡ true → said radius numbers st ds k j ≡ voice radius numbers ds k j
   unfolding said voice
   survivor_says st j e = rw e
 
-  other-says : (st : List ℕ) (j : ℕ) → is_accepted (get_or st j 0) ≡ false → said radius numbers st ds k j ≡ silence
+  other_says : (st : List ℕ) (j : ℕ) → is_accepted (get_or st j 0) ≡ false → said radius numbers st ds k j ≡ silence
   unfolding said
-  other-says st j e = rw e (cond_same (eqb j k) silence silence silence (λ e. refl) (λ e. refl))
+  other_says st j e = rw e (cond_same (eqb j k) silence silence silence (λ e. refl) (λ e. refl))
 
   said_small : (st : List ℕ) (j : ℕ) → (get_or st j 0 ≡ 0 → Standing (get_or numbers j []) (get_or ds j (pos 0))) → OfAtMost 1 (said radius numbers st ds k j)
   said_small st j h = go (true_or_false (is_accepted (get_or st j 0)))
     where
       go : (is_accepted (get_or st j 0) ≡ true) ⊎ (is_accepted (get_or st j 0) ≡ false) → OfAtMost 1 (said radius numbers st ds k j)
       go (inl e) = rw (survivor_says st j e) (voice_small j (h (eqb-true (get_or st j 0) 0 e)))
-      go (inr e) = rw (other-says st j e) (of_none 1)
+      go (inr e) = rw (other_says st j e) (of_none 1)
 
   pub heard_few : (st : List ℕ) (n : ℕ) → AllStanding numbers ds n st → OfAtMost n (heard_at radius numbers st ds n k)
   unfolding heard_at
@@ -114,7 +114,7 @@ none_in_rows b a = go (between b (b + 3) a) (between (b + across) (b + across + 
 past_rows : (b a : ℕ) (v : Heard) → b + 2 * across + 3 ≤ a → in_rows b a v ≡ silence
 past_rows b a v h =
     rw (beyond_them b (b + 3) a (omega arith), beyond_them (b + across) (b + across + 3) a (omega arith), beyond_them (b + 2 * across) (b + 2 * across + 3) a h)
-    (silence-both silence)
+    (silence_both silence)
 
 -- the cells around the cell (x, y), of which b is the first, and among them (x', y')
 near_in_rows : (x y x' y' b a : ℕ) (v : Heard) → InRow x → InRow x' → b + across + 1 ≡ y * across + x → a ≡ y' * across + x'
@@ -131,15 +131,15 @@ near_in_rows x y x' y' b a v row row' eb ea (x-most, x-least) (y-most, y-least) 
     go (inl p) q =
         let e : y ≡ y' + 1 = omega arith in
         rw (among_them b (b + 3) a (omega arith) (omega arith), below_them (b + across) (b + across + 3) a (omega arith), below_them (b + 2 * across) (b + 2 * across + 3) a (omega arith))
-        (both-silence (both v silence) ∙ both-silence v)
+        (both_silence (both v silence) ∙ both_silence v)
     go (inr p) (inl q) =
         let e : y' ≡ y + 1 = omega arith in
         rw (beyond_them b (b + 3) a (omega arith), beyond_them (b + across) (b + across + 3) a (omega arith), among_them (b + 2 * across) (b + 2 * across + 3) a (omega arith) (omega arith))
-        (silence-both v)
+        (silence_both v)
     go (inr p) (inr q) =
         let e : y' ≡ y = omega arith in
         rw (beyond_them b (b + 3) a (omega arith), among_them (b + across) (b + across + 3) a (omega arith) (omega arith), below_them (b + 2 * across) (b + 2 * across + 3) a (omega arith))
-        (both-silence (both silence v) ∙ silence-both v)
+        (both_silence (both silence v) ∙ silence_both v)
 
 -- a survivor's cell has eight around it
 pub record Framed (c : ℕ) : Type 0 where
@@ -166,16 +166,16 @@ module _ (radius : ℕ) (numbers : List (List ℤ)) (st : List ℕ) (j : ℕ) wh
   unfolding cell_for
   survivor_cell e = rw e
 
-  pub other-cell : is_accepted (get_or st j 0) ≡ false → cell_at radius numbers st j ≡ cells
+  pub other_cell : is_accepted (get_or st j 0) ≡ false → cell_at radius numbers st j ≡ cells
   unfolding cell_for
-  other-cell e = rw e
+  other_cell e = rw e
 
   pub in_cell : cell_at radius numbers st j < cells → get_or st j 0 ≡ 0
   in_cell h = go (true_or_false (is_accepted (get_or st j 0)))
     where
       go : (is_accepted (get_or st j 0) ≡ true) ⊎ (is_accepted (get_or st j 0) ≡ false) → get_or st j 0 ≡ 0
       go (inl e) = eqb-true (get_or st j 0) 0 e
-      go (inr e) = absurd (omega (arith, other-cell e))
+      go (inr e) = absurd (omega (arith, other_cell e))
 
 module _ (radius : ℕ) (numbers : List (List ℤ)) (ds : List ℤ) (heads next : List ℕ) (n : ℕ) (st : List ℕ) (s : Survivors radius numbers ds heads next n st)
     (k : ℕ) (here : Standing (get_or numbers k []) (get_or ds k (pos 0))) (b : ℕ) (first : b + across + 1 ≡ cell_of radius (get_or numbers k [])) where
@@ -189,16 +189,16 @@ module _ (radius : ℕ) (numbers : List (List ℤ)) (ds : List ℤ) (heads next 
   silent : (j : ℕ) → v j ≡ silence → in_rows b (cell_of radius (get_or numbers j [])) (v j) ≡ v j
   silent j e = rw e (none_in_rows b (cell_of radius (get_or numbers j [])))
 
-  heard-near : (j : ℕ) → Standing (get_or numbers j []) (get_or ds j (pos 0)) → near radius numbers k j ≡ true → in_rows b (cell_of radius (get_or numbers j [])) (v j) ≡ v j
-  heard-near j there e =
+  heard_near : (j : ℕ) → Standing (get_or numbers j []) (get_or ds j (pos 0)) → near radius numbers k j ≡ true → in_rows b (cell_of radius (get_or numbers j [])) (v j) ≡ v j
+  heard_near j there e =
       let other = get_or numbers j [] in
       let side = side_of radius in
       let wide = side_least radius in
       let (dx, dy) = inside_axes radius (x_of other -ℤ x_of row) (y_of other -ℤ y_of row) e in
       near_in_rows (cell_along side (x_of row)) (cell_along side (y_of row)) (cell_along side (x_of other)) (cell_along side (y_of other)) b (cell_of radius other) (v j)
       (along_in_row side wide (x_of row) here.x) (along_in_row side wide (x_of other) there.x) first_is (unfold cell_of in refl)
-      (along-near side wide (x_of other) (x_of row) there.x here.x (omega (arith, side_wide radius)))
-      (along-near side wide (y_of other) (y_of row) there.y here.y (omega (arith, side_wide radius)))
+      (along_near side wide (x_of other) (x_of row) there.x here.x (omega (arith, side_wide radius)))
+      (along_near side wide (y_of other) (y_of row) there.y here.y (omega (arith, side_wide radius)))
     where
       first_is : b + across + 1 ≡ cell_along (side_of radius) (y_of row) * across + cell_along (side_of radius) (x_of row)
       first_is = unfold cell_of in first
@@ -214,18 +214,18 @@ module _ (radius : ℕ) (numbers : List (List ℤ)) (ds : List ℤ) (heads next 
 
       go : (eqb j k ≡ true) ⊎ (eqb j k ≡ false) → (near radius numbers k j ≡ true) ⊎ (near radius numbers k j ≡ false) → in_rows b (cell_of radius (get_or numbers j [])) (v j) ≡ v j
       go (inl e) q = silent j (itself e)
-      go (inr e) (inl q) = heard-near j there q
+      go (inr e) (inl q) = heard_near j there q
       go (inr e) (inr q) = silent j (outside e q)
 
-  row-heard : (j : ℕ) → j < n → in_rows b (cell_at radius numbers st j) (v j) ≡ said radius numbers st ds k j
-  row-heard j l = go (true_or_false (is_accepted (get_or st j 0)))
+  row_heard : (j : ℕ) → j < n → in_rows b (cell_at radius numbers st j) (v j) ≡ said radius numbers st ds k j
+  row_heard j l = go (true_or_false (is_accepted (get_or st j 0)))
     where
       go : (is_accepted (get_or st j 0) ≡ true) ⊎ (is_accepted (get_or st j 0) ≡ false) → in_rows b (cell_at radius numbers st j) (v j) ≡ said radius numbers st ds k j
       go (inl e) =
           rw (survivor_cell radius numbers st j e, survivor_says radius numbers ds k st j e)
           (survivor_heard j (s.standing j l (eqb-true (get_or st j 0) 0 e)))
       go (inr e) =
-          rw (other-cell radius numbers st j e, other-says radius numbers ds k st j e)
+          rw (other_cell radius numbers st j e, other_says radius numbers ds k st j e)
           (past_rows b cells (v j) (omega (arith, first, (cell_framed radius row here.x here.y).most)))
 
   pub nine_are_all : rows_of (cell_at radius numbers st) n b 3 v ≡ heard_at radius numbers st ds n k
@@ -235,7 +235,7 @@ module _ (radius : ℕ) (numbers : List (List ℤ)) (ds : List ℤ) (heads next 
       let one : ℕ → Heard = λ j. cond (between b (b + 3) (at j)) (v j) silence in
       let two : ℕ → Heard = λ j. cond (between (b + across) (b + across + 3) (at j)) (v j) silence in
       let third : ℕ → Heard = λ j. cond (between (b + 2 * across) (b + 2 * across + 3) (at j)) (v j) silence in
-      three-rows at n b v
-      ∙ ap (λ (h : Heard). both h (up_to silence both n third)) (up_to_both silence both silence-both both_assoc both_comm n one two)
-      ∙ up_to_both silence both silence-both both_assoc both_comm n (λ j. both (one j) (two j)) third
-      ∙ up_to_same silence both n _ (said radius numbers st ds k) row-heard
+      three_rows at n b v
+      ∙ ap (λ (h : Heard). both h (up_to silence both n third)) (up_to_both silence both silence_both both_assoc both_comm n one two)
+      ∙ up_to_both silence both silence_both both_assoc both_comm n (λ j. both (one j) (two j)) third
+      ∙ up_to_same silence both n _ (said radius numbers st ds k) row_heard

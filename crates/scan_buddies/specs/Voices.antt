@@ -10,7 +10,7 @@ use Rattle.lists.specs.Sums.{up_to, up_to_same, up_to_both}
 use Rattle.lists.specs.Chains.{sum_of, Walked}
 use Rattle.scheme.specs.Units.{most_limit}
 use Rattle.scheme.specs.Buddies.{Heard, silence, both}
-use Rattle.scheme.specs.Adding.{silence-both, both-silence, both_assoc}
+use Rattle.scheme.specs.Adding.{silence_both, both_silence, both_assoc}
 
 -- from a count and a sum
 abbrev pub told : ℕ → ℤ → Heard
@@ -75,15 +75,15 @@ pub from_join : (cell : ℕ → ℕ) (n low mid high : ℕ) (f : ℕ → Heard) 
     → both (from_cells cell n low mid f) (from_cells cell n mid high f) ≡ from_cells cell n low high f
 unfolding from_cells
 from_join cell n low mid high f h l =
-    up_to_both silence both silence-both both_assoc both_comm n (λ j. cond (between low mid (cell j)) (f j) silence) (λ j. cond (between mid high (cell j)) (f j) silence)
+    up_to_both silence both silence_both both_assoc both_comm n (λ j. cond (between low mid (cell j)) (f j) silence) (λ j. cond (between mid high (cell j)) (f j) silence)
     ∙ up_to_same silence both n _ _ (λ j m. here (cell j) (f j) (lt_or_le (cell j) mid) (lt_or_le (cell j) low) (lt_or_le (cell j) high))
   where
     here : (a : ℕ) (v : Heard) → (a < mid) ⊎ (mid ≤ a) → (a < low) ⊎ (low ≤ a) → (a < high) ⊎ (high ≤ a)
         → both (cond (between low mid a) v silence) (cond (between mid high a) v silence) ≡ cond (between low high a) v silence
-    here a v (inl p) (inl q) r = rw (below_them low mid a q, below_them mid high a p, below_them low high a q) (silence-both silence)
-    here a v (inl p) (inr q) r = rw (among_them low mid a q p, below_them mid high a p, among_them low high a q (omega arith)) (both-silence v)
-    here a v (inr p) q (inl r) = rw (beyond_them low mid a p, among_them mid high a p r, among_them low high a (omega arith) r) (silence-both v)
-    here a v (inr p) q (inr r) = rw (beyond_them low mid a p, beyond_them mid high a r, beyond_them low high a r) (silence-both silence)
+    here a v (inl p) (inl q) r = rw (below_them low mid a q, below_them mid high a p, below_them low high a q) (silence_both silence)
+    here a v (inl p) (inr q) r = rw (among_them low mid a q p, below_them mid high a p, among_them low high a q (omega arith)) (both_silence v)
+    here a v (inr p) q (inl r) = rw (beyond_them low mid a p, among_them mid high a p r, among_them low high a (omega arith) r) (silence_both v)
+    here a v (inr p) q (inr r) = rw (beyond_them low mid a p, beyond_them mid high a r, beyond_them low high a r) (silence_both silence)
 
 -- one more cell, with what was heard before
 pub from_more : (cell : ℕ → ℕ) (n low i : ℕ) (f : ℕ → Heard) (before h h' : Heard) → h ≡ both before (from_cells cell n low (low + i) f)

@@ -1,10 +1,10 @@
 -- The walk down a cell's chain, on which a station hears the survivors in the cell one by one.
 use Rattle.std.specs.Prelude.{ℕ, ◌+◌, ◌-◌, ◌*◌, ◌≤◌, ◌<◌, ◌≡◌, List, [], get_or, ℤ, pos}
 use Rattle.std.proofs.Common.{arith, ap, ◌∙◌}
-use Rattle.lists.specs.Chains.{last, sum_of, Walked, last-most, walk_start, walk_turn, walk_end}
+use Rattle.lists.specs.Chains.{last, sum_of, Walked, last_most, walk_start, walk_turn, walk_end}
 use Rattle.scheme.specs.Units.{most_stations}
 use Rattle.scheme.specs.Buddies.{Heard, silence, both}
-use Rattle.scheme.specs.Adding.{both-silence, both_assoc}
+use Rattle.scheme.specs.Adding.{both_silence, both_assoc}
 use Rattle.scan_buddies.specs.Aside.{Standing}
 use Rattle.scan_buddies.specs.Voices.{both_comm, OfAtMost, of_more, of_both, from_cells, from_one, from_few, walked_few}
 use Rattle.scan_buddies.specs.Cells.{cells, kinds, cell_at, Survivors}
@@ -44,13 +44,13 @@ module _ (radius : ℕ) (numbers : List (List ℤ)) (ds : List ℤ) (heads next 
     pub walking_start : c < kinds → Walking radius numbers ds k c n st before (get_or heads c 0) before
     walking_start l =
         rw (s.chained.head c l)
-        (walk_start silence both both-silence both_assoc both_comm (cell_at radius numbers st) c (voice radius numbers ds k) n before)
+        (walk_start silence both both_silence both_assoc both_comm (cell_at radius numbers st) c (voice radius numbers ds k) n before)
 
     module _ (small : c < cells) (t : ℕ) (h : Heard) (some : 0 < t) (w : Walking radius numbers ds k c n st before t h) where
       turned : (cell_at radius numbers st (t - 1) ≡ c)
           × Walking radius numbers ds k c n st before (last (cell_at radius numbers st) (cell_at radius numbers st (t - 1)) (t - 1)) (both h (voice radius numbers ds k (t - 1)))
       turned =
-          walk_turn silence both both-silence both_assoc both_comm (cell_at radius numbers st) c (voice radius numbers ds k) n t (t - 1) h _ (omega arith) w
+          walk_turn silence both both_silence both_assoc both_comm (cell_at radius numbers st) c (voice radius numbers ds k) n t (t - 1) h _ (omega arith) w
 
       below : t - 1 < n
       below = omega (arith, w.no_more)
@@ -70,7 +70,7 @@ module _ (radius : ℕ) (numbers : List (List ℤ)) (ds : List ℤ) (heads next 
       next_is = s.chained.link (t - 1) below
 
       pub next_less : get_or next (t - 1) 0 < t
-      next_less = omega (arith, next_is, last-most (cell_at radius numbers st) (cell_at radius numbers st (t - 1)) (t - 1))
+      next_less = omega (arith, next_is, last_most (cell_at radius numbers st) (cell_at radius numbers st (t - 1)) (t - 1))
 
       pub walking_next : Walking radius numbers ds k c n st before (get_or next (t - 1) 0) (both h (voice radius numbers ds k (t - 1)))
       walking_next = rw next_is turned.1
@@ -78,5 +78,5 @@ module _ (radius : ℕ) (numbers : List (List ℤ)) (ds : List ℤ) (heads next 
     pub walking_end : (t : ℕ) (h : Heard) → t ≡ 0 → Walking radius numbers ds k c n st before t h
         → h ≡ both before (from_cells (cell_at radius numbers st) n c (c + 1) (voice radius numbers ds k))
     walking_end t h e w =
-        walk_end silence both both-silence both_assoc both_comm (cell_at radius numbers st) c (voice radius numbers ds k) n t h _ e w
+        walk_end silence both both_silence both_assoc both_comm (cell_at radius numbers st) c (voice radius numbers ds k) n t h _ e w
         ∙ ap (both before) (from_one (cell_at radius numbers st) n c (voice radius numbers ds k))

@@ -12,9 +12,9 @@ use Rattle.scheme.specs.Most.{most_along, most_square}
 unfoldable pub inside_in : (lx : List ℤ) (ly : List ℕ) (r2 i t : ℕ) → ℕ
 inside_in lx ly r2 i t = cond (ltb (square (get_or lx t (pos 0) -ℤ pos (step * i)) + get_or ly t 0) r2) 1 0
 
-pub inside-once : (lx : List ℤ) (ly : List ℕ) (r2 i t : ℕ) → inside_in lx ly r2 i t ≤ 1
+pub inside_once : (lx : List ℤ) (ly : List ℕ) (r2 i t : ℕ) → inside_in lx ly r2 i t ≤ 1
 unfolding inside_in
-inside-once lx ly r2 i t = cond_both (λ (n : ℕ). n ≤ 1) (ltb (square (get_or lx t (pos 0) -ℤ pos (step * i)) + get_or ly t 0) r2) 1 0 (λ e. omega arith) (λ e. omega arith)
+inside_once lx ly r2 i t = cond_both (λ (n : ℕ). n ≤ 1) (ltb (square (get_or lx t (pos 0) -ℤ pos (step * i)) + get_or ly t 0) r2) 1 0 (λ e. omega arith) (λ e. omega arith)
 
 -- so many of the entries from t up to n, as a loop from the last to the first counts them
 pub record Counted (f : ℕ → ℕ) (n t count : ℕ) : Type 0 where
@@ -42,9 +42,9 @@ counted_join f c d =
     record { no_more = omega (arith, c.no_more, d.no_more); few = omega (arith, c.few, d.few); sum = omega (arith, c.sum, d.sum) }
 
 -- all
-pub counted-all : (f : ℕ → ℕ) {n count : ℕ} → Counted f n 0 count → count ≡ up_to 0 ◌+◌ n f
+pub counted_all : (f : ℕ → ℕ) {n count : ℕ} → Counted f n 0 count → count ≡ up_to 0 ◌+◌ n f
 unfolding up_to
-counted-all f c = omega (arith, c.sum)
+counted_all f c = omega (arith, c.sum)
 
 pub record Placed (lx : List ℤ) (ly : List ℕ) (t : ℕ) : Type 0 where
   pub x_small : nat_abs (get_or lx t (pos 0)) ≤ most_along

@@ -17,7 +17,7 @@ use Rattle.scheme.specs.Correction.{Sums, nothing, plus, gift}
 use Rattle.scheme.specs.Most.{most_along}
 use Rattle.scheme.specs.Streaks.{Fair}
 use Rattle.scheme.specs.Gifts.{weighed, Modest, modest_nothing, modest_plus, modest_weighed, gift_outside, gift_modest}
-use Rattle.scheme.specs.Adding.{plus-nothing}
+use Rattle.scheme.specs.Adding.{plus_nothing}
 
 -- ---- from all the stations: what the one of row k gives to point (i, j)
 
@@ -95,10 +95,10 @@ module _ (give : ℕ → Sums) where
       }
 
   -- how many of them are inside
-  pub inside-counted : (one : ℕ → ℕ) (n : ℕ) → ((t : ℕ) → t < n → (give t).inside ≡ one t) → (up_to nothing plus n give).inside ≡ up_to 0 ◌+◌ n one
+  pub inside_counted : (one : ℕ → ℕ) (n : ℕ) → ((t : ℕ) → t < n → (give t).inside ≡ one t) → (up_to nothing plus n give).inside ≡ up_to 0 ◌+◌ n one
   unfolding up_to
-  inside-counted one zero h = refl
-  inside-counted one (suc n) h = rw (inside-counted one n (λ t l. h t (omega arith)), h n (omega arith))
+  inside_counted one zero h = refl
+  inside_counted one (suc n) h = rw (inside_counted one n (λ t l. h t (omega arith)), h n (omega arith))
 
   -- the sums of the entries from t on, as a loop from the last to the first makes them
   pub record Down (n t w : ℕ) (wd : ℤ) : Type 0 where
@@ -114,9 +114,9 @@ module _ (give : ℕ → Sums) where
         kept = omega arith;
       }
 
-  pub down-all : (n w : ℕ) (wd : ℤ) → Down n 0 w wd → (w ≡ (up_to nothing plus n give).weights) × (wd ≡ (up_to nothing plus n give).pulls)
+  pub down_all : (n w : ℕ) (wd : ℤ) → Down n 0 w wd → (w ≡ (up_to nothing plus n give).weights) × (wd ≡ (up_to nothing plus n give).pulls)
   unfolding up_to
-  down-all n w wd h = (sym (h.weights ∙ zero-add w), sym (h.pulls ∙ +ℤ_idl wd))
+  down_all n w wd h = (sym (h.weights ∙ zero-add w), sym (h.pulls ∙ +ℤ_idl wd))
 
   pub down_small : (n t w : ℕ) (wd : ℤ) → ((t : ℕ) → t < n → Slight (give t)) → Down n t w wd → w ≤ n * scale
   down_small n t w wd slight h = omega (arith, h.weights, weights_few n _ (near_small n slight))
@@ -154,7 +154,7 @@ pub record Inside (x y d : ℤ) (w : Wind) : Type 0 where
   pub x_small : nat_abs x ≤ most_along
   pub y_small : nat_abs y ≤ most_along
   pub d_small : nat_abs d ≤ most_limit
-  pub wind-fair : is_no_wind w ≡ false → Fair w
+  pub wind_fair : is_no_wind w ≡ false → Fair w
 
 pub record Ready (all : Stations) : Type 0 where
   pub few : all.count ≤ most_stations
@@ -172,10 +172,10 @@ unfolding up_to
 near_none give Fine all r2 j = record { no_more = omega arith; sized = λ t h. absurd (omega arith); same = λ i. refl }
 
 -- a row that is not nearer than R to the grid row gives nothing
-far_gives-nothing : (all : Stations) (r2 i j k : ℕ) → r2 ≤ row_gap (verdict_at all k) (y_at all k) j r2
+far_gives_nothing : (all : Stations) (r2 i j k : ℕ) → r2 ≤ row_gap (verdict_at all k) (y_at all k) j r2
     → share_at all r2 i j k ≡ nothing
 unfolding share_at row_gap
-far_gives-nothing all r2 i j k h = go (is_accepted (verdict_at all k)) h
+far_gives_nothing all r2 i j k h = go (is_accepted (verdict_at all k)) h
   where
     dx : ℤ
     dx = x_at all k -ℤ pos (step * i)
@@ -215,13 +215,13 @@ module _ {all : Stations} {r2 j n k : ℕ} {give give' : ℕ → ℕ → Sums} {
         same =
             λ i. kept_sums i
             ∙ sym (up_to_next nothing plus k (share_at all r2 i j)
-            ∙ ap (plus (up_to nothing plus k (share_at all r2 i j))) (far_gives-nothing all r2 i j k h)
-            ∙ plus-nothing (up_to nothing plus k (share_at all r2 i j)));
+            ∙ ap (plus (up_to nothing plus k (share_at all r2 i j))) (far_gives_nothing all r2 i j k h)
+            ∙ plus_nothing (up_to nothing plus k (share_at all r2 i j)));
       }
 
   -- one that is near becomes the next entry
-  pub near-gathered : ((i : ℕ) → give' i n ≡ share_at all r2 i j k) → Fine' n → Near give' Fine' (n + 1) all r2 j (k + 1)
-  near-gathered new new_fine =
+  pub near_gathered : ((i : ℕ) → give' i n ≡ share_at all r2 i j k) → Fine' n → Near give' Fine' (n + 1) all r2 j (k + 1)
+  near_gathered new new_fine =
       record {
         no_more = omega (arith, near.no_more);
         sized = sized;
@@ -244,7 +244,7 @@ module _ {all : Stations} {r2 j n k : ℕ} {give give' : ℕ → ℕ → Sums} {
   near_step new new_fine = go (lt_or_le gap r2)
     where
       go : (gap < r2) ⊎ (r2 ≤ gap) → Near give' Fine' (n + cond (ltb gap r2) 1 0) all r2 j (k + 1)
-      go (inl h) = rw (lt-ltb gap r2 h) (near-gathered (new h) (new_fine h))
+      go (inl h) = rw (lt-ltb gap r2 h) (near_gathered (new h) (new_fine h))
       go (inr h) = rw (le-ltb gap r2 h, add-zero n) (far_passed h)
 
 -- what an accepted row gives

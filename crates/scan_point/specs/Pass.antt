@@ -153,8 +153,8 @@ few_points shape = rw shape.whole (mul-le-mul shape.few_columns shape.few_rows)
 
 -- the lists gathered for the row serve it
 module _ {z : List ℤ} {sup : List ℕ} {nx ny : ℕ} {all : Stations} {r2 bit j : ℕ} (ok : RowPass z sup nx ny all r2 bit j) where
-  pub row-place : j * nx + nx ≤ most_points
-  row-place = omega (arith, row_in nx ny j ok.row, few_points ok.shape, ok.shape.whole)
+  pub row_place : j * nx + nx ≤ most_points
+  row_place = omega (arith, row_in nx ny j ok.row, few_points ok.shape, ok.shape.whole)
 
   module _ {give : ℕ → ℕ → Sums} {Fine : ℕ → Type 0} {n : ℕ} (fine : (i t : ℕ) → Fine t → Slight (give i t))
       (near : Near give Fine n all r2 j all.count) where
@@ -171,17 +171,17 @@ module _ {z : List ℤ} {sup : List ℕ} {nx ny : ℕ} {all : Stations} {r2 bit 
           free = ok.free;
         }
 
-    same-values : (rule : ℕ) → row_z rule z give n (j * nx) ≡ row_value rule z all r2 j (j * nx)
+    same_values : (rule : ℕ) → row_z rule z give n (j * nx) ≡ row_value rule z all r2 j (j * nx)
     unfolding row_z row_value sums_over
-    same-values rule = fun_ext (λ k. rw (near.same (k - j * nx)))
+    same_values rule = fun_ext (λ k. rw (near.same (k - j * nx)))
 
     same_supports : row_s sup give n bit (j * nx) ≡ row_support sup all r2 bit j (j * nx)
     unfolding row_s row_support sums_over
     same_supports = fun_ext (λ k. rw (near.same (k - j * nx)))
 
-    pub row-values : (rule : ℕ) {z' : List ℤ} → Filled (pos 0) (row_z rule z give n (j * nx)) (j * nx) (j * nx + nx) z z'
+    pub row_values : (rule : ℕ) {z' : List ℤ} → Filled (pos 0) (row_z rule z give n (j * nx)) (j * nx) (j * nx + nx) z z'
         → Filled (pos 0) (row_value rule z all r2 j (j * nx)) (j * nx) (j * nx + nx) z z'
-    row-values rule p = rw (same-values rule) at p
+    row_values rule p = rw (same_values rule) at p
 
     pub row_supports : {sup' : List ℕ} → Filled 0 (row_s sup give n bit (j * nx)) (j * nx) (j * nx + nx) sup sup'
         → Filled 0 (row_support sup all r2 bit j (j * nx)) (j * nx) (j * nx + nx) sup sup'

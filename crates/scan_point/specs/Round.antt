@@ -11,9 +11,9 @@ use Rattle.scheme.specs.Units.{step, most_stations, most_limit, round_mode}
 use Rattle.scheme.specs.Weight.{weight, square, inside, weight_at}
 use Rattle.scheme.specs.Correction.{Sums}
 use Rattle.scheme.specs.Most.{most_along, most_square}
-use Rattle.scheme.specs.Weights.{weight_beyond, weight-most, inside-alone}
+use Rattle.scheme.specs.Weights.{weight_beyond, weight_most, inside_alone}
 use Rattle.scheme.specs.Streaks.{round_if_still, still_in_mode_0}
-use Rattle.scheme.specs.Gifts.{weighed, gift-weighed}
+use Rattle.scheme.specs.Gifts.{weighed, gift_weighed}
 use Rattle.scan_lone.specs.Inside.{inside_in, Placed}
 use Rattle.scan_point.specs.Near.{Stations, x_at, y_at, wind_at, verdict_at, d_at, share_at, Slight, weighed_slight, row_gap, Ready, Near, near_is_accepted, near_step, accepted_shares}
 
@@ -42,7 +42,7 @@ pub round_slight : (lx : List ℤ) (ly : List ℕ) (ld : List ℤ) (r2 i t : ℕ
 unfolding near_share
 round_slight lx ly ld r2 i t s =
     let d2 : ℕ = square (get_or lx t (pos 0) -ℤ pos (step * i)) + get_or ly t 0 in
-    weighed_slight (ltb d2 r2) (weight r2 d2) (get_or ld t (pos 0)) (inside-alone (weight r2 d2) r2 d2 (weight-most r2 d2) (weight_beyond r2 d2)) s.d_small
+    weighed_slight (ltb d2 r2) (weight r2 d2) (get_or ld t (pos 0)) (inside_alone (weight r2 d2) r2 d2 (weight_most r2 d2) (weight_beyond r2 d2)) s.d_small
 
 pub record Roomy (lx : List ℤ) (ly : List ℕ) (ld : List ℤ) : Type 0 where
   pub x_long : length lx ≡ most_stations
@@ -72,9 +72,9 @@ module _ (lx : List ℤ) (ly : List ℕ) (ld : List ℤ) (n : ℕ) (x : ℤ) (y 
         d_small = rw (get_or-set_other ld n t d (pos 0) o) s.d_small;
       }
 
-  share-set : (r2 i t : ℕ) → t < n → near_share (set lx n x) (set ly n y) (set ld n d) r2 i t ≡ near_share lx ly ld r2 i t
+  share_set : (r2 i t : ℕ) → t < n → near_share (set lx n x) (set ly n y) (set ld n d) r2 i t ≡ near_share lx ly ld r2 i t
   unfolding near_share
-  share-set r2 i t h =
+  share_set r2 i t h =
       let o : (t ≡ n) → ⊥ = λ (e : t ≡ n). omega arith in
       rw (get_or-set_other lx n t x (pos 0) o, get_or-set_other ly n t y 0 o, get_or-set_other ld n t d (pos 0) o)
 
@@ -115,7 +115,7 @@ module _ (all : Stations) (r2 j : ℕ) (bounded : r2 ≤ most_square) (ok : Read
         let (accepted, gap_is) = near_is_accepted (verdict_at all k) (y_at all k) j r2 close in
         rw (new_x lx ly ld n (x_at all k) gap (d_at all k) room n_room, new_y lx ly ld n (x_at all k) gap (d_at all k) room n_room, new_d lx ly ld n (x_at all k) gap (d_at all k) room n_room, gap_is)
         (sym (accepted_shares all r2 i j k accepted
-        ∙ gift-weighed all.mode r2 (wind_at all k) (d_at all k) dx dy
+        ∙ gift_weighed all.mode r2 (wind_at all k) (d_at all k) dx dy
         ∙ ap (λ (m : ℕ). weighed (inside r2 dx dy) (weight_at m r2 (wind_at all k) dx dy) (d_at all k)) round
         ∙ ap (λ (w : ℕ). weighed (inside r2 dx dy) w (d_at all k)) (round_if_still round_mode r2 (wind_at all k) dx dy (still_in_mode_0 (wind_at all k) dx dy))))
 
@@ -127,5 +127,5 @@ module _ (all : Stations) (r2 j : ℕ) (bounded : r2 ≤ most_square) (ok : Read
     near_turn near ex ed eg eo =
         rw (eo, eg, ex, ed) (
           roomy_set lx ly ld n (x_at all k) gap (d_at all k) room,
-          near_step near (share-set lx ly ld n (x_at all k) gap (d_at all k) r2) (sized_set lx ly ld n (x_at all k) gap (d_at all k)) next_share next_sized,
+          near_step near (share_set lx ly ld n (x_at all k) gap (d_at all k) r2) (sized_set lx ly ld n (x_at all k) gap (d_at all k)) next_share next_sized,
         )

@@ -28,7 +28,7 @@ pub rows_in : (nx ny j len : ℕ) → Shaped nx ny len → RowsIn nx ny j len
 rows_in nx ny j len shape =
     record {
       few = rw shape.whole (mul-le-mul shape.few_columns shape.few_rows);
-      first = omega (arith, shape.whole, mul-le-mul_right nx shape.two-rows, mul_comm nx ny);
+      first = omega (arith, shape.whole, mul-le-mul_right nx shape.two_rows, mul_comm nx ny);
       three = λ h. let k : j + 3 ≤ ny = omega arith in omega (arith, shape.whole, mul-le-mul_right nx k, mul_comm nx ny);
     }
 
@@ -125,8 +125,8 @@ module _ (l : List ℤ) (nx ny : ℕ) where
   NewTo j z = Filled (pos 0) (smooth_k l nx ny) 0 ((j + 1) * nx) l z
 
   -- the first row is border
-  pub first-row : NewTo 0 l
-  first-row =
+  pub first_row : NewTo 0 l
+  first_row =
       record {
         same_length = refl;
         low = λ k h. refl;

@@ -4,7 +4,7 @@ use Rattle.std.proofs.Common.{arith, mul-le-mul, ap, ltb-true, leb-true, lt-ltb}
 use Rattle.std.proofs.Math.IntN.{+ℤ_idl}
 use Rattle.integers.specs.Sizes.{size_mul}
 use Rattle.lists.specs.Tests.{and_true}
-use Rattle.lists.specs.Members.{every, every-at}
+use Rattle.lists.specs.Members.{every, every_at}
 use Rattle.lists.specs.Sums.{up_to, up_to_same, up_to_most}
 use Rattle.scheme.specs.Units.{Field, field_of}
 use Rattle.scheme.specs.Rounding.{rounded}
@@ -32,25 +32,25 @@ new_at above here z q i = rounded (nine above here z q i) 16
 -- ---- sizes
 
 -- no number of the pattern is above 4
-pub pattern-most : (a b : ℕ) → pattern_at a b ≤ 4
+pub pattern_most : (a b : ℕ) → pattern_at a b ≤ 4
 unfolding every
-pattern-most a b =
+pattern_most a b =
     leb-true (pattern_at a b) 4
-    (every-at (λ n. leb n 4) 0 refl (get_or pattern b []) (every-at (every (λ n. leb n 4)) [] refl pattern refl b) a)
+    (every_at (λ n. leb n 4) 0 refl (get_or pattern b []) (every_at (every (λ n. leb n 4)) [] refl pattern refl b) a)
 
 module _ (l : List ℤ) (p : ℕ) (small : SmallFrom p l) where
   pub term_size : (b a : ℕ) → nat_abs (term l p b a) ≤ 4 * most_field
   unfolding term
   term_size b a =
-      rw (size_mul (pos (pattern_at a b)) (get_or l (p + a) (pos 0))) (mul-le-mul (pattern-most a b) (small (p + a) (omega arith)))
+      rw (size_mul (pos (pattern_at a b)) (get_or l (p + a) (pos 0))) (mul-le-mul (pattern_most a b) (small (p + a) (omega arith)))
 
   -- after a turns, and after all three
   pub row_size : (b a : ℕ) → a ≤ 3 → nat_abs (up_to (pos 0) ◌+ℤ◌ a (term l p b)) ≤ 12 * most_field
   row_size b a h = omega (arith, up_to_most (4 * most_field) a (term l p b) (λ k e. term_size b k))
 
-  pub row-whole : (b : ℕ) → nat_abs (row_at l p b) ≤ 12 * most_field
+  pub row_whole : (b : ℕ) → nat_abs (row_at l p b) ≤ 12 * most_field
   unfolding row_at
-  row-whole b = row_size b 3 (omega arith)
+  row_whole b = row_size b 3 (omega arith)
 
 -- ---- rows that are alike, and the paper's pattern as three rows
 
@@ -58,9 +58,9 @@ pub row_same : (l l' : List ℤ) (p p' b : ℕ) → ((a : ℕ) → a < 3 → get
 unfolding row_at term
 row_same l l' p p' b h = up_to_same (pos 0) ◌+ℤ◌ 3 _ _ (λ a e. ap (λ (v : ℤ). pos (pattern_at a b) *ℤ v) (h a e))
 
-pattern-row_is : (l : List ℤ) (nx i j b : ℕ) → pattern_row (field_of (pos 0) nx l) (i + 1) (j + 1) b ≡ row_at l ((j + b) * nx + i) b
+pattern_row_is : (l : List ℤ) (nx i j b : ℕ) → pattern_row (field_of (pos 0) nx l) (i + 1) (j + 1) b ≡ row_at l ((j + b) * nx + i) b
 unfolding pattern_row row_at term field_of
-pattern-row_is l nx i j b =
+pattern_row_is l nx i j b =
     up_to_same (pos 0) ◌+ℤ◌ 3 _ _ (λ a e. ap (λ (k : ℕ). pos (pattern_at a b) *ℤ get_or l k (pos 0)) (place a))
   where
     place : (a : ℕ) → (j + 1 + b - 1) * nx + (i + 1 + a - 1) ≡ (j + b) * nx + i + a
@@ -74,8 +74,8 @@ pub pattern_is : (l : List ℤ) (nx i j : ℕ)
 unfolding pattern_sum up_to
 pattern_is l nx i j =
     let e : j + 0 ≡ j = omega arith in
-    let first : pattern_row (field_of (pos 0) nx l) (i + 1) (j + 1) 0 ≡ row_at l (j * nx + i) 0 = rw e at (pattern-row_is l nx i j 0) in
-    rw (+ℤ_idl (pattern_row (field_of (pos 0) nx l) (i + 1) (j + 1) 0), first, pattern-row_is l nx i j 1, pattern-row_is l nx i j 2)
+    let first : pattern_row (field_of (pos 0) nx l) (i + 1) (j + 1) 0 ≡ row_at l (j * nx + i) 0 = rw e at (pattern_row_is l nx i j 0) in
+    rw (+ℤ_idl (pattern_row (field_of (pos 0) nx l) (i + 1) (j + 1) 0), first, pattern_row_is l nx i j 1, pattern_row_is l nx i j 2)
 
 -- ---- the cases of a point
 

@@ -6,7 +6,7 @@ use Rattle.std.proofs.lemmas.Bool.{not-false}
 use Rattle.std.proofs.Math.ListN.{length}
 use Rattle.integers.specs.Parts.{dn}
 use Rattle.lists.specs.Tests.{and_true}
-use Rattle.lists.specs.Tab.{tab, length-tab, get_or_tab, is_tab, map-tab, tab-same}
+use Rattle.lists.specs.Tab.{tab, length-tab, get_or_tab, is_tab, map-tab, tab_same}
 use Rattle.scheme.specs.Units.{is_missing, most_side, stored, field_of, step, Station, most_beyond, guess}
 use Rattle.scheme.specs.Verdicts.{near_axis, off_grid, first_that_fits, before_scans}
 use Rattle.scheme.specs.Most.{most_along}
@@ -18,9 +18,9 @@ use Rattle.scan_station.specs.Judge.{AcceptedHeard}
 use Rattle.scan_start.specs.Reached.{row_in, Reached}
 
 -- a stored first guess is stored
-guess-stored : (nx ny : ℕ) (l : List ℤ) → length l ≡ nx * ny → l ≡ stored nx ny (field_of (pos 0) nx l)
+guess_stored : (nx ny : ℕ) (l : List ℤ) → length l ≡ nx * ny → l ≡ stored nx ny (field_of (pos 0) nx l)
 unfolding stored field_of
-guess-stored nx ny l e = is_tab (pos 0) (nx * ny) _ l e (λ k h. ap (λ (n : ℕ). get_or l n (pos 0)) (sym (div-add-mod' k nx)))
+guess_stored nx ny l e = is_tab (pos 0) (nx * ny) _ l e (λ k h. ap (λ (n : ℕ). get_or l n (pos 0)) (sym (div-add-mod' k nx)))
 
 -- an accepted row is there, and on the grid or a post
 all_five : (a b c d e : Bool) → first_that_fits ((a, 1) ∷ (b, 2) ∷ (c, 3) ∷ (d, 4) ∷ (e, 5) ∷ []) ≡ 0 → (a ≡ false) × (e ≡ false)
@@ -62,9 +62,9 @@ module _ (t : Terms) (first : List ℤ) (numbers : List (List ℤ)) (minutes : L
   verdict_is : (k : ℕ) → k < t.stations → get_or st k 0 ≡ first_at t numbers minutes k
   verdict_is k h = ap (λ (l : List ℕ). get_or l k 0) verdicts ∙ get_or_tab t.stations _ k 0 h
 
-  start-rows : (start most_beyond (request_in t first numbers minutes)).rows ≡ tab t.stations (row_in numbers minutes st)
+  start_rows : (start most_beyond (request_in t first numbers minutes)).rows ≡ tab t.stations (row_in numbers minutes st)
   unfolding start
-  start-rows = map-tab _ t.stations (station_in numbers minutes) ∙ tab-same t.stations _ _ (λ k h. cc (verdict_is k h))
+  start_rows = map-tab _ t.stations (station_in numbers minutes) ∙ tab_same t.stations _ _ (λ k h. cc (verdict_is k h))
 
   in-range : (k : ℕ) → k < t.stations → Stationed (station_in numbers minutes k)
   in-range k h =
@@ -90,9 +90,9 @@ module _ (t : Terms) (first : List ℤ) (numbers : List (List ℤ)) (minutes : L
         sound = sound;
         holds =
             record {
-              field = ez ∙ guess-stored t.nx t.ny first sound.shape.whole;
+              field = ez ∙ guess_stored t.nx t.ny first sound.shape.whole;
               support = es ∙ ap (λ (n : ℕ). tab n (λ k. 0)) long;
-              rows = start-rows;
+              rows = start_rows;
               long = ap length verdicts ∙ length-tab t.stations _;
             };
         heard = heard;

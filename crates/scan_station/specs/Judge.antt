@@ -13,7 +13,7 @@ use Rattle.scheme.specs.Accepted.{Shaped}
 use Rattle.scheme.specs.Nearest.{rounded_size}
 use Rattle.scheme.specs.Bounds.{Small}
 use Rattle.scheme.specs.Exact.{sum_size}
-use Rattle.scheme.specs.Axes.{place-most}
+use Rattle.scheme.specs.Axes.{place_most}
 use Rattle.request.specs.declared.Terms.{Terms}
 use Rattle.request.specs.Tables.{station_of}
 
@@ -88,4 +88,4 @@ module _ (z : List ℤ) (nx ny : ℕ) (shape : Shaped nx ny (length z)) (small :
   unfolding value_at field_of
   value_size s =
       rounded_size (sum_at nx ny (field_of (pos 0) nx z) _ _) 4096 most_field
-      (sum_size most_field nx ny _ _ (field_of (pos 0) nx z) (λ i j. small (j * nx + i)) shape.two_columns shape.two-rows (place-most nx s.x) (place-most ny s.y))
+      (sum_size most_field nx ny _ _ (field_of (pos 0) nx z) (λ i j. small (j * nx + i)) shape.two_columns shape.two_rows (place_most nx s.x) (place_most ny s.y))

@@ -11,8 +11,8 @@ use Rattle.lists.specs.Tests.{lt_or_le, true_or_false, cond_both}
 use Rattle.scheme.specs.Units.{most_radius, Wind, most_wind, is_no_wind, wind_mode}
 use Rattle.scheme.specs.Weight.{scale, weight, square, squares, along, strength, stretched, blows, weight_at}
 use Rattle.scheme.specs.Most.{most_square}
-use Rattle.scheme.specs.Weights.{weight_beyond, weight-most}
-use Rattle.scheme.specs.Streaks.{no_weight_outside, weight-inside, round_if_still, still_if_missing, Fair}
+use Rattle.scheme.specs.Weights.{weight_beyond, weight_most}
+use Rattle.scheme.specs.Streaks.{no_weight_outside, weight_inside, round_if_still, still_if_missing, Fair}
 
 -- a missing wind gives the round weight, as a calm one does
 unfoldable pub calmed : Wind → Wind
@@ -37,11 +37,11 @@ module _ (r2 d2 w2 : ℕ) (q : ℤ) where
   unfolding weight_by
   windy h some = rw (lt-leb r2 d2 h, ne_eqb (w2 * d2) 0 (λ e. omega arith))
 
-pub weight_by-most : (r2 d2 w2 : ℕ) (q : ℤ) → weight_by r2 d2 w2 q ≤ scale
+pub weight_by_most : (r2 d2 w2 : ℕ) (q : ℤ) → weight_by r2 d2 w2 q ≤ scale
 unfolding weight_by
-weight_by-most r2 d2 w2 q =
+weight_by_most r2 d2 w2 q =
     cond_both (λ (n : ℕ). n ≤ scale) (leb r2 d2) 0 _ (λ e. omega arith)
-    (λ e. cond_both (λ (n : ℕ). n ≤ scale) (eqb (w2 * d2) 0) (weight r2 d2) (weight (r2 * (w2 * d2 + square q)) (w2 * d2 * d2)) (λ f. weight-most r2 d2) (λ f. weight-most _ _))
+    (λ e. cond_both (λ (n : ℕ). n ≤ scale) (eqb (w2 * d2) 0) (weight r2 d2) (weight (r2 * (w2 * d2 + square q)) (w2 * d2 * d2)) (λ f. weight_most r2 d2) (λ f. weight_most _ _))
 
 -- ---- it is the weight of mode 1
 
@@ -78,7 +78,7 @@ module _ (r2 : ℕ) (w : Wind) (dx dy : ℤ) where
           round_if_still wind_mode r2 w dx dy (blows_if_some e ∙ le-ltb 0 (strength w * squares dx dy) (omega arith))
           ∙ sym (calm r2 (squares dx dy) (strength w) (along w dx dy) h z)
       go (inl h) (inr s) =
-          weight-inside wind_mode r2 w dx dy h ∙ rw (blows_if_some e, lt-ltb 0 (strength w * squares dx dy) s) (unfold stretched in sym (windy r2 (squares dx dy) (strength w) (along w dx dy) h s))
+          weight_inside wind_mode r2 w dx dy h ∙ rw (blows_if_some e, lt-ltb 0 (strength w * squares dx dy) s) (unfold stretched in sym (windy r2 (squares dx dy) (strength w) (along w dx dy) h s))
 
   pub by_wind : weight_at wind_mode r2 w dx dy ≡ weight_by r2 (squares dx dy) (strength (calmed w)) (along (calmed w) dx dy)
   by_wind = go (true_or_false (is_no_wind w))
@@ -87,9 +87,9 @@ module _ (r2 : ℕ) (w : Wind) (dx dy : ℤ) where
       go (inl e) = missing_is_calm e
       go (inr e) = there e
 
-pub calmed-fair : (w : Wind) → (is_no_wind w ≡ false → Fair w) → Fair (calmed w)
+pub calmed_fair : (w : Wind) → (is_no_wind w ≡ false → Fair w) → Fair (calmed w)
 unfolding calmed
-calmed-fair w h = go (is_no_wind w) h
+calmed_fair w h = go (is_no_wind w) h
   where
     go : (none : Bool) → (none ≡ false → Fair w) → Fair (cond none (record { u = pos 0; v = pos 0 }) w)
     go true f = (omega arith, omega arith)
@@ -144,7 +144,7 @@ small r2 d2 w2 q2 hr hd hw hq =
 
 -- ---- the quotient: one division where the product fits, and else two steps of long division
 
-pub in_two-steps : (a b : ℕ) → 0 < b → 10000 * a / b ≡ 100 * (100 * a / b) + 100 * (100 * a % b) / b
-in_two-steps a b some =
+pub in_two_steps : (a b : ℕ) → 0 < b → 10000 * a / b ≡ 100 * (100 * a / b) + 100 * (100 * a % b) / b
+in_two_steps a b some =
     let e : 10000 * a ≡ 100 * (100 * a) = omega arith in
     ap (λ (m : ℕ). m / b) e ∙ two_steps 100 (100 * a) b some

@@ -26,10 +26,10 @@ use Rattle.scheme.specs.Accepted.{Shaped, same_shape}
 use Rattle.scheme.specs.Accepted as accepted
 use Rattle.scheme.specs.Streaks.{Fair}
 use Rattle.scheme.specs.Most.{most_field, most_along}
-use Rattle.scheme.specs.Adding.{silence-both}
+use Rattle.scheme.specs.Adding.{silence_both}
 use Rattle.scheme.specs.Judging.{passed, was_accepted, was_survivor}
 use Rattle.scheme.specs.Bounds.{Small, correction_size}
-use Rattle.scheme.specs.Stored.{Same, length-stored, field_stored, stored_same, smoothed-same, stored-all}
+use Rattle.scheme.specs.Stored.{Same, length-stored, field_stored, stored_same, smoothed_same, stored_all}
 use Rattle.request.specs.declared.Terms.{Terms}
 use Rattle.request.specs.Tables.{plan_in}
 use Rattle.scan_buddies.specs.Aside.{x_of, y_of, said, heard_at, aside_at, OnAxis, AllStanding}
@@ -95,7 +95,7 @@ module _ (t : Terms) (numbers : List (List ℤ)) (scan : ℕ) (st : List ℕ) (d
   all_silent : (n : ℕ) → up_to silence both n (λ j. silence) ≡ silence
   unfolding up_to
   all_silent zero = refl
-  all_silent (suc n) = rw (all_silent n) (silence-both silence)
+  all_silent (suc n) = rw (all_silent n) (silence_both silence)
 
   pub left_alone : Filled 0 (aside_in t numbers scan st ds) 0 t.stations st st
   left_alone = record { same_length = refl; low = λ k h. refl; new = λ k a h. sym (stays k); rest = λ k h. refl }
@@ -165,7 +165,7 @@ module _ {t : Terms} {guess : List ℤ} {numbers : List (List ℤ)} {m bit : ℕ
       inside k h e =
           let a = was_survivor (m + 1) (L (plan_in t)) _ _ (get_or st1 k 0) (eq-eqb _ 0 (sym (bf.new k (omega arith) h) ∙ e)) in
           let (o, d) = survivor k h (eqb-true (get_or st1 k 0) 0 a) in
-          record { x_small = o.x; y_small = o.y; d_small = d; wind-fair = ok.winds k h }
+          record { x_small = o.x; y_small = o.y; d_small = d; wind_fair = ok.winds k h }
 
       stations : Ready all
       stations = record { few = ok.few; len_st = bf.same_length ∙ vf.same_length ∙ ok.len_st; inside = inside }
@@ -201,7 +201,7 @@ module _ {t : Terms} {guess : List ℤ} {numbers : List (List ℤ)} {m bit : ℕ
         smooth_shaped = same_shape ok.shape (length z1) (ap length z1-is ∙ length-stored t.nx t.ny moved)
 
         pub smooth_small : Small z1
-        smooth_small = rw z1-is (stored-all (λ (v : ℤ). nat_abs v ≤ most_field) (pos 0) t.nx t.ny moved (omega arith) moved_size)
+        smooth_small = rw z1-is (stored_all (λ (v : ℤ). nat_abs v ≤ most_field) (pos 0) t.nx t.ny moved (omega arith) moved_size)
 
         -- and after smoothing
         kept : (f : Field ℤ) → Same t.nx t.ny moved f → z1 ≡ stored t.nx t.ny f
@@ -211,7 +211,7 @@ module _ {t : Terms} {guess : List ℤ} {numbers : List (List ℤ)} {m bit : ℕ
             → cond on (stored t.nx t.ny (smoothed t.nx t.ny (field_of (pos 0) t.nx z1))) z1 ≡ stored t.nx t.ny (cond on (smoothed t.nx t.ny f) f)
         values true f h =
             ap (λ (l : List ℤ). stored t.nx t.ny (smoothed t.nx t.ny (field_of (pos 0) t.nx l))) (kept f h)
-            ∙ stored_same t.nx t.ny _ _ (smoothed-same t.nx t.ny (field_of (pos 0) t.nx (stored t.nx t.ny f)) f (field_stored t.nx t.ny (pos 0) f))
+            ∙ stored_same t.nx t.ny _ _ (smoothed_same t.nx t.ny (field_of (pos 0) t.nx (stored t.nx t.ny f)) f (field_stored t.nx t.ny (pos 0) f))
         values false f h = kept f h
 
         pub scanned : {z' : List ℤ} {sup' : List ℕ} → z' ≡ smoothed_if t z1 → sup' ≡ stored t.nx t.ny (backed sup t.nx all (r2_in t m) bit)

@@ -11,15 +11,15 @@ use Rattle.scheme.specs.Difference.{Row}
 use Rattle.scheme.specs.Scan.{after_within, after, at_end, analysis}
 use Rattle.scheme.specs.Promises.{slices}
 use Rattle.scheme.specs.Accepted.{same_shape, no_station, Stationed}
-use Rattle.scheme.specs.Bounds.{first-guess_small, after-within}
+use Rattle.scheme.specs.Bounds.{first_guess_small, after-within}
 use Rattle.scheme.specs.Streaks.{Fair}
 use Rattle.scheme.specs.Support.{support_small}
-use Rattle.scheme.specs.Stored.{length-stored, stored-all}
+use Rattle.scheme.specs.Stored.{length-stored, stored_all}
 use Rattle.request.specs.declared.Terms.{Terms}
 use Rattle.request.specs.Tables.{station_of, station_in, request_in}
 use Rattle.scan_point.specs.Near.{wind_in}
 use Rattle.scan_start.specs.Reached.{row_in, Reached}
-use Rattle.scans.specs.Scanned.{Scanned, scan_holds, scan-heard}
+use Rattle.scans.specs.Scanned.{Scanned, scan_holds, scan_heard}
 use Rattle.scans.specs.Ready.{most_before, ScanReady}
 
 module _ {t : Terms} {guess : List ℤ} {numbers : List (List ℤ)} {minutes : List (List ℕ)} {m : ℕ} {z : List ℤ} {sup st : List ℕ}
@@ -52,7 +52,7 @@ module _ {t : Terms} {guess : List ℤ} {numbers : List (List ℤ)} {minutes : L
     scan_ready {bit = bit} bit_is long =
         record {
           guess_shape = now.sound.shape;
-          guess_small = first-guess_small q now.sound;
+          guess_small = first_guess_small q now.sound;
           shape = same_shape now.sound.shape (length z) z_long;
           both = sup_long ∙ sym z_long;
           low = low;
@@ -71,13 +71,13 @@ module _ {t : Terms} {guess : List ℤ} {numbers : List (List ℤ)} {minutes : L
         low : (k : ℕ) → nat_abs (get_or z k (pos 0)) ≤ most_before
         low k =
             rw now.holds.field
-            (stored-all (λ (v : ℤ). nat_abs v ≤ most_before) (pos 0) t.nx t.ny (after q m).field (omega arith)
+            (stored_all (λ (v : ℤ). nat_abs v ≤ most_before) (pos 0) t.nx t.ny (after q m).field (omega arith)
             (λ i j. omega (arith, after-within q now.sound m (omega arith) i j, few_scans)) k)
 
         free : (k : ℕ) → get_or sup k 0 + bit < 256
         free k =
             rw (now.holds.support, bit_is)
-            (stored-all (λ (b : ℕ). b + 2 ^ m < 256) 0 t.nx t.ny (after q m).support (omega (arith, bit_small))
+            (stored_all (λ (b : ℕ). b + 2 ^ m < 256) 0 t.nx t.ny (after q m).support (omega (arith, bit_small))
             (λ i j. omega (arith, support_small q i j m, bit_small)) k)
 
     pub next : {z' : List ℤ} {sup' st' : List ℕ} {ds : List ℤ} → Scanned t guess numbers m z sup st z' sup' st' ds → Reached t guess numbers minutes (m + 1) z' sup' st'
@@ -87,7 +87,7 @@ module _ {t : Terms} {guess : List ℤ} {numbers : List (List ℤ)} {minutes : L
         (record {
           sound = now.sound;
           holds = scan_holds t guess numbers minutes now.sound.shape m (after q m) z sup st now.holds z' sup' st' ds did;
-          heard = scan-heard t guess numbers minutes now.sound.shape m (after q m) z sup st now.holds z' sup' st' ds did now.heard;
+          heard = scan_heard t guess numbers minutes now.sound.shape m (after q m) z sup st now.holds z' sup' st' ds did now.heard;
         })
 
 -- after the last scan they hold the analysis

@@ -6,10 +6,10 @@ use Rattle.std.proofs.Math.Logic.{⊎_elim}
 use Rattle.std.proofs.Math.Bool.{true, false}
 use Rattle.std.proofs.Math.ListN.{length, get_or}
 use Rattle.lists.specs.Tests.{true_or_false}
-use Rattle.lists.specs.Tab.{tab, length-tab, get_or_tab, map-tab, tab-same}
-use Rattle.lists.specs.Sums.{up_to_same, total, total-tab}
+use Rattle.lists.specs.Tab.{tab, length-tab, get_or_tab, map-tab, tab_same}
+use Rattle.lists.specs.Sums.{up_to_same, total, total_tab}
 use Rattle.lists.specs.Parted.{each}
-use Rattle.lists.specs.Each.{without, each-tab, total-without}
+use Rattle.lists.specs.Each.{without, each-tab, total_without}
 use Rattle.scheme.specs.Units.{Field, stored, field_of, Station, R, E, B, L, Request}
 use Rattle.scheme.specs.Units as units
 use Rattle.scheme.specs.Verdicts.{on_grid, is_accepted}
@@ -17,7 +17,7 @@ use Rattle.scheme.specs.Rounding.{rounded}
 use Rattle.scheme.specs.Value.{value_at}
 use Rattle.scheme.specs.Difference.{difference, after_test, tested}
 use Rattle.scheme.specs.Buddies.{Heard, silence, both, says, heard, after_buddies, beside_others}
-use Rattle.scheme.specs.Adding.{nothing-plus, plus-nothing, plus_assoc, silence-both, both-silence, both_assoc}
+use Rattle.scheme.specs.Adding.{nothing_plus, plus_nothing, plus_assoc, silence_both, both_silence, both_assoc}
 use Rattle.scheme.specs.Correction.{nothing, plus, share, backed_by}
 use Rattle.scheme.specs.Smoothing.{smoothed}
 use Rattle.scheme.specs.Scan.{State, differences, all_tested, all_judged, rows_judged, sums_at, scan}
@@ -70,52 +70,52 @@ module _ (t : Terms) (guess : List ℤ) (numbers : List (List ℤ)) (minutes : L
   same_support i j hi hj = ap (λ (l : List ℕ). field_of 0 t.nx l i j) holds.support ∙ field_stored t.nx t.ny 0 s.support i j hi hj
 
   -- any field that holds the same on the grid has the same value at a station
-  same-value : (f g : Field ℤ) → Same t.nx t.ny f g → (o : Station) → value_at t.nx t.ny f o ≡ value_at t.nx t.ny g o
+  same_value : (f g : Field ℤ) → Same t.nx t.ny f g → (o : Station) → value_at t.nx t.ny f o ≡ value_at t.nx t.ny g o
   unfolding value_at
-  same-value f g h o = ap (λ (v : ℤ). rounded v 4096) (sum_same t.nx t.ny f g shape.two_columns shape.two-rows h _ _)
+  same_value f g h o = ap (λ (v : ℤ). rounded v 4096) (sum_same t.nx t.ny f g shape.two_columns shape.two_rows h _ _)
 
-  same-difference : (k : ℕ) → differs guess z t.nx t.ny (get_or numbers k []) ≡ D k
+  same_difference : (k : ℕ) → differs guess z t.nx t.ny (get_or numbers k []) ≡ D k
   unfolding difference value_at station_of units.guess
-  same-difference k = ap (λ (v : ℤ). get_or (get_or numbers k []) 2 (pos 0) -ℤ v) (go (on_grid t.nx t.ny _ _))
+  same_difference k = ap (λ (v : ℤ). get_or (get_or numbers k []) 2 (pos 0) -ℤ v) (go (on_grid t.nx t.ny _ _))
     where
       go : (on : Bool) → value_at t.nx t.ny (cond on (field_of (pos 0) t.nx z) (field_of (pos 0) t.nx guess)) (station_in numbers minutes k)
           ≡ value_at t.nx t.ny (cond on s.field (field_of (pos 0) t.nx guess)) (station_in numbers minutes k)
-      go true = same-value (field_of (pos 0) t.nx z) s.field same_field (station_in numbers minutes k)
+      go true = same_value (field_of (pos 0) t.nx z) s.field same_field (station_in numbers minutes k)
       go false = refl
 
   -- the rows after the E test
   abbrev st1 : List ℕ
   st1 = tested_in t guess numbers m z st
 
-  tested-verdict : (k : ℕ) → k < t.stations → get_or st1 k 0 ≡ after_test (m + 1) (E (plan_in t) m) (D k) (get_or st k 0)
-  tested-verdict k h = get_or_tab t.stations _ k 0 h ∙ ap (λ (d : ℤ). after_test (m + 1) (E (plan_in t) m) d (get_or st k 0)) (same-difference k)
+  tested_verdict : (k : ℕ) → k < t.stations → get_or st1 k 0 ≡ after_test (m + 1) (E (plan_in t) m) (D k) (get_or st k 0)
+  tested_verdict k h = get_or_tab t.stations _ k 0 h ∙ ap (λ (d : ℤ). after_test (m + 1) (E (plan_in t) m) d (get_or st k 0)) (same_difference k)
 
-  tested-rows : all_tested (plan_in t) m (differences q s) s.rows ≡ tab t.stations (row_in numbers minutes st1)
-  tested-rows =
+  tested_rows : all_tested (plan_in t) m (differences q s) s.rows ≡ tab t.stations (row_in numbers minutes st1)
+  tested_rows =
       ap (map (tested (m + 1) (E (plan_in t) m) (differences q s))) holds.rows
       ∙ map-tab (tested (m + 1) (E (plan_in t) m) (differences q s)) t.stations (row_in numbers minutes st)
-      ∙ tab-same t.stations _ (row_in numbers minutes st1) (λ k h. unfold tested in (cc (tested-verdict k h)))
+      ∙ tab_same t.stations _ (row_in numbers minutes st1) (λ k h. unfold tested in (cc (tested_verdict k h)))
 
   -- a survivor was accepted before, and its difference is the paper's
   survived : (k : ℕ) → k < t.stations → is_accepted (get_or st1 k 0) ≡ true → is_accepted (get_or st k 0) ≡ true
-  survived k h e = was_accepted (m + 1) (E (plan_in t) m) (D k) (get_or st k 0) (sym (ap is_accepted (tested-verdict k h)) ∙ e)
+  survived k h e = was_accepted (m + 1) (E (plan_in t) m) (D k) (get_or st k 0) (sym (ap is_accepted (tested_verdict k h)) ∙ e)
 
   d_of : (k : ℕ) → k < t.stations → is_accepted (get_or st1 k 0) ≡ true → get_or ds k (pos 0) ≡ D k
   unfolding diff_of
-  d_of k h e = did.differences k h ∙ rw (survived k h e) (same-difference k)
+  d_of k h e = did.differences k h ∙ rw (survived k h e) (same_difference k)
 
   -- what it hears of the others
-  same-said : (k j : ℕ) → j < t.stations → cond (eqb j k) silence (says (B (plan_in t)) (differences q s) (station_in numbers minutes k) (row_in numbers minutes st1 j))
+  same_said : (k j : ℕ) → j < t.stations → cond (eqb j k) silence (says (B (plan_in t)) (differences q s) (station_in numbers minutes k) (row_in numbers minutes st1 j))
       ≡ said (B (plan_in t)) numbers st1 ds k j
   unfolding says said station_of
-  same-said k j h = ⊎_elim (λ e. rw (d_of j h e)) (λ e. rw e) (true_or_false (is_accepted (get_or st1 j 0)))
+  same_said k j h = ⊎_elim (λ e. rw (d_of j h e)) (λ e. rw e) (true_or_false (is_accepted (get_or st1 j 0)))
 
-  same-heard : (k : ℕ) → heard (B (plan_in t)) (differences q s) (station_in numbers minutes k) (without k (tab t.stations (row_in numbers minutes st1)))
+  same_heard : (k : ℕ) → heard (B (plan_in t)) (differences q s) (station_in numbers minutes k) (without k (tab t.stations (row_in numbers minutes st1)))
       ≡ heard_at (B (plan_in t)) numbers st1 ds t.stations k
   unfolding heard heard_at
-  same-heard k =
-      total-without silence both silence-both both-silence both_assoc (says (B (plan_in t)) (differences q s) (station_in numbers minutes k)) t.stations k (row_in numbers minutes st1)
-      ∙ up_to_same silence both t.stations _ _ (same-said k)
+  same_heard k =
+      total_without silence both silence_both both_silence both_assoc (says (B (plan_in t)) (differences q s) (station_in numbers minutes k)) t.stations k (row_in numbers minutes st1)
+      ∙ up_to_same silence both t.stations _ _ (same_said k)
 
   -- the rows after the buddy check
   new_verdict : (k : ℕ) → k < t.stations → get_or st' k 0 ≡ after_buddies (m + 1) (L (plan_in t)) (D k) (heard_at (B (plan_in t)) numbers st1 ds t.stations k) (get_or st1 k 0)
@@ -132,47 +132,47 @@ module _ (t : Terms) (guess : List ℤ) (numbers : List (List ℤ)) (minutes : L
   same_rows : rows_judged q m s ≡ tab t.stations (row_in numbers minutes st')
   unfolding rows_judged all_judged
   same_rows =
-      ap (each (beside_others (m + 1) (B (plan_in t)) (L (plan_in t)) (differences q s))) tested-rows
+      ap (each (beside_others (m + 1) (B (plan_in t)) (L (plan_in t)) (differences q s))) tested_rows
       ∙ each-tab (beside_others (m + 1) (B (plan_in t)) (L (plan_in t)) (differences q s)) no_row t.stations (row_in numbers minutes st1)
-      ∙ tab-same t.stations _ (row_in numbers minutes st') (λ k h. unfold beside_others in (cc (same-heard k, new_verdict k h)))
+      ∙ tab_same t.stations _ (row_in numbers minutes st') (λ k h. unfold beside_others in (cc (same_heard k, new_verdict k h)))
 
   -- an accepted row was accepted before
   still : (k : ℕ) → k < t.stations → is_accepted (get_or st' k 0) ≡ true → is_accepted (get_or st1 k 0) ≡ true
   still k h e = was_survivor (m + 1) (L (plan_in t)) (D k) _ (get_or st1 k 0) (sym (ap is_accepted (new_verdict k h)) ∙ e)
 
-  pub scan-heard : AcceptedHeard t numbers st → AcceptedHeard t numbers st'
-  scan-heard heard k h e = heard k h (eqb-true (get_or st k 0) 0 (survived k h (still k h (eq-eqb (get_or st' k 0) 0 e))))
+  pub scan_heard : AcceptedHeard t numbers st → AcceptedHeard t numbers st'
+  scan_heard heard k h e = heard k h (eqb-true (get_or st k 0) 0 (survived k h (still k h (eq-eqb (get_or st' k 0) 0 e))))
 
   -- what a row gives to a point of the grid
   d_is : (k : ℕ) → k < t.stations → is_accepted (get_or st' k 0) ≡ true → get_or ds k (pos 0) ≡ D k
   d_is k h e = d_of k h (still k h e)
 
-  same-share : (i j k : ℕ) → k < t.stations → share_at all (r2_in t m) i j k ≡ share t.mode (R (plan_in t) m) (differences q s) i j (row_in numbers minutes st' k)
+  same_share : (i j k : ℕ) → k < t.stations → share_at all (r2_in t m) i j k ≡ share t.mode (R (plan_in t) m) (differences q s) i j (row_in numbers minutes st' k)
   unfolding share_at share station_of
-  same-share i j k h = ⊎_elim (λ e. rw (d_is k h e)) (λ e. rw e) (true_or_false (is_accepted (get_or st' k 0)))
+  same_share i j k h = ⊎_elim (λ e. rw (d_is k h e)) (λ e. rw e) (true_or_false (is_accepted (get_or st' k 0)))
 
-  same-sums : (i j : ℕ) → sums_over all (r2_in t m) i j ≡ sums_at q m s i j
+  same_sums : (i j : ℕ) → sums_over all (r2_in t m) i j ≡ sums_at q m s i j
   unfolding sums_over sums_at
-  same-sums i j =
-      up_to_same nothing plus t.stations _ _ (same-share i j)
+  same_sums i j =
+      up_to_same nothing plus t.stations _ _ (same_share i j)
       ∙ sym (ap (total nothing plus (share t.mode (R (plan_in t) m) (differences q s) i j)) same_rows
-      ∙ total-tab nothing plus nothing-plus plus-nothing plus_assoc (share t.mode (R (plan_in t) m) (differences q s) i j) t.stations (row_in numbers minutes st'))
+      ∙ total_tab nothing plus nothing_plus plus_nothing plus_assoc (share t.mode (R (plan_in t) m) (differences q s) i j) t.stations (row_in numbers minutes st'))
 
-  same-corrected : Same t.nx t.ny (corrected t.rule z t.nx all (r2_in t m)) (paper.corrected q m s)
+  same_corrected : Same t.nx t.ny (corrected t.rule z t.nx all (r2_in t m)) (paper.corrected q m s)
   unfolding corrected paper.corrected
-  same-corrected i j hi hj = cc (same_field i j hi hj, same-sums i j)
+  same_corrected i j hi hj = cc (same_field i j hi hj, same_sums i j)
 
-  same-backed : Same t.nx t.ny (backed sup t.nx all (r2_in t m) (2 ^ m)) (λ i j. backed_by m (sums_at q m s i j) (s.support i j))
+  same_backed : Same t.nx t.ny (backed sup t.nx all (r2_in t m) (2 ^ m)) (λ i j. backed_by m (sums_at q m s i j) (s.support i j))
   unfolding backed backed_by
-  same-backed i j hi hj = cc (same_support i j hi hj, same-sums i j)
+  same_backed i j hi hj = cc (same_support i j hi hj, same_sums i j)
 
   -- the slices hold the next state
   pub scan_holds : Holds t numbers minutes (scan q m s) z' sup' st'
   unfolding scan
   scan_holds =
       record {
-        field = did.values (paper.corrected q m s) same-corrected;
-        support = did.supports ∙ stored_same t.nx t.ny _ _ same-backed;
+        field = did.values (paper.corrected q m s) same_corrected;
+        support = did.supports ∙ stored_same t.nx t.ny _ _ same_backed;
         rows = same_rows;
         long = ap length did.verdicts ∙ length-tab t.stations _;
       }

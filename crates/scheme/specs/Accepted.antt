@@ -3,8 +3,8 @@ use Rattle.std.specs.Prelude.{ℕ, suc, ◌*◌, ◌≤◌, ◌<◌, ◌≡◌, 
 use Rattle.std.proofs.Common.{arith, mul-le-mul, inl, inr}
 use borrow.Author.Tests.{ltb-false, leb-true, leb-false, eqb-true, not-false, le-leb, lt-leb, le-ltb, eq-eqb}
 use Rattle.std.specs.Int.Signed.{le_z, lt_z}
-use Rattle.lists.specs.Tests.{true_or_false, and_true, or_false, not-both}
-use Rattle.lists.specs.First.{Found, nowhere, at, first, first_in, first_good, good-first, none_bad, all_fine}
+use Rattle.lists.specs.Tests.{true_or_false, and_true, or_false, not_both}
+use Rattle.lists.specs.First.{Found, nowhere, at, first, first_in, first_good, good_first, none_bad, all_fine}
 use Rattle.lists.specs.Members.{All, none, more}
 use Rattle.lists.specs.Tab.{length-tab}
 use Rattle.scheme.specs.Units.{among, within, most_value, is_missing, least_side, most_side, most_stations, most_wind, is_no_wind, Wind, Station, most_position, Columns, station_at, stations_of, most_scans, most_radius, most_limit, most_buddy_radius, most_buddy_limit, wind_mode, equation_rule, listing_rule, Plan, R, E, B, L, Request, Call, asked}
@@ -41,14 +41,14 @@ in_count low high n h k = rw (le-leb low n h, le-leb n high k)
 pub record Shaped (nx ny len : ℕ) : Type 0 where
   pub two_columns : 2 ≤ nx
   pub few_columns : nx ≤ 64
-  pub two-rows : 2 ≤ ny
+  pub two_rows : 2 ≤ ny
   pub few_rows : ny ≤ 64
   pub whole : len ≡ nx * ny
 
 -- another slice of that grid
 pub same_shape : {nx ny n : ℕ} → Shaped nx ny n → (m : ℕ) → m ≡ nx * ny → Shaped nx ny m
 same_shape h m e =
-    record { two_columns = h.two_columns; few_columns = h.few_columns; two-rows = h.two-rows; few_rows = h.few_rows; whole = e }
+    record { two_columns = h.two_columns; few_columns = h.few_columns; two_rows = h.two_rows; few_rows = h.few_rows; whole = e }
 
 pub shaped : (nx ny len : ℕ) → bad_shape nx ny len ≡ false → Shaped nx ny len
 unfolding bad_shape
@@ -57,7 +57,7 @@ shaped nx ny len e =
     let (a, b) = or_false _ _ e' in
     let (p, r) = counted_in least_side most_side nx a in
     let (s, t) = counted_in least_side most_side ny b in
-    record { two_columns = p; few_columns = r; two-rows = s; few_rows = t; whole = eqb-true len (nx * ny) (not-false _ c) }
+    record { two_columns = p; few_columns = r; two_rows = s; few_rows = t; whole = eqb-true len (nx * ny) (not-false _ c) }
 
 -- ---- 4: the columns
 
@@ -117,13 +117,13 @@ natural : (low high : ℕ) (z : ℤ) → not (le_z (pos low) z && le_z z (pos hi
 natural low high (pos n) e =
     let (p, r) = and_true _ _ (not-false _ e) in
     (refl, leb-true low n p, leb-true n high r)
-natural low high (negsuc n) e = absurd (not-both e)
+natural low high (negsuc n) e = absurd (not_both e)
 
 pub record Scanned (p : Plan) (m : ℕ) : Type 0 where
   pub radius_is : get_or p.radius m (pos 0) ≡ pos (R p m)
   pub radius_some : 1 ≤ R p m
   pub radius_most : R p m ≤ most_radius
-  pub not-rising : rising p m ≡ false
+  pub not_rising : rising p m ≡ false
   pub limit_is : get_or p.limit m (pos 0) ≡ pos (E p m)
   pub limit_most : E p m ≤ most_limit
 
@@ -134,12 +134,12 @@ scanned p m e =
     let (a, b) = or_false _ _ e1 in
     let (r, r1, r2) = natural 1 most_radius (get_or p.radius m (pos 0)) a in
     let (l, l1, l2) = natural 0 most_limit (get_or p.limit m (pos 0)) c in
-    record { radius_is = r; radius_some = r1; radius_most = r2; not-rising = b; limit_is = l; limit_most = l2 }
+    record { radius_is = r; radius_some = r1; radius_most = r2; not_rising = b; limit_is = l; limit_most = l2 }
 
 -- radii do not rise
 pub fallen : (p : Plan) (m : ℕ) → bad_scan p m ≡ false → bad_scan p (suc m) ≡ false → R p (suc m) ≤ R p m
 unfolding rising
-fallen p m e f = go (scanned p m e).radius_is (scanned p (suc m) f).radius_is (scanned p (suc m) f).not-rising
+fallen p m e f = go (scanned p m e).radius_is (scanned p (suc m) f).radius_is (scanned p (suc m) f).not_rising
   where
     go : {a b : ℤ} {r s : ℕ} → a ≡ pos r → b ≡ pos s → lt_z a b ≡ false → s ≤ r
     go {r = r} {s = s} u t h = ltb-false r s (rw (u, t) at h)
@@ -177,9 +177,9 @@ winded w e there =
     let (u, v) = or_false _ _ (rw there at e) in
     (leb-true _ _ (not-false _ u), leb-true _ _ (not-false _ v))
 
-wind-good : (w : Wind) → (is_no_wind w ≡ false → Fair w) → bad_wind w ≡ false
+wind_good : (w : Wind) → (is_no_wind w ≡ false → Fair w) → bad_wind w ≡ false
 unfolding bad_wind
-wind-good w f = go (is_no_wind w) f
+wind_good w f = go (is_no_wind w) f
   where
     go : (none : Bool) → (none ≡ false → Fair w) → not none && (not (within most_wind w.u) || not (within most_wind w.v)) ≡ false
     go true g = refl
@@ -208,7 +208,7 @@ stationed s e =
     }
   where
     there : (m v : Bool) → not m && v ≡ false → m ≡ false → v ≡ false
-    there true v e h = absurd (not-both h)
+    there true v e h = absurd (not_both h)
     there false v e h = e
 
 -- ---- a plan, a request and a call with none of the faults
@@ -392,7 +392,7 @@ equal_screen s e =
 pub shape_good : {nx ny len : ℕ} → Shaped nx ny len → bad_shape nx ny len ≡ false
 unfolding bad_shape
 shape_good {nx} {ny} {len} s =
-    rw (in_count least_side most_side nx s.two_columns s.few_columns, in_count least_side most_side ny s.two-rows s.few_rows, eq-eqb len (nx * ny) s.whole)
+    rw (in_count least_side most_side nx s.two_columns s.few_columns, in_count least_side most_side ny s.two_rows s.few_rows, eq-eqb len (nx * ny) s.whole)
 
 pub columns_good : (c : Columns) → Equal c → bad_columns c ≡ false
 unfolding bad_columns
@@ -415,7 +415,7 @@ lengths_good points grid support g s = rw (eq-eqb grid points g, eq-eqb support 
 scan_good : (p : Plan) (m : ℕ) → Scanned p m → bad_scan p m ≡ false
 unfolding bad_scan
 scan_good p m s =
-    rw (s.radius_is, s.limit_is, s.not-rising, le-leb 0 (E p m) (omega arith), le-leb 1 (R p m) s.radius_some, le-leb (R p m) most_radius s.radius_most, le-leb (E p m) most_limit s.limit_most)
+    rw (s.radius_is, s.limit_is, s.not_rising, le-leb 0 (E p m) (omega arith), le-leb 1 (R p m) s.radius_some, le-leb (R p m) most_radius s.radius_most, le-leb (E p m) most_limit s.limit_most)
 
 buddies_good : (p : Plan) → (p.buddies.on ≡ true → Checked p) → bad_buddies p ≡ false
 unfolding bad_buddies B
@@ -431,7 +431,7 @@ buddies_good p c = go (true_or_false p.buddies.on)
 station_good : (s : Station) → Stationed s → bad_station s ≡ false
 unfolding bad_station
 station_good s t =
-    rw (le-leb (nat_abs s.x) most_position t.x, le-leb (nat_abs s.y) most_position t.y, lt-leb s.until s.from t.served, wind-good s.wind t.wind)
+    rw (le-leb (nat_abs s.x) most_position t.x, le-leb (nat_abs s.y) most_position t.y, lt-leb s.until s.from t.served, wind_good s.wind t.wind)
     (go (is_missing s.value) t.value)
   where
     go : (m : Bool) → (m ≡ false → nat_abs s.value ≤ most_value) → (not m && not (within most_value s.value)) || false || false || false || false ≡ false
@@ -447,7 +447,7 @@ request_good q s =
       le-ltb (length q.plan.limit) q.plan.scans s.plan.limits,
       le-ltb wind_mode q.plan.mode s.plan.known,
       in_count equation_rule listing_rule q.plan.rule s.plan.ruled.0 s.plan.ruled.1,
-      good-first q.plan.scans (bad_scan q.plan) (λ m h. scan_good q.plan m (s.plan.scan m h)),
+      good_first q.plan.scans (bad_scan q.plan) (λ m h. scan_good q.plan m (s.plan.scan m h)),
       buddies_good q.plan s.plan.checks,
       all_fine bad_guess (pos 0) q.first_guess (λ k h. unfold bad_guess in rw (le-leb _ most_value (s.first_guess k h))),
       all_fine bad_station no_station q.stations (λ k h. station_good _ (s.stations k h)),

@@ -5,20 +5,20 @@ use Rattle.std.proofs.Math.IntN.{+ℤ_idl, +ℤ_idr, +ℤ_assoc}
 use Rattle.scheme.specs.Buddies.{Heard, silence, both}
 use Rattle.scheme.specs.Correction.{Sums, nothing, plus}
 
-pub nothing-plus : (s : Sums) → plus nothing s ≡ s
-nothing-plus s = simp (zero-add, +ℤ_idl)
+pub nothing_plus : (s : Sums) → plus nothing s ≡ s
+nothing_plus s = simp (zero-add, +ℤ_idl)
 
-pub plus-nothing : (s : Sums) → plus s nothing ≡ s
-plus-nothing s = simp (add-zero, +ℤ_idr)
+pub plus_nothing : (s : Sums) → plus s nothing ≡ s
+plus_nothing s = simp (add-zero, +ℤ_idr)
 
 pub plus_assoc : (a b c : Sums) → plus (plus a b) c ≡ plus a (plus b c)
 plus_assoc a b c = simp (add_assoc, +ℤ_assoc)
 
-pub silence-both : (h : Heard) → both silence h ≡ h
-silence-both h = simp (zero-add, +ℤ_idl)
+pub silence_both : (h : Heard) → both silence h ≡ h
+silence_both h = simp (zero-add, +ℤ_idl)
 
-pub both-silence : (h : Heard) → both h silence ≡ h
-both-silence h = simp (add-zero, +ℤ_idr)
+pub both_silence : (h : Heard) → both h silence ≡ h
+both_silence h = simp (add-zero, +ℤ_idr)
 
 pub both_assoc : (a b c : Heard) → both (both a b) c ≡ both a (both b c)
 both_assoc a b c = simp (add_assoc, +ℤ_assoc)

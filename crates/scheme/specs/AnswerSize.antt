@@ -6,7 +6,7 @@ use Rattle.std.specs.Prelude.{◌≡◌, refl, Bool, ◌&&◌, ltb, take, drop, 
 use mathlib.Core.List.{List, [], ◌∷◌, ◌++◌}
 use Rattle.std.proofs.Math.ListN.{length, length-append, length-take}
 use Rattle.lists.specs.Tests.{cond_both}
-use Rattle.lists.specs.Members.{All, none, more, all_map, all_of, all_take, all_drop, all-tab}
+use Rattle.lists.specs.Members.{All, none, more, all_map, all_of, all_take, all_drop, all_tab}
 use Rattle.scheme.specs.Units.{Station, most_beyond, stored, E, L, Request, Call, asked}
 use Rattle.scheme.specs.Refusals.{accepted, analysis_refusal}
 use Rattle.scheme.specs.Verdicts.{is_accepted, first_that_fits, before_scans}
@@ -21,7 +21,7 @@ use Rattle.scheme.specs.Judging.{judged_beside, all-judged}
 use Rattle.scheme.specs.Lengths.{verdict_long}
 use Rattle.scheme.specs.Bounds.{fields_stay_within}
 use Rattle.scheme.specs.Support.{support_small}
-use Rattle.scheme.specs.Decimals.{decimal-length, integer-length}
+use Rattle.scheme.specs.Decimals.{decimal_length, integer_length}
 
 -- ---- verdicts are at most 26
 
@@ -72,28 +72,28 @@ module _ {A : Type 0} (shown : A → List ℕ) (digits : ℕ) where
   abbrev Shows : A → Type 0
   Shows v = length (shown v) ≤ digits
 
-  cells-length : {vs : List A} → All Shows vs → length (cells shown vs) ≤ length vs * (digits + 1)
+  cells_length : {vs : List A} → All Shows vs → length (cells shown vs) ≤ length vs * (digits + 1)
   unfolding cells
-  cells-length none = omega arith
-  cells-length (more {a = v} {xs = vs} h r) =
-      omega (arith, length-append (shown v) (mark (length vs) ∷ cells shown vs), cells-length r, suc-mul (length vs) (digits + 1))
+  cells_length none = omega arith
+  cells_length (more {a = v} {xs = vs} h r) =
+      omega (arith, length-append (shown v) (mark (length vs) ∷ cells shown vs), cells_length r, suc-mul (length vs) (digits + 1))
 
-  keyed-length : (key : List ℕ) {vs : List A} → All Shows vs → length (keyed key shown vs) ≤ length key + 1 + length vs * (digits + 1)
+  keyed_length : (key : List ℕ) {vs : List A} → All Shows vs → length (keyed key shown vs) ≤ length key + 1 + length vs * (digits + 1)
   unfolding keyed
-  keyed-length key none = omega (arith, length-append key (10 ∷ []))
-  keyed-length key (more {a = v} {xs = vs} h r) =
-      omega (arith, length-append key (cells shown (v ∷ vs)), cells-length (more {a = v} {xs = vs} h r))
+  keyed_length key none = omega (arith, length-append key (10 ∷ []))
+  keyed_length key (more {a = v} {xs = vs} h r) =
+      omega (arith, length-append key (cells shown (v ∷ vs)), cells_length (more {a = v} {xs = vs} h r))
 
-  lines-length : (key : List ℕ) (nx ny : ℕ) {vs : List A} → All Shows vs → length (grid_lines key shown nx ny vs) ≤ ny * (length key + 1 + nx * (digits + 1))
+  lines_length : (key : List ℕ) (nx ny : ℕ) {vs : List A} → All Shows vs → length (grid_lines key shown nx ny vs) ≤ ny * (length key + 1 + nx * (digits + 1))
   unfolding grid_lines
-  lines-length key nx zero h = omega arith
-  lines-length key nx (suc ny) {vs = vs} h =
+  lines_length key nx zero h = omega arith
+  lines_length key nx (suc ny) {vs = vs} h =
       omega (
         arith,
         length-append (keyed key shown (take nx vs)) (grid_lines key shown nx ny (drop nx vs)),
-        keyed-length key (all_take Shows nx h),
+        keyed_length key (all_take Shows nx h),
         mul-le-mul_right (digits + 1) (short nx vs),
-        lines-length key nx ny (all_drop Shows nx h),
+        lines_length key nx ny (all_drop Shows nx h),
         suc-mul ny (length key + 1 + nx * (digits + 1)),
       )
     where
@@ -110,18 +110,18 @@ module _ (q : Request) (sound : Sound q) where
   grid_shows : All (λ z. length (integer z) ≤ 9) (analysis q).grid
   unfolding analysis stored
   grid_shows =
-      all-tab (λ z. length (integer z) ≤ 9) (q.nx * q.ny) _
-      (λ k. integer-length 7 _ (omega (arith, fields_stay_within q sound q.plan.scans (omega arith) (k % q.nx) (k / q.nx))))
+      all_tab (λ z. length (integer z) ≤ 9) (q.nx * q.ny) _
+      (λ k. integer_length 7 _ (omega (arith, fields_stay_within q sound q.plan.scans (omega arith) (k % q.nx) (k / q.nx))))
 
   support_shows : All (λ n. length (decimal n) ≤ 2) (analysis q).support
   unfolding analysis stored
   support_shows =
-      all-tab (λ n. length (decimal n) ≤ 2) (q.nx * q.ny) _
-      (λ k. decimal-length 1 _ (omega (arith, support_small q (k % q.nx) (k / q.nx) q.plan.scans, pow-le-pow_right {n = 2} (omega arith) {i = q.plan.scans} sound.plan.scans_few)))
+      all_tab (λ n. length (decimal n) ≤ 2) (q.nx * q.ny) _
+      (λ k. decimal_length 1 _ (omega (arith, support_small q (k % q.nx) (k / q.nx) q.plan.scans, pow-le-pow_right {n = 2} (omega arith) {i = q.plan.scans} sound.plan.scans_few)))
 
   verdict_shows : All (λ n. length (decimal n) ≤ 2) (analysis q).verdict
   unfolding analysis
-  verdict_shows = all_map Small (λ n. length (decimal n) ≤ 2) _ (λ r h. decimal-length 1 r.verdict (omega arith)) (verdicts_small q q.plan.scans sound.plan.scans_few)
+  verdict_shows = all_map Small (λ n. length (decimal n) ≤ 2) _ (λ r h. decimal_length 1 r.verdict (omega arith)) (verdicts_small q q.plan.scans sound.plan.scans_few)
 
   pub sound_answer_is_short : length (analysis_text q.nx q.ny (analysis q)) < 56000
   unfolding analysis_text
@@ -135,9 +135,9 @@ module _ (q : Request) (sound : Sound q) where
         length-append (first_two 0 0 ++ rows) sups,
         length-append (first_two 0 0) rows,
         head_length,
-        lines-length integer 9 (ascii "row=") q.nx q.ny grid_shows,
-        lines-length decimal 2 (ascii "sup=") q.nx q.ny support_shows,
-        keyed-length decimal 2 (ascii "ver=") verdict_shows,
+        lines_length integer 9 (ascii "row=") q.nx q.ny grid_shows,
+        lines_length decimal 2 (ascii "sup=") q.nx q.ny support_shows,
+        keyed_length decimal 2 (ascii "ver=") verdict_shows,
         verdict_long q,
         sound.few_stations,
         mul-le-mul sound.shape.few_rows sound.shape.few_columns,

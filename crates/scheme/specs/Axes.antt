@@ -43,10 +43,10 @@ SameBeside a b x y f g = (i j : ℕ) → Beside a x i → Beside b y j → f (i 
 
 -- ---- places
 
-pub place-most : (n : ℕ) (x : ℤ) → place n x ≤ step * (n - 1)
+pub place_most : (n : ℕ) (x : ℤ) → place n x ≤ step * (n - 1)
 unfolding place
-place-most n (pos x) = omega arith
-place-most n (negsuc x) = omega arith
+place_most n (pos x) = omega arith
+place_most n (negsuc x) = omega arith
 
 pub place_up : (n : ℕ) (x : ℤ) → place n x ≡ min (up x) (step * (n - 1))
 unfolding place
@@ -54,8 +54,8 @@ place_up n (pos x) = refl
 place_up n (negsuc x) = omega arith
 
 -- places are no farther from one another than the positions
-pub place-gap : (n : ℕ) (x y : ℤ) → gap (place n x) (place n y) ≤ nat_abs (x -ℤ y)
-place-gap n x y = rw (place_up n x, place_up n y) (go x y (step * (n - 1)) (nat_abs (x -ℤ y)) (apart x y).0 (apart x y).1)
+pub place_gap : (n : ℕ) (x y : ℤ) → gap (place n x) (place n y) ≤ nat_abs (x -ℤ y)
+place_gap n x y = rw (place_up n x, place_up n y) (go x y (step * (n - 1)) (nat_abs (x -ℤ y)) (apart x y).0 (apart x y).1)
   where
     go : (x y : ℤ) (t m : ℕ) → up x + dn y ≤ dn x + up y + m → dn x + up y ≤ up x + dn y + m → gap (min (up x) t) (min (up y) t) ≤ m
     go (pos x) (pos y) t m h k = omega arith
@@ -77,7 +77,7 @@ counted_parts a x h =
     go (negsuc x) (negsuc c) o p l k e = (omega arith, omega arith)
 
 -- it has the same place for the stretch
-pub place-counted : (a : Axis) (x : ℤ) → On a (place a.n x) → place a.n x ≡ place (len a) (from_first a x) + step * off a
-place-counted a x h =
+pub place_counted : (a : Axis) (x : ℤ) → On a (place a.n x) → place a.n x ≡ place (len a) (from_first a x) + step * off a
+place_counted a x h =
     let e = counted_parts a x h in
     omega (arith, place_up a.n x, place_up (len a) (from_first a x), a.two, a.inside, h.low, h.high)

@@ -12,9 +12,9 @@ use Rattle.scheme.specs.Laws.{Scheme, smoothed_if, Laws}
 use Rattle.scheme.specs.Near.{Side, cut_along, Point, Agree, agree_less}
 
 -- a point fewer than `wider` steps off is on the cut's border only where it is on the grid's
-inner-same : (w : Side) (ρ i : ℕ) → ρ < w.wider → Point w ρ i → inner w.n (i + off (cut_along w)) ≡ inner (len (cut_along w)) i
+inner_same : (w : Side) (ρ i : ℕ) → ρ < w.wider → Point w ρ i → inner w.n (i + off (cut_along w)) ≡ inner (len (cut_along w)) i
 unfolding inner widened
-inner-same w ρ i h p =
+inner_same w ρ i h p =
     let first : ltb 0 (i + off (cut_along w)) ≡ ltb 0 i =
     ltb_same 0 (i + off (cut_along w)) 0 i (λ q. omega (arith, p.low)) (λ q. omega arith) in
     let last : ltb (i + off (cut_along w) + 1) w.n ≡ ltb (i + 1) (len (cut_along w)) =
@@ -46,7 +46,7 @@ module _ (S : Scheme) (law : Laws S) (across down : Side) (ρ : ℕ) (z z' : Fie
       (λ i j. cond (inner (len (cut_along across)) i && inner (len (cut_along down)) j) (S.around z' i j) (z' i j))
   unfolding Agree
   smoothed_agree hx hy ag i j p r =
-      rw (inner-same across ρ i hx p, inner-same down ρ j hy r) (go (true_or_false (inner (len (cut_along across)) i && inner (len (cut_along down)) j)))
+      rw (inner_same across ρ i hx p, inner_same down ρ j hy r) (go (true_or_false (inner (len (cut_along across)) i && inner (len (cut_along down)) j)))
     where
       around : (0 < i) × (i + 1 < len (cut_along across)) → (0 < j) × (j + 1 < len (cut_along down))
           → S.around z (i + off (cut_along across)) (j + off (cut_along down)) ≡ S.around z' i j

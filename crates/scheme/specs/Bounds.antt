@@ -74,17 +74,17 @@ correction_size rule limit s h =
     (λ e. rounded_size s.pulls (divisor rule s) limit (omega (arith, h.pulls_most, mul-le-mul_left limit (divisor_least rule limit s h))))
 
 -- each correction is at most E in size, whatever state the scan finds
-pub correction-at-most-E : (q : Request) (m : ℕ) (found : State) (i j : ℕ) → nat_abs (correction q.plan.rule (sums_at q m found i j)) ≤ E q.plan m
+pub correction_at_most_E : (q : Request) (m : ℕ) (found : State) (i j : ℕ) → nat_abs (correction q.plan.rule (sums_at q m found i j)) ≤ E q.plan m
 unfolding sums_at
-correction-at-most-E q m found i j =
+correction_at_most_E q m found i j =
     correction_size q.plan.rule (E q.plan m) _ (sums_modest q.plan.mode (R q.plan m) (E q.plan m) (differences q found) i j (all_passed q m found))
 
 -- ---- smoothing makes nothing larger
 
-pattern-row_size : (most : ℕ) (z : Field ℤ) → Within most z → (i j b : ℕ)
+pattern_row_size : (most : ℕ) (z : Field ℤ) → Within most z → (i j b : ℕ)
     → nat_abs (pattern_row z i j b) ≤ up_to 0 ◌+◌ 3 (λ a. pattern_at a b * most)
 unfolding pattern_row
-pattern-row_size most z h i j b =
+pattern_row_size most z h i j b =
     up_to_size 3 (λ a. pos (pattern_at a b) *ℤ z (i + a - 1) (j + b - 1)) (λ a. pattern_at a b * most)
     (λ a l. share a (z (i + a - 1) (j + b - 1)) (h (i + a - 1) (j + b - 1)))
   where
@@ -94,24 +94,24 @@ pattern-row_size most z h i j b =
 pattern_size : (most : ℕ) (z : Field ℤ) → Within most z → (i j : ℕ) → nat_abs (pattern_sum z i j) ≤ most * 16
 unfolding pattern_sum
 pattern_size most z h i j =
-    omega (arith, all most, up_to_size 3 (pattern_row z i j) (λ b. up_to 0 ◌+◌ 3 (λ a. pattern_at a b * most)) (λ b l. pattern-row_size most z h i j b))
+    omega (arith, all most, up_to_size 3 (pattern_row z i j) (λ b. up_to 0 ◌+◌ 3 (λ a. pattern_at a b * most)) (λ b l. pattern_row_size most z h i j b))
   where
     all : (most : ℕ) → up_to 0 ◌+◌ 3 (λ b. up_to 0 ◌+◌ 3 (λ a. pattern_at a b * most)) ≡ most * 16
     all most = unfold up_to in omega arith
 
-smoothed-within : (most nx ny : ℕ) (z : Field ℤ) → Within most z → Within most (smoothed nx ny z)
+smoothed_within : (most nx ny : ℕ) (z : Field ℤ) → Within most z → Within most (smoothed nx ny z)
 unfolding smoothed
-smoothed-within most nx ny z h i j =
+smoothed_within most nx ny z h i j =
     cond_both (λ (v : ℤ). nat_abs v ≤ most) (inner nx i && inner ny j) (rounded (pattern_sum z i j) 16) (z i j)
     (λ e. rounded_size (pattern_sum z i j) 16 most (pattern_size most z h i j)) (λ e. h i j)
 
 -- ---- a scan adds at most E
 
-scan-within : (most : ℕ) (q : Request) (m : ℕ) (found : State) → Within most found.field → Within (most + E q.plan m) (scan q m found).field
+scan_within : (most : ℕ) (q : Request) (m : ℕ) (found : State) → Within most found.field → Within (most + E q.plan m) (scan q m found).field
 unfolding scan
-scan-within most q m found h =
+scan_within most q m found h =
     cond_both (Within (most + E q.plan m)) q.plan.smooth (smoothed q.nx q.ny (corrected q m found)) (corrected q m found)
-    (λ e. smoothed-within (most + E q.plan m) q.nx q.ny (corrected q m found) added) (λ e. added)
+    (λ e. smoothed_within (most + E q.plan m) q.nx q.ny (corrected q m found) added) (λ e. added)
   where
     added : Within (most + E q.plan m) (corrected q m found)
     added i j =
@@ -120,7 +120,7 @@ scan-within most q m found h =
           arith,
           size_add (found.field i j) (correction q.plan.rule (sums_at q m found i j)),
           h i j,
-          correction-at-most-E q m found i j,
+          correction_at_most_E q m found i j,
         )
 
 -- ---- the run: whatever the grid, the stations and the radii, the first guess's bound and the limits' for each scan made
@@ -132,28 +132,28 @@ run_stays_within q most limit first zero limits = λ i j. omega (arith, first i 
 run_stays_within q most limit first (suc n) limits =
     λ i j. omega (
       arith,
-      scan-within (most + n * limit) q n (after q n) (run_stays_within q most limit first n (λ m h. limits m (omega arith))) i j,
+      scan_within (most + n * limit) q n (after q n) (run_stays_within q most limit first n (λ m h. limits m (omega arith))) i j,
       limits n (omega arith),
     )
 
 module _ (q : Request) (sound : Sound q) where
-  first-guess-within : (k : ℕ) → nat_abs (get_or q.first_guess k (pos 0)) ≤ most_value
-  first-guess-within k = go (lt_or_le k (length q.first_guess))
+  first_guess_within : (k : ℕ) → nat_abs (get_or q.first_guess k (pos 0)) ≤ most_value
+  first_guess_within k = go (lt_or_le k (length q.first_guess))
     where
       go : (k < length q.first_guess) ⊎ (length q.first_guess ≤ k) → nat_abs (get_or q.first_guess k (pos 0)) ≤ most_value
       go (inl h) = sound.first_guess k h
       go (inr h) = rw (get_or-eq_default q.first_guess (pos 0) h) (omega arith)
 
-  pub guess-within : Within most_value (guess q)
+  pub guess_within : Within most_value (guess q)
   unfolding guess field_of
-  guess-within i j = first-guess-within (j * q.nx + i)
+  guess_within i j = first_guess_within (j * q.nx + i)
 
-  pub first-guess_small : Small q.first_guess
-  first-guess_small k = omega (arith, first-guess-within k)
+  pub first_guess_small : Small q.first_guess
+  first_guess_small k = omega (arith, first_guess_within k)
 
   -- after m scans
   pub after-within : (m : ℕ) → m ≤ q.plan.scans → Within (most_value + m * most_limit) (after q m).field
-  after-within m h = run_stays_within q most_value most_limit guess-within m (λ k l. (sound.plan.scan k (omega arith)).limit_most)
+  after-within m h = run_stays_within q most_value most_limit guess_within m (λ k l. (sound.plan.scan k (omega arith)).limit_most)
 
   pub fields_stay_within : (m : ℕ) → m ≤ q.plan.scans → Within most_field (after q m).field
   fields_stay_within m h i j = omega (arith, after-within m h i j, sound.plan.scans_few)

@@ -13,7 +13,7 @@ use Rattle.std.proofs.Math.Seq.{get_or-set_same, get_or-set_other}
 use Rattle.std.proofs.Math.IntN.{+ℤ_idr}
 use Rattle.integers.specs.Parts.{up, dn, eq_parts, add_parts, minus_parts, mul_parts}
 use Rattle.integers.specs.Sizes.{size_gap}
-use Rattle.lists.specs.Tests.{true_or_false, not-both, ltb_same}
+use Rattle.lists.specs.Tests.{true_or_false, not_both, ltb_same}
 use Rattle.lists.specs.Tab.{is_tab}
 use Rattle.lists.specs.Sums.{total}
 use Rattle.lists.specs.First.{first, first_in}
@@ -61,10 +61,10 @@ module _ (p : Plan) (m : ℕ) (D : Station → ℤ) (rows : List Row) where
       go (inl e) r =
           let same = eqb-true k n e in
           ap (λ (i : ℕ). get_or (set (one_by_one ns) i (judged_at i)) k no_row) (sym same) ∙ get_or-set_same (one_by_one ns) k (judged_at k) no_row (omega (arith, one_by_one_length ns))
-      go (inr e) r = get_or-set_other (one_by_one ns) n k (judged_at n) no_row (λ same. not-both (sym (eq-eqb k n same) ∙ e)) ∙ r
+      go (inr e) r = get_or-set_other (one_by_one ns) n k (judged_at n) no_row (λ same. not_both (sym (eq-eqb k n same) ∙ e)) ∙ r
 
-  pub judged_at-once : (ns : List ℕ) → ((k : ℕ) → k < length rows → Some (λ n. n ≡ k) ns) → one_by_one ns ≡ all_judged p m D rows
-  judged_at-once ns all =
+  pub judged_at_once : (ns : List ℕ) → ((k : ℕ) → k < length rows → Some (λ n. n ≡ k) ns) → one_by_one ns ≡ all_judged p m D rows
+  judged_at_once ns all =
       is_tab no_row (length rows) judged_at (one_by_one ns) (one_by_one_length ns) (λ k h. is_judged k h (all k h))
       ∙ sym (is_tab no_row (length rows) judged_at (all_judged p m D rows) (judged_length p m D rows) at)
     where
@@ -158,15 +158,15 @@ with_buddies b q =
     asking q.nx q.ny q.first_guess q.stations q.plan.scans q.plan.radius q.plan.limit q.plan.smooth q.plan.mode q.plan.rule b q.T q.A
 
 module _ (q : Request) (off : q.plan.buddies.on ≡ false) (b : Buddies) (off' : b.on ≡ false) where
-  same-before : (m : ℕ) → before (with_buddies b q) m ≡ before q m
+  same_before : (m : ℕ) → before (with_buddies b q) m ≡ before q m
   unfolding before scan_before start R E guess
-  same-before zero = refl
-  same-before (suc m) = ap (scan_before q m) (same-before m)
+  same_before zero = refl
+  same_before (suc m) = ap (scan_before q m) (same_before m)
 
   pub off_neither_is_read : analysis (with_buddies b q) ≡ analysis q
   off_neither_is_read =
       off_analyses_as_before (with_buddies b q) off'
-      ∙ ap (stored_of q) (same-before q.plan.scans)
+      ∙ ap (stored_of q) (same_before q.plan.scans)
       ∙ sym (off_analyses_as_before q off)
 
 -- ---- who has fewer than two neighbours is never set aside
@@ -237,12 +237,12 @@ module _ (scan radius limit : ℕ) (D : Station → ℤ) (a b c : Row) where
   hears_both r o o' (v, n) (v', n') = rw (v, n, v', n') (simp +ℤ_idr)
 
   -- the third is set aside if it differs by more than L, and the two that agree if by more than 2L
-  pub two_that_agree_and-a_third : D a.station ≡ D b.station → IsNear a b → IsNear a c → IsNear b a → IsNear b c → IsNear c a → IsNear c b
+  pub two_that_agree_and_a_third : D a.station ≡ D b.station → IsNear a b → IsNear a c → IsNear b a → IsNear b c → IsNear c a → IsNear c b
       → (let apart = nat_abs (D a.station -ℤ D c.station) in
       map (λ (r : Row). r.verdict) (each (beside_others scan radius limit D) (a ∷ b ∷ c ∷ []))
       ≡ cond (ltb (2 * limit) apart) (20 + scan) 0 ∷ cond (ltb (2 * limit) apart) (20 + scan) 0 ∷ cond (ltb limit apart) (20 + scan) 0 ∷ [])
   unfolding each each_from beside_others
-  two_that_agree_and-a_third same ab ac ba bc ca cb =
+  two_that_agree_and_a_third same ab ac ba bc ca cb =
       let of_two = odd_of_two limit (D a.station) (D c.station) in
       let first = ap (λ (d : ℤ). is_odd limit (D a.station) (record { count = 2; sum = d +ℤ D c.station })) (sym same) ∙ of_two in
       let second = ap (λ (d : ℤ). is_odd limit d (record { count = 2; sum = D a.station +ℤ D c.station })) (sym same) ∙ of_two in

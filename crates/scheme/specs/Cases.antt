@@ -128,10 +128,10 @@ pub record Refusals : Type 0 where
   pub unequal_before_bad : Screened (four_columns (2 ∷ []) (2 ∷ []) (0 ∷ []) []) 1 1 (refused 2 16)
   pub bad_window_by_index : Screened (four_columns (0 ∷ 0 ∷ 1 ∷ []) (1 ∷ 0 ∷ 0 ∷ []) (0 ∷ 0 ∷ 0 ∷ []) (1 ∷ 0 ∷ 1 ∷ [])) 8 8 (refused 2 2)
   pub first_of_two_windows : Screened (four_columns (0 ∷ 0 ∷ 1 ∷ []) (1 ∷ 2 ∷ 0 ∷ []) (0 ∷ 0 ∷ 0 ∷ []) (1 ∷ 0 ∷ 1 ∷ [])) 8 8 (refused 2 1)
-  pub bad_window-before_lengths : Screened (four_columns (0 ∷ []) (0 ∷ []) (0 ∷ []) (2 ∷ [])) 0 0 (refused 2 0)
+  pub bad_window_before_lengths : Screened (four_columns (0 ∷ []) (0 ∷ []) (0 ∷ []) (2 ∷ [])) 0 0 (refused 2 0)
   -- 3 of a screen: all windows together
   pub together : Screened (four_columns (0 ∷ 0 ∷ []) (1 ∷ 0 ∷ []) (0 ∷ 0 ∷ []) (1 ∷ 1 ∷ [])) 6 6 accepted
-  pub last-window-alone : Screened (four_columns (0 ∷ 0 ∷ []) (1 ∷ 0 ∷ []) (0 ∷ 0 ∷ []) (1 ∷ 1 ∷ [])) 2 2 (refused 3 0)
+  pub last_window_alone : Screened (four_columns (0 ∷ 0 ∷ []) (1 ∷ 0 ∷ []) (0 ∷ 0 ∷ []) (1 ∷ 1 ∷ [])) 2 2 (refused 3 0)
   pub long_screen_support : Screened (four_columns (0 ∷ 0 ∷ []) (1 ∷ 0 ∷ []) (0 ∷ 0 ∷ []) (1 ∷ 1 ∷ [])) 6 7 (refused 3 0)
   pub no_windows_no_points : Screened no_windows 0 1 (refused 3 0)
   -- 3: the results' lengths, before 4
@@ -155,7 +155,7 @@ pub record Refusals : Type 0 where
   -- and another mode, before 6 and 8
   pub third_mode : EachRefuses (stationed_in 2 (two good)) (refused 5 0)
   pub mode_before_radius : EachRefuses (asking 2 2 level (two good) 2 at0 at0 false 2 equation_rule no_buddies 1000 60) (refused 5 0)
-  pub mode_before-wind : EachRefuses (stationed_in 2 (two (blowing (pos 101) (pos 0)))) (refused 5 0)
+  pub mode_before_wind : EachRefuses (stationed_in 2 (two (blowing (pos 101) (pos 0)))) (refused 5 0)
   pub columns_before_mode : EachRefuses (stationed_in 2 (record { x = at0; y = at0; value = at0; observed = 0 ∷ 0 ∷ []; from = 0 ∷ 0 ∷ []; until = 1 ∷ 1 ∷ []; wind_u = []; wind_v = [] })) (refused 4 0)
   -- and after it another rule
   pub second_rule : EachRefuses (ruled_by 2 (two good) at64) accepted
@@ -175,13 +175,13 @@ pub record Refusals : Type 0 where
   -- and after the scans B and L, with place 6; off, neither is read
   pub no_B : EachRefuses (checked_by true (pos 0) (pos 0)) (refused 6 6)
   pub least_B : EachRefuses (checked_by true (pos 1) (pos 0)) accepted
-  pub most-B : EachRefuses (checked_by true (pos 512) (pos 2000000)) accepted
+  pub most_B : EachRefuses (checked_by true (pos 512) (pos 2000000)) accepted
   pub past_B : EachRefuses (checked_by true (pos 513) (pos 0)) (refused 6 6)
-  pub negative-L : EachRefuses (checked_by true (pos 1) (negsuc 0)) (refused 6 6)
+  pub negative_L : EachRefuses (checked_by true (pos 1) (negsuc 0)) (refused 6 6)
   pub past_L : EachRefuses (checked_by true (pos 1) (pos 2000001)) (refused 6 6)
   pub off_unread : EachRefuses (checked_by false (negsuc 0) (pos 2000001)) accepted
-  pub scan-before_check : EachRefuses (checked true (pos 0) (pos 0) (pos 64 ∷ pos 65 ∷ []) level) (refused 6 1)
-  pub check_before-guess : EachRefuses (checked true (pos 0) (pos 0) at64 (missing_mark ∷ pos 0 ∷ pos 0 ∷ pos 0 ∷ [])) (refused 6 6)
+  pub scan_before_check : EachRefuses (checked true (pos 0) (pos 0) (pos 64 ∷ pos 65 ∷ []) level) (refused 6 1)
+  pub check_before_guess : EachRefuses (checked true (pos 0) (pos 0) at64 (missing_mark ∷ pos 0 ∷ pos 0 ∷ pos 0 ∷ [])) (refused 6 6)
   -- 7: the first guess, at its point
   pub high_guess : EachRefuses (shaped_so 2 2 (pos 0 ∷ pos 0 ∷ pos 1000001 ∷ pos 0 ∷ [])) (refused 7 2)
   pub low_guess : EachRefuses (shaped_so 2 2 (pos 0 ∷ pos 0 ∷ pos 0 ∷ negsuc 1000000 ∷ [])) (refused 7 3)
@@ -196,7 +196,7 @@ pub record Refusals : Type 0 where
   pub far_y : EachRefuses (stationed (two (mast (pos 0) (pos 1000001) (pos 0) 0 0 1))) (refused 8 1)
   pub edge_place : EachRefuses (stationed (two (mast (negsuc 999999) (pos 1000000) (pos 0) 0 0 1))) accepted
   pub no_service : EachRefuses (stationed (two (mast (pos 0) (pos 0) (pos 0) 0 no_end no_end))) (refused 8 1)
-  pub first_of_two-rows : EachRefuses (stationed (columns_of (mast (pos 0) (pos 0) (pos 0) 0 1 1 ∷ mast (pos 0) (pos 0) (pos 0) 0 1 1 ∷ []))) (refused 8 0)
+  pub first_of_two_rows : EachRefuses (stationed (columns_of (mast (pos 0) (pos 0) (pos 0) 0 1 1 ∷ mast (pos 0) (pos 0) (pos 0) 0 1 1 ∷ []))) (refused 8 0)
   -- its wind, in both modes
   pub u_past_100 : EachRefuses (stationed (two (blowing (pos 101) (pos 0)))) (refused 8 1)
   pub v_past_100 : EachRefuses (stationed_in wind_mode (two (blowing (pos 0) (negsuc 100)))) (refused 8 1)
@@ -246,9 +246,9 @@ refusals =
       unequal_before_bad = refl;
       bad_window_by_index = refl;
       first_of_two_windows = refl;
-      bad_window-before_lengths = refl;
+      bad_window_before_lengths = refl;
       together = refl;
-      last-window-alone = refl;
+      last_window_alone = refl;
       long_screen_support = refl;
       no_windows_no_points = refl;
       short_grid = refl;
@@ -268,7 +268,7 @@ refusals =
       short_limits = (refl, refl, refl, refl);
       third_mode = (refl, refl, refl, refl);
       mode_before_radius = (refl, refl, refl, refl);
-      mode_before-wind = (refl, refl, refl, refl);
+      mode_before_wind = (refl, refl, refl, refl);
       columns_before_mode = (refl, refl, refl, refl);
       second_rule = (refl, refl, refl, refl);
       rule_0 = (refl, refl, refl, refl);
@@ -285,13 +285,13 @@ refusals =
       largest_limit = (refl, refl, refl, refl);
       no_B = (refl, refl, refl, refl);
       least_B = (refl, refl, refl, refl);
-      most-B = (refl, refl, refl, refl);
+      most_B = (refl, refl, refl, refl);
       past_B = (refl, refl, refl, refl);
-      negative-L = (refl, refl, refl, refl);
+      negative_L = (refl, refl, refl, refl);
       past_L = (refl, refl, refl, refl);
       off_unread = (refl, refl, refl, refl);
-      scan-before_check = (refl, refl, refl, refl);
-      check_before-guess = (refl, refl, refl, refl);
+      scan_before_check = (refl, refl, refl, refl);
+      check_before_guess = (refl, refl, refl, refl);
       high_guess = (refl, refl, refl, refl);
       low_guess = (refl, refl, refl, refl);
       edge_guess = (refl, refl, refl, refl);
@@ -304,7 +304,7 @@ refusals =
       far_y = (refl, refl, refl, refl);
       edge_place = (refl, refl, refl, refl);
       no_service = (refl, refl, refl, refl);
-      first_of_two-rows = (refl, refl, refl, refl);
+      first_of_two_rows = (refl, refl, refl, refl);
       u_past_100 = (refl, refl, refl, refl);
       v_past_100 = (refl, refl, refl, refl);
       u_missing = (refl, refl, refl, refl);
@@ -336,11 +336,11 @@ pub record Verdicts : Type 0 where
   pub read_before_service : verdict (serving 989 990 no_end) ≡ 2
   pub read_when_put_up : verdict (serving 990 990 no_end) ≡ 0
   pub taken_down_by_T : verdict (serving 990 0 1000) ≡ 2
-  pub taken_down-after_T : verdict (serving 990 0 1001) ≡ 0
-  pub put_up-after_T : before_scans most_beyond 2 2 989 60 (serving 990 990 no_end) ≡ 2
+  pub taken_down_after_T : verdict (serving 990 0 1001) ≡ 0
+  pub put_up_after_T : before_scans most_beyond 2 2 989 60 (serving 990 990 no_end) ≡ 2
   pub read_when_taken_down : before_scans most_beyond 2 2 990 60 (serving 1000 0 1000) ≡ 2
   pub no_end : before_scans most_beyond 2 2 4294967295 60 (serving 4294967295 0 no_end) ≡ 0
-  pub two-before-three : verdict (serving 1001 0 1001) ≡ 2
+  pub two_before_three : verdict (serving 1001 0 1001) ≡ 2
   -- 3 and 4
   pub read_at_T : verdict (observed_at 1000) ≡ 0
   pub read_after_T : verdict (observed_at 1001) ≡ 3
@@ -349,11 +349,11 @@ pub record Verdicts : Type 0 where
   pub any_age : before_scans most_beyond 2 2 4294967295 4294967295 (observed_at 0) ≡ 0
   -- 5: a post is off the grid by at most 256 units on each axis
   pub far_corner : verdict (standing (pos 64) (pos 64)) ≡ 0
-  pub posts_at-corners : (verdict (standing (pos 320) (pos 320)) ≡ 0) × (verdict (standing (negsuc 255) (negsuc 255)) ≡ 0)
+  pub posts_at_corners : (verdict (standing (pos 320) (pos 320)) ≡ 0) × (verdict (standing (negsuc 255) (negsuc 255)) ≡ 0)
   pub past_columns : verdict (standing (pos 321) (pos 0)) ≡ 5
   pub past_rows : verdict (standing (pos 0) (pos 321)) ≡ 5
   pub before_columns : verdict (standing (negsuc 256) (pos 320)) ≡ 5
-  pub before-rows : verdict (standing (pos 0) (negsuc 256)) ≡ 5
+  pub before_rows : verdict (standing (pos 0) (negsuc 256)) ≡ 5
   -- 11 to 16: the E test of each scan, and a verdict that stays
   pub rejected_in_the_first : after_test 1 0 (pos 1) 0 ≡ 11
   pub rejected_in_the_last : after_test 6 0 (negsuc 0) 0 ≡ 16
@@ -370,22 +370,22 @@ verdicts =
       read_before_service = refl;
       read_when_put_up = refl;
       taken_down_by_T = refl;
-      taken_down-after_T = refl;
-      put_up-after_T = refl;
+      taken_down_after_T = refl;
+      put_up_after_T = refl;
       read_when_taken_down = refl;
       no_end = refl;
-      two-before-three = refl;
+      two_before_three = refl;
       read_at_T = refl;
       read_after_T = refl;
       of_the_greatest_age = refl;
       too_old = refl;
       any_age = refl;
       far_corner = refl;
-      posts_at-corners = (refl, refl);
+      posts_at_corners = (refl, refl);
       past_columns = refl;
       past_rows = refl;
       before_columns = refl;
-      before-rows = refl;
+      before_rows = refl;
       rejected_in_the_first = refl;
       rejected_in_the_last = refl;
       at_no_limit = refl;
@@ -407,12 +407,12 @@ pub record Readings : Type 0 where
   pub first_guess : reading 2 2 ramp upper (pos 32) (pos 1) ≡ FirstGuess (double (pos 8255488) 262144)
   pub far_corner : reading 2 2 ramp upper (pos 64) (pos 64) ≡ FirstGuess (double (negsuc 262143) 262144)
   pub off-grid : reading 2 2 ramp upper (pos 65) (pos 0) ≡ OffGrid
-  pub before-grid : reading 2 2 ramp upper (pos 0) (negsuc 0) ≡ OffGrid
+  pub before_grid : reading 2 2 ramp upper (pos 0) (negsuc 0) ≡ OffGrid
   pub refused : reading 2 2 ramp (1 ∷ []) (pos 0) (pos 0) ≡ Refused
   pub refused_shape : reading 4 1 ramp upper (pos 0) (pos 0) ≡ Refused
   -- the kinds, and their doubles
-  pub kind_of_off-grid : numbers_of OffGrid ≡ (0, positive_zero)
-  pub kind_of_first-guess : numbers_of (FirstGuess (double (pos 1) 64)) ≡ (1, double (pos 1) 64)
+  pub kind_of_off_grid : numbers_of OffGrid ≡ (0, positive_zero)
+  pub kind_of_first_guess : numbers_of (FirstGuess (double (pos 1) 64)) ≡ (1, double (pos 1) 64)
   pub kind_of_backed : numbers_of (Backed (double (pos 1) 64)) ≡ (2, double (pos 1) 64)
   pub kind_of_refused : numbers_of Refused ≡ (3, positive_zero)
   -- lowest, highest and span; refused, three zeros
@@ -428,11 +428,11 @@ readings =
       first_guess = refl;
       far_corner = refl;
       off-grid = refl;
-      before-grid = refl;
+      before_grid = refl;
       refused = refl;
       refused_shape = refl;
-      kind_of_off-grid = refl;
-      kind_of_first-guess = refl;
+      kind_of_off_grid = refl;
+      kind_of_first_guess = refl;
       kind_of_backed = refl;
       kind_of_refused = refl;
       summarised = refl;
@@ -478,19 +478,19 @@ pub record Texts : Type 0 where
   pub seven_scans : answer_text (opening ++ ascii "smooth=0\nscans=7\n") ≡ ascii "refusal=9\nplace=4\n"
   pub leading_zero : answer_text (ascii "grid=02,2\n") ≡ ascii "refusal=9\nplace=1\n"
   pub past_u32 : answer_text (ascii "grid=2,2\ntime=4294967296\n") ≡ ascii "refusal=9\nplace=2\n"
-  pub missing_in_a-row : answer_text (opening ++ ascii "smooth=0\nscans=1\nscan=1,0\nrow=M,0\n") ≡ ascii "refusal=9\nplace=6\n"
+  pub missing_in_a_row : answer_text (opening ++ ascii "smooth=0\nscans=1\nscan=1,0\nrow=M,0\n") ≡ ascii "refusal=9\nplace=6\n"
   pub many_stations : answer_text (opening ++ ascii "smooth=0\nscans=1\nscan=1,0\n" ++ guessed ++ ascii "stations=513\n") ≡ ascii "refusal=9\nplace=8\n"
   -- and a rule of another number, before `smooth`, twice, or after `scans`
   pub rule_0 : answer_text (opening ++ ascii "smooth=0\nrule=0\n") ≡ ascii "refusal=9\nplace=4\n"
   pub third_rule : answer_text (opening ++ ascii "smooth=0\nrule=3\n") ≡ ascii "refusal=9\nplace=4\n"
-  pub rule_before-smooth : answer_text (opening ++ ascii "rule=1\nsmooth=0\n") ≡ ascii "refusal=9\nplace=3\n"
+  pub rule_before_smooth : answer_text (opening ++ ascii "rule=1\nsmooth=0\n") ≡ ascii "refusal=9\nplace=3\n"
   pub rule_twice : answer_text (opening ++ ascii "smooth=0\nrule=1\nrule=1\n") ≡ ascii "refusal=9\nplace=5\n"
   pub rule_after_scans : answer_text (opening ++ ascii "smooth=0\nscans=1\nrule=1\n") ≡ ascii "refusal=9\nplace=5\n"
   -- and a buddy check before the scans, among them, twice, after a row, of one number, or of one that is no i32
   pub buddy_before_scans : answer_text (opening ++ ascii "smooth=0\nbuddy=1,0\n") ≡ ascii "refusal=9\nplace=4\n"
   pub buddy_among_scans : answer_text (opening ++ ascii "smooth=0\nscans=2\nscan=1,0\nbuddy=1,0\n") ≡ ascii "refusal=9\nplace=6\n"
   pub buddy_twice : answer_text (opening ++ ascii "smooth=0\nscans=1\nscan=1,0\nbuddy=1,0\nbuddy=1,0\n") ≡ ascii "refusal=9\nplace=7\n"
-  pub buddy_after-a-row : answer_text (opening ++ ascii "smooth=0\nscans=1\nscan=1,0\nrow=0,0\nbuddy=1,0\n") ≡ ascii "refusal=9\nplace=7\n"
+  pub buddy_after_a_row : answer_text (opening ++ ascii "smooth=0\nscans=1\nscan=1,0\nrow=0,0\nbuddy=1,0\n") ≡ ascii "refusal=9\nplace=7\n"
   pub buddy_of_one : answer_text (opening ++ ascii "smooth=0\nscans=1\nscan=1,0\nbuddy=1\n") ≡ ascii "refusal=9\nplace=6\n"
   pub buddy_past_i32 : answer_text (opening ++ ascii "smooth=0\nscans=1\nscan=1,0\nbuddy=1,2147483648\n") ≡ ascii "refusal=9\nplace=6\n"
   -- 6, 7 and 8, once the whole text is in form
@@ -530,17 +530,17 @@ texts =
       seven_scans = refl;
       leading_zero = refl;
       past_u32 = refl;
-      missing_in_a-row = refl;
+      missing_in_a_row = refl;
       many_stations = refl;
       rule_0 = refl;
       third_rule = refl;
-      rule_before-smooth = refl;
+      rule_before_smooth = refl;
       rule_twice = refl;
       rule_after_scans = refl;
       buddy_before_scans = refl;
       buddy_among_scans = refl;
       buddy_twice = refl;
-      buddy_after-a-row = refl;
+      buddy_after_a_row = refl;
       buddy_of_one = refl;
       buddy_past_i32 = refl;
       no_radius = refl;
@@ -589,7 +589,7 @@ pub record Posts : Type 0 where
   -- a part from the first of three columns to the second keeps what is west of the grid, and nothing past its own edge
   pub kept_at_the_border : (on_span 3 (from_to 0 1) (negsuc 255) ≡ true) × (on_span 3 (from_to 1 2) (pos 384) ≡ true)
   pub kept_on_the_edge : (on_span 3 (from_to 0 1) (pos 64) ≡ true) × (on_span 3 (from_to 1 2) (pos 64) ≡ true)
-  pub not-beside_the_edge : (on_span 3 (from_to 0 1) (pos 65) ≡ false) × (on_span 3 (from_to 1 2) (pos 63) ≡ false)
+  pub not_beside_the_edge : (on_span 3 (from_to 0 1) (pos 65) ≡ false) × (on_span 3 (from_to 1 2) (pos 63) ≡ false)
   pub not_past_the_other_border : (on_span 3 (from_to 0 1) (pos 384) ≡ false) × (on_span 3 (from_to 1 2) (negsuc 255) ≡ false)
 
 posts : Posts
@@ -602,7 +602,7 @@ posts =
       field_as_found = λ guess. refl;
       kept_at_the_border = (refl, refl);
       kept_on_the_edge = (refl, refl);
-      not-beside_the_edge = (refl, refl);
+      not_beside_the_edge = (refl, refl);
       not_past_the_other_border = (refl, refl);
     }
 
@@ -613,12 +613,12 @@ pub record Rims : Type 0 where
   pub weighed_by_ten_thousandths : analysis (asks_of 1 64 (pos 63) (pos 9))
       ≡ record { grid = pos 704 ∷ pos 704 ∷ pos 640 ∷ pos 704 ∷ []; support = 1 ∷ 1 ∷ 0 ∷ 1 ∷ []; verdict = 0 ∷ [] }
   -- 12 and 72 off (0, 0), so d2 = 5,328 and R² = 5,329: inside, and without weight or support all the same
-  pub inside-without-weight : analysis (asks_of 1 73 (pos 12) (pos 72))
+  pub inside_without_weight : analysis (asks_of 1 73 (pos 12) (pos 72))
       ≡ record { grid = pos 640 ∷ pos 640 ∷ pos 704 ∷ pos 704 ∷ []; support = 0 ∷ 0 ∷ 1 ∷ 1 ∷ []; verdict = 0 ∷ [] }
 
 rims : Rims
 unfolding analysis stored tab after_within scan start rows_judged all_judged each each_from beside_others heard says is_odd after_buddies B L sums_at corrected guess field_of R E before_scans first_that_fits is_missing out_of_service serves off_grid near_axis tested after_test difference value_at place sum_at cell corners rounded total share gift weight_at blows weight divisor correction backed_by
-rims = record { weighed_by_ten_thousandths = refl; inside-without-weight = refl }
+rims = record { weighed_by_ten_thousandths = refl; inside_without_weight = refl }
 
 -- ---- streaks along the wind
 
@@ -693,8 +693,8 @@ pub record LoneStations : Type 0 where
   -- the sign of D
   pub below_the_guess : analysis (ruled round_mode listing_rule 73 (beside (pos 576) ∷ [])) ≡ levelled (pos 585 ∷ pos 610 ∷ pos 635 ∷ pos 640 ∷ []) (1 ∷ 1 ∷ 1 ∷ 0 ∷ []) (0 ∷ [])
   -- without weight it is inside: it moves nothing and supports nothing, and beside it no other is a lone one
-  pub lone-without-weight : analysis (ruled round_mode listing_rule 73 (at_the_rim ∷ [])) ≡ levelled (pos 640 ∷ pos 640 ∷ pos 699 ∷ pos 660 ∷ []) (0 ∷ 0 ∷ 1 ∷ 1 ∷ []) (0 ∷ [])
-  pub beside_one_without-weight : analysis (ruled round_mode listing_rule 73 (at_the_rim ∷ beside (pos 704) ∷ []))
+  pub lone_without_weight : analysis (ruled round_mode listing_rule 73 (at_the_rim ∷ [])) ≡ levelled (pos 640 ∷ pos 640 ∷ pos 699 ∷ pos 660 ∷ []) (0 ∷ 0 ∷ 1 ∷ 1 ∷ []) (0 ∷ [])
+  pub beside_one_without_weight : analysis (ruled round_mode listing_rule 73 (at_the_rim ∷ beside (pos 704) ∷ []))
       ≡ levelled (pos 704 ∷ pos 670 ∷ pos 704 ∷ pos 660 ∷ []) (1 ∷ 1 ∷ 1 ∷ 1 ∷ []) (0 ∷ 0 ∷ [])
   -- one that is rejected, or dead, is not inside: the other is a lone one
   pub beside_one_rejected : analysis (ruled round_mode listing_rule 96 (beside (pos 704) ∷ mast (pos 64) (pos 0) (pos 800) 1000 0 no_end ∷ []))
@@ -711,8 +711,8 @@ lone_stations =
     record {
       by_both_rules = (refl, refl);
       below_the_guess = refl;
-      lone-without-weight = refl;
-      beside_one_without-weight = refl;
+      lone_without_weight = refl;
+      beside_one_without_weight = refl;
       beside_one_rejected = refl;
       beside_one_dead = refl;
       along_the_wind = refl;
@@ -741,7 +741,7 @@ pub record Clusters : Type 0 where
   -- one neighbour is not enough
   pub one_neighbour : (analysis (clustered equation_rule 30 0 (odd (pos 0) (pos 0) 0 ∷ odd (pos 10) (pos 0) 60 ∷ []))).verdict ≡ 0 ∷ 0 ∷ []
   -- a third at distance B is none, and one unit nearer is
-  pub at-B : (analysis (clustered equation_rule 100 0 (odd (pos 0) (pos 0) 0 ∷ odd (pos 0) (pos 0) 0 ∷ odd (pos 60) (pos 80) 40 ∷ []))).verdict ≡ 0 ∷ 0 ∷ 0 ∷ []
+  pub at_B : (analysis (clustered equation_rule 100 0 (odd (pos 0) (pos 0) 0 ∷ odd (pos 0) (pos 0) 0 ∷ odd (pos 60) (pos 80) 40 ∷ []))).verdict ≡ 0 ∷ 0 ∷ 0 ∷ []
   pub nearer : (analysis (clustered equation_rule 100 0 (odd (pos 0) (pos 0) 0 ∷ odd (pos 0) (pos 0) 0 ∷ odd (pos 60) (pos 79) 40 ∷ []))).verdict ≡ 21 ∷ 21 ∷ 21 ∷ []
   -- all at one place, with B = 1
   pub one_place : (analysis (clustered equation_rule 1 20 (odd (pos 5) (pos 5) 0 ∷ odd (pos 5) (pos 5) 40 ∷ odd (pos 5) (pos 5) 0 ∷ []))).verdict ≡ 0 ∷ 21 ∷ 0 ∷ []
@@ -753,7 +753,7 @@ pub record Clusters : Type 0 where
   pub posts_apart : (analysis (clustered equation_rule 30 0 (odd (negsuc 39) (pos 0) 0 ∷ odd (pos 0) (pos 0) 40 ∷ odd (pos 0) (pos 0) 40 ∷ []))).verdict ≡ 0 ∷ 0 ∷ 0 ∷ []
   pub posts_near : (analysis (clustered equation_rule 41 20 (odd (negsuc 39) (pos 0) 0 ∷ odd (pos 0) (pos 0) 40 ∷ odd (pos 0) (pos 0) 40 ∷ []))).verdict ≡ 21 ∷ 0 ∷ 0 ∷ []
   -- all are judged against the same survivors: no station's verdict changes another's
-  pub two-odd_ones : (analysis (clustered equation_rule 30 24 (odd (pos 0) (pos 0) 0 ∷ odd (pos 0) (pos 0) 0 ∷ odd (pos 0) (pos 0) 0 ∷ odd (pos 0) (pos 0) 40 ∷ odd (pos 0) (pos 0) 40 ∷ []))).verdict
+  pub two_odd_ones : (analysis (clustered equation_rule 30 24 (odd (pos 0) (pos 0) 0 ∷ odd (pos 0) (pos 0) 0 ∷ odd (pos 0) (pos 0) 0 ∷ odd (pos 0) (pos 0) 40 ∷ odd (pos 0) (pos 0) 40 ∷ []))).verdict
       ≡ 0 ∷ 0 ∷ 0 ∷ 21 ∷ 21 ∷ []
   -- who is set aside has no weight: the grid of the two that stay, and under rule 2 the other is a lone one
   pub without_the_third : analysis (clustered equation_rule 30 39 (three_with (odd (pos 0) (pos 10) 40)))
@@ -767,14 +767,14 @@ clusters =
       by_one_more = refl;
       all_three = refl;
       one_neighbour = refl;
-      at-B = refl;
+      at_B = refl;
       nearer = refl;
       one_place = refl;
       beside_one_rejected = refl;
       beside_one_dead = refl;
       posts_apart = refl;
       posts_near = refl;
-      two-odd_ones = refl;
+      two_odd_ones = refl;
       without_the_third = refl;
     }
 

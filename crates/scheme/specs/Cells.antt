@@ -5,9 +5,9 @@ use Rattle.scheme.specs.Units.{step}
 use Rattle.scheme.specs.Value.{place, cell}
 
 -- both corners of the cell are points of the axis
-pub cell-inside : (n x : ℕ) → 2 ≤ n → cell n x + 2 ≤ n
+pub cell_inside : (n x : ℕ) → 2 ≤ n → cell n x + 2 ≤ n
 unfolding cell
-cell-inside n x h = omega arith
+cell_inside n x h = omega arith
 
 pub cell_low : (n x : ℕ) → step * cell n x ≤ x
 unfolding cell

@@ -16,7 +16,7 @@ use Rattle.scheme.specs.Text.Printed.{spelled, decimal, integer, cells, keyed, g
 use Rattle.scheme.specs.Promises.{Settles, put_first, Analyses, Queries, Replies}
 use Rattle.scheme.specs.Accepted.{Ruled}
 use Rattle.scheme.specs.Calls.{call_for, asks}
-use Rattle.scheme.specs.Example.{by_rule, under_both, level, example, corner, once_text, twice_text, smooth_text, once, twice, smooth, only_smoothed, corner_once, corner_twice, corner_smooth, once_answer, twice_answer, smooth_answer, example_accepted, example-analysis, example-window, example_cheated, example_text}
+use Rattle.scheme.specs.Example.{by_rule, under_both, level, example, corner, once_text, twice_text, smooth_text, once, twice, smooth, only_smoothed, corner_once, corner_twice, corner_smooth, once_answer, twice_answer, smooth_answer, example_accepted, example_analysis, example_window, example_cheated, example_text}
 
 -- an accepted call answers 0 and leaves its result
 done : {A : Type 0} (found : A) {refusal : Refusal} {result left right : A} {answer : ℕ} → refusal ≡ accepted → result ≡ right
@@ -50,42 +50,42 @@ module _ (rule : ℕ) (ruled : Ruled rule) (found : Analysis) (long : Long found
     (asked-once : Analyses (call_for (example rule 1 false)) found answer left) (asked_twice : Analyses (call_for (example rule 2 false)) found answer' left')
     (asked-smooth : Analyses (call_for (example rule 2 true)) found answer'' left'') where
   abbrev ended_once : (answer ≡ 0) × (left ≡ once rule)
-  ended_once = ended (example rule 1 false) (once rule) found left answer long (example_accepted rule ruled).0.0 (example-analysis rule ruled).0 asked-once
+  ended_once = ended (example rule 1 false) (once rule) found left answer long (example_accepted rule ruled).0.0 (example_analysis rule ruled).0 asked-once
 
   abbrev ended_twice : (answer' ≡ 0) × (left' ≡ twice rule)
-  ended_twice = ended (example rule 2 false) (twice rule) found left' answer' long (example_accepted rule ruled).1.0 (example-analysis rule ruled).1 asked_twice
+  ended_twice = ended (example rule 2 false) (twice rule) found left' answer' long (example_accepted rule ruled).1.0 (example_analysis rule ruled).1 asked_twice
 
   abbrev ended_smooth : (answer'' ≡ 0) × (left'' ≡ smooth rule)
-  ended_smooth = ended (example rule 2 true) (smooth rule) found left'' answer'' long (example_accepted rule ruled).2.0 (example-analysis rule ruled).2 asked-smooth
+  ended_smooth = ended (example rule 2 true) (smooth rule) found left'' answer'' long (example_accepted rule ruled).2.0 (example_analysis rule ruled).2 asked-smooth
 
-  first-once : first_of left.grid ≡ 587
-  first-once = ap (λ (a : Analysis). first_of a.grid) ended_once.1
+  first_once : first_of left.grid ≡ 587
+  first_once = ap (λ (a : Analysis). first_of a.grid) ended_once.1
 
-  first-twice : first_of left'.grid ≡ 577
-  first-twice = ap (λ (a : Analysis). first_of a.grid) ended_twice.1
+  first_twice : first_of left'.grid ≡ 577
+  first_twice = ap (λ (a : Analysis). first_of a.grid) ended_twice.1
 
-  first-smooth : first_of left''.grid ≡ by_rule rule 579 581
-  first-smooth = ap (λ (a : Analysis). first_of a.grid) ended_smooth.1
+  first_smooth : first_of left''.grid ≡ by_rule rule 579 581
+  first_smooth = ap (λ (a : Analysis). first_of a.grid) ended_smooth.1
 
   -- refusing everything
   pub no_refusal : (answer ≡ 0) × (answer' ≡ 0) × (answer'' ≡ 0)
   no_refusal = (ended_once.0, ended_twice.0, ended_smooth.0)
 
   -- the first guess untouched, or one fixed grid
-  pub not_the_first-guess : left.grid ≡ level → ⊥
+  pub not_the_first_guess : left.grid ≡ level → ⊥
   unfolding tab
-  not_the_first-guess = begin_otherwise 587 640 first-once refl (λ e. omega arith)
+  not_the_first_guess = begin_otherwise 587 640 first_once refl (λ e. omega arith)
 
   pub not_one_fixed_grid : left'.grid ≡ left.grid → ⊥
-  not_one_fixed_grid = begin_otherwise 577 587 first-twice first-once (λ e. omega arith)
+  not_one_fixed_grid = begin_otherwise 577 587 first_twice first_once (λ e. omega arith)
 
   -- correcting in the first scan, and just smoothing afterwards: with smoothing off that leaves the first scan's grid, and with smoothing on
   -- that grid, smoothed
   pub not_one_scan_only : left'.grid ≡ stored 3 3 (after (example rule 2 false) 1).field → ⊥
-  not_one_scan_only = begin_otherwise 577 587 first-twice (ap first_of (example_cheated rule ruled).0) (λ e. omega arith)
+  not_one_scan_only = begin_otherwise 577 587 first_twice (ap first_of (example_cheated rule ruled).0) (λ e. omega arith)
 
   pub not_only_smoothed : left''.grid ≡ stored 3 3 (only_smoothed rule) → ⊥
-  not_only_smoothed = begin_otherwise (by_rule rule 579 581) 587 first-smooth (ap first_of (example_cheated rule ruled).2) (neither rule 579 581 587 (λ e. omega arith) (λ e. omega arith))
+  not_only_smoothed = begin_otherwise (by_rule rule 579 581) 587 first_smooth (ap first_of (example_cheated rule ruled).2) (neither rule 579 581 587 (λ e. omega arith) (λ e. omega arith))
 
   -- made-up support or verdicts
   pub no_other_support : (left.support ≡ (once rule).support) × (left'.support ≡ (twice rule).support) × (left''.support ≡ (smooth rule).support)
@@ -96,9 +96,9 @@ module _ (rule : ℕ) (ruled : Ruled rule) (found : Analysis) (long : Long found
 
 -- ---- the window query
 
-window-ended : (q : Request) (right found left : Tile) (answer : ℕ) → (length found.grid ≡ 4) × (length found.support ≡ 4)
+window_ended : (q : Request) (right found left : Tile) (answer : ℕ) → (length found.grid ≡ 4) × (length found.support ≡ 4)
     → window_refusal (call_for q) corner 4 4 ≡ accepted → whole_at q corner ≡ right → Queries (call_for q) corner found answer left → (answer ≡ 0) × (left ≡ right)
-window-ended q right found left answer (g, s) e r =
+window_ended q right found left answer (g, s) e r =
     let a : window_refusal (call_for q) corner (length found.grid) (length found.support) ≡ accepted = rw (g, s) e in
     done found a (ap (λ (p : Request). whole_at p corner) (asks q) ∙ r)
 
@@ -106,38 +106,38 @@ module _ (rule : ℕ) (ruled : Ruled rule) (found : Tile) (long : (length found.
     (asked-once : Queries (call_for (example rule 1 false)) corner found answer left) (asked_twice : Queries (call_for (example rule 2 false)) corner found answer' left')
     (asked-smooth : Queries (call_for (example rule 2 true)) corner found answer'' left'') where
   abbrev window_once : (answer ≡ 0) × (left ≡ corner_once)
-  window_once = window-ended (example rule 1 false) corner_once found left answer long (example_accepted rule ruled).0.1 (example-window rule ruled).0 asked-once
+  window_once = window_ended (example rule 1 false) corner_once found left answer long (example_accepted rule ruled).0.1 (example_window rule ruled).0 asked-once
 
   abbrev window_twice : (answer' ≡ 0) × (left' ≡ corner_twice)
-  window_twice = window-ended (example rule 2 false) corner_twice found left' answer' long (example_accepted rule ruled).1.1 (example-window rule ruled).1 asked_twice
+  window_twice = window_ended (example rule 2 false) corner_twice found left' answer' long (example_accepted rule ruled).1.1 (example_window rule ruled).1 asked_twice
 
   abbrev window_smooth : (answer'' ≡ 0) × (left'' ≡ corner_smooth rule)
-  window_smooth = window-ended (example rule 2 true) (corner_smooth rule) found left'' answer'' long (example_accepted rule ruled).2.1 (example-window rule ruled).2 asked-smooth
+  window_smooth = window_ended (example rule 2 true) (corner_smooth rule) found left'' answer'' long (example_accepted rule ruled).2.1 (example_window rule ruled).2 asked-smooth
 
-  tile-once : first_of left.grid ≡ 587
-  tile-once = ap (λ (t : Tile). first_of t.grid) window_once.1
+  tile_once : first_of left.grid ≡ 587
+  tile_once = ap (λ (t : Tile). first_of t.grid) window_once.1
 
-  tile-twice : first_of left'.grid ≡ 577
-  tile-twice = ap (λ (t : Tile). first_of t.grid) window_twice.1
+  tile_twice : first_of left'.grid ≡ 577
+  tile_twice = ap (λ (t : Tile). first_of t.grid) window_twice.1
 
-  tile-smooth : first_of left''.grid ≡ by_rule rule 579 581
-  tile-smooth = ap (λ (t : Tile). first_of t.grid) window_smooth.1
+  tile_smooth : first_of left''.grid ≡ by_rule rule 579 581
+  tile_smooth = ap (λ (t : Tile). first_of t.grid) window_smooth.1
 
   pub window_no_refusal : (answer ≡ 0) × (answer' ≡ 0) × (answer'' ≡ 0)
   window_no_refusal = (window_once.0, window_twice.0, window_smooth.0)
 
-  pub window-not_the_first-guess : left.grid ≡ tab 4 (λ p. pos 640) → ⊥
+  pub window_not_the_first_guess : left.grid ≡ tab 4 (λ p. pos 640) → ⊥
   unfolding tab
-  window-not_the_first-guess = begin_otherwise 587 640 tile-once refl (λ e. omega arith)
+  window_not_the_first_guess = begin_otherwise 587 640 tile_once refl (λ e. omega arith)
 
-  pub window-not_one_fixed_grid : left'.grid ≡ left.grid → ⊥
-  window-not_one_fixed_grid = begin_otherwise 577 587 tile-twice tile-once (λ e. omega arith)
+  pub window_not_one_fixed_grid : left'.grid ≡ left.grid → ⊥
+  window_not_one_fixed_grid = begin_otherwise 577 587 tile_twice tile_once (λ e. omega arith)
 
-  pub window-not_one_scan_only : left'.grid ≡ window_of corner (after (example rule 2 false) 1).field → ⊥
-  window-not_one_scan_only = begin_otherwise 577 587 tile-twice (ap first_of (example_cheated rule ruled).1) (λ e. omega arith)
+  pub window_not_one_scan_only : left'.grid ≡ window_of corner (after (example rule 2 false) 1).field → ⊥
+  window_not_one_scan_only = begin_otherwise 577 587 tile_twice (ap first_of (example_cheated rule ruled).1) (λ e. omega arith)
 
-  pub window-not_only_smoothed : left''.grid ≡ window_of corner (only_smoothed rule) → ⊥
-  window-not_only_smoothed = begin_otherwise (by_rule rule 579 581) 587 tile-smooth (ap first_of (example_cheated rule ruled).3) (neither rule 579 581 587 (λ e. omega arith) (λ e. omega arith))
+  pub window_not_only_smoothed : left''.grid ≡ window_of corner (only_smoothed rule) → ⊥
+  window_not_only_smoothed = begin_otherwise (by_rule rule 579 581) 587 tile_smooth (ap first_of (example_cheated rule ruled).3) (neither rule 579 581 587 (λ e. omega arith) (λ e. omega arith))
 
   pub window_no_other_support : (left.support ≡ corner_once.support) × (left'.support ≡ corner_twice.support) × (left''.support ≡ (corner_smooth rule).support)
   window_no_other_support = (ap (λ (t : Tile). t.support) window_once.1, ap (λ (t : Tile). t.support) window_twice.1, ap (λ (t : Tile). t.support) window_smooth.1)
@@ -210,9 +210,9 @@ module _ (rule : ℕ) (ruled : Ruled rule) (found left left' left'' : List ℕ) 
   pub text_no_refusal : (first_two_lines left ≡ ascii "refusal=0\nplace=0\n") × (first_two_lines left' ≡ ascii "refusal=0\nplace=0\n") × (first_two_lines left'' ≡ ascii "refusal=0\nplace=0\n")
   text_no_refusal = (says_once.opening, says_twice.opening, says_smooth.opening)
 
-  pub text_not_the_first-guess : row_lines left ≡ shown level → ⊥
+  pub text_not_the_first_guess : row_lines left ≡ shown level → ⊥
   unfolding tab grid_lines keyed cells integer decimal spelled
-  text_not_the_first-guess = read_otherwise 87 40 says_once.values refl (λ e. omega arith)
+  text_not_the_first_guess = read_otherwise 87 40 says_once.values refl (λ e. omega arith)
 
   pub text_not_one_fixed_grid : row_lines left' ≡ row_lines left → ⊥
   text_not_one_fixed_grid = read_otherwise 77 87 says_twice.values says_once.values (λ e. omega arith)

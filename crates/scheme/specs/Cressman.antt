@@ -7,7 +7,7 @@ use Rattle.std.proofs.Math.Bool.{true, false, cond}
 use Rattle.std.proofs.Math.IntN.{pos, ◌+ℤ◌}
 use Rattle.integers.specs.Parts.{up, dn}
 use Rattle.lists.specs.Tests.{and_true, leb_same}
-use Rattle.lists.specs.Sums.{total, total-map, up_to_same}
+use Rattle.lists.specs.Sums.{total, total_map, up_to_same}
 use Rattle.lists.specs.Each.{each_of_map}
 use Rattle.scheme.specs.Units.{Field, step, Station, most_beyond, R, E, B, L, Request, guess}
 use Rattle.scheme.specs.Refusals.{Window}
@@ -22,9 +22,9 @@ use Rattle.scheme.specs.Smoothing.{pattern_at, pattern_row, pattern_sum, smoothe
 use Rattle.scheme.specs.Scan.{begins, start, differences, all_tested, all_judged, rows_judged, sums_at, corrected, scan, after_within, after}
 use Rattle.scheme.specs.Reach.{on_span, on_window, counted}
 use Rattle.scheme.specs.Judging.{judged_beside, judged_station}
-use Rattle.scheme.specs.Adding.{nothing-plus, silence-both}
+use Rattle.scheme.specs.Adding.{nothing_plus, silence_both}
 use Rattle.scheme.specs.Gifts.{outside, gift_far}
-use Rattle.scheme.specs.Axes.{Axis, off, len, from_first, On, SameBeside, place_up, counted_parts, place-counted}
+use Rattle.scheme.specs.Axes.{Axis, off, len, from_first, On, SameBeside, place_up, counted_parts, place_counted}
 use Rattle.scheme.specs.Laws.{Influence, Scheme, States, Run, given, gathered, smoothed_if, Ranged, Laws}
 use Rattle.scheme.specs.Shares.{sum_local}
 
@@ -105,7 +105,7 @@ module _ (q : Request) where
       record {
         field_first = λ i j. refl;
         support_first = λ i j. refl;
-        rows-first = refl;
+        rows_first = refl;
         rows_next =
             λ m. unfold after_within scan rows_judged all_judged in
             each_of_map (beside_others (m + 1) (B q.plan) (L q.plan) (differences q (after q m))) (tested (m + 1) (E q.plan m) (differences q (after q m))) (after q m).rows;
@@ -128,9 +128,9 @@ unfolding on_span
 span_on a x h = rw (le-leb _ (place a.n x) h.low, le-leb (place a.n x) _ h.high)
 
 -- then it is as far off the stretch as off the grid's axis
-near-counted : (b : ℕ) (a : Axis) (x : ℤ) → On a (place a.n x) → near_axis b a.n x ≡ near_axis b (len a) (from_first a x)
+near_counted : (b : ℕ) (a : Axis) (x : ℤ) → On a (place a.n x) → near_axis b a.n x ≡ near_axis b (len a) (from_first a x)
 unfolding near_axis
-near-counted b a x h =
+near_counted b a x h =
     go x (from_first a x) (counted_parts a x h).0 (counted_parts a x h).1 (rw (place_up a.n x) at h.high)
   where
     go : (x c : ℤ) → up x ≡ up c + step * off a → dn x ≡ dn c → min (up x) (step * (a.n - 1)) ≤ step * a.span.last → near_axis b a.n x ≡ near_axis b (len a) c
@@ -144,7 +144,7 @@ module _ (q : Request) where
   pull_ranged : Ranged (cressman q) (pull q)
   pull_ranged =
       record {
-        nil-plus = nothing-plus;
+        nil_plus = nothing_plus;
         far = λ m s D dx dy h. gift_far q.plan.mode (R q.plan m) s.wind D dx dy h;
         give_counted = λ a b m s d dx dy. unfold counted in refl;
       }
@@ -156,7 +156,7 @@ module _ (q : Request) where
   neighbours_ranged : Ranged (cressman q) (neighbours q)
   neighbours_ranged =
       record {
-        nil-plus = silence-both;
+        nil_plus = silence_both;
         far = λ m s D dx dy h. rw (outside (B q.plan) dx dy h) (nobody (not (ltb (E q.plan m) (nat_abs D))) D);
         give_counted = λ a b m s d dx dy. refl;
       }
@@ -178,7 +178,7 @@ module _ (q : Request) where
       → heard (B q.plan) D s (all_tested q.plan m D others) ≡ gathered (cressman q) (neighbours q) m D s.x s.y others
   unfolding heard gathered
   heard_is m D s others =
-      total-map silence both (says (B q.plan) D s) (tested (m + 1) (E q.plan m) D) others
+      total_map silence both (says (B q.plan) D s) (tested (m + 1) (E q.plan m) D) others
       ∙ ap (λ (f : Row → Heard). total silence both f others) (fun_ext (said_is m D s))
 
   module _ (a b : Axis) (s : Station) (e : on_window a.n b.n (part a b) s ≡ true) where
@@ -188,27 +188,27 @@ module _ (q : Request) where
     on_y : On b (place b.n s.y)
     on_y = on-span b s.y (and_true (on_span a.n a.span s.x) (on_span b.n b.span s.y) e).1
 
-    begins-counted : before_scans most_beyond a.n b.n q.T q.A s ≡ before_scans most_beyond (len a) (len b) q.T q.A (counted (part a b) s)
+    begins_counted : before_scans most_beyond a.n b.n q.T q.A s ≡ before_scans most_beyond (len a) (len b) q.T q.A (counted (part a b) s)
     unfolding before_scans serves out_of_service off_grid counted
-    begins-counted = rw (near-counted most_beyond a s.x on_x, near-counted most_beyond b s.y on_y)
+    begins_counted = rw (near_counted most_beyond a s.x on_x, near_counted most_beyond b s.y on_y)
 
     -- the value there, of any field that is the same at the corners with a share
     value_local : (z z' : Field ℤ) → SameBeside a b (place a.n s.x) (place b.n s.y) z z'
         → value_at a.n b.n z s ≡ value_at (len a) (len b) z' (counted (part a b) s)
     unfolding value_at counted
     value_local z z' ag =
-        ap (λ (t : ℤ). rounded t 4096) (sum_local a b z z' _ _ _ _ on_x on_y (place-counted a s.x on_x) (place-counted b s.y on_y) ag)
+        ap (λ (t : ℤ). rounded t 4096) (sum_local a b z z' _ _ _ _ on_x on_y (place_counted a s.x on_x) (place_counted b s.y on_y) ag)
 
     difference_local : (guess guess' z z' : Field ℤ) → SameBeside a b (place a.n s.x) (place b.n s.y) guess guess'
         → SameBeside a b (place a.n s.x) (place b.n s.y) z z'
         → difference a.n b.n guess z s ≡ difference (len a) (len b) guess' z' (counted (part a b) s)
     unfolding difference
     difference_local guess guess' z z' g ag =
-        rw (value-both (on_grid a.n b.n s.x s.y)) (unfold counted in rw (near-counted 0 a s.x on_x, near-counted 0 b s.y on_y))
+        rw (value_both (on_grid a.n b.n s.x s.y)) (unfold counted in rw (near_counted 0 a s.x on_x, near_counted 0 b s.y on_y))
       where
-        value-both : (on : Bool) → value_at a.n b.n (cond on z guess) s ≡ value_at (len a) (len b) (cond on z' guess') (counted (part a b) s)
-        value-both true = value_local z z' ag
-        value-both false = value_local guess guess' g
+        value_both : (on : Bool) → value_at a.n b.n (cond on z guess) s ≡ value_at (len a) (len b) (cond on z' guess') (counted (part a b) s)
+        value_both true = value_local z z' ag
+        value_both false = value_local guess guess' g
 
   rejected_stays : (m : ℕ) (D : ℤ) (h : Heard) (v : ℕ) → is_accepted v ≡ false → is_accepted (after_buddies (m + 1) (L q.plan) D h (after_test (m + 1) (E q.plan m) D v)) ≡ false
   unfolding after_buddies after_test
@@ -233,11 +233,11 @@ module _ (q : Request) where
       record {
         pull_ranged = pull_ranged;
         buddies_ranged = neighbours_ranged;
-        counted-x = λ a b s. unfold counted in refl;
-        counted-y = λ a b s. unfold counted in refl;
+        counted_x = λ a b s. unfold counted in refl;
+        counted_y = λ a b s. unfold counted in refl;
         begins_station = λ nx ny s. refl;
-        begins-counted = begins-counted;
-        placed_kept = λ a b s e p. rw (span_on a s.x p.along-x, span_on b s.y p.along-y);
+        begins_counted = begins_counted;
+        placed_kept = λ a b s e p. rw (span_on a s.x p.along_x, span_on b s.y p.along_y);
         difference_local = difference_local;
         judged_station = λ m D r others. judged_station q.plan m D r (all_tested q.plan m D others);
         judged_verdict =

@@ -16,23 +16,23 @@ use Rattle.scheme.specs.Value.{place}
 use Rattle.scheme.specs.Reach.{steps, reach, cut_of, on_span, on_window, counted, window_of, cut}
 use Rattle.scheme.specs.Accepted.{Shaped, Stationed, Planned, Sound, no_station, OnGrid}
 use Rattle.scheme.specs.Calls.{Accepts, sound_accepted}
-use Rattle.scheme.specs.Stored.{length-stored, stored-all}
-use Rattle.scheme.specs.Bounds.{guess-within}
-use Rattle.scheme.specs.Near.{Side, cut-two, cut_inside}
+use Rattle.scheme.specs.Stored.{length-stored, stored_all}
+use Rattle.scheme.specs.Bounds.{guess_within}
+use Rattle.scheme.specs.Near.{Side, cut_two, cut_inside}
 
 -- ---- along each axis: the window, widened by the reach
 
 -- the steps of the first scan are among the total
-first-steps : (p : Plan) (n : ℕ) → 1 ≤ n → steps p 0 ≤ up_to 0 ◌+◌ n (steps p)
+first_steps : (p : Plan) (n : ℕ) → 1 ≤ n → steps p 0 ≤ up_to 0 ◌+◌ n (steps p)
 unfolding up_to
-first-steps p zero l = absurd (omega arith)
-first-steps p (suc zero) l = omega arith
-first-steps p (suc (suc n)) l = omega (arith, first-steps p (suc n) (omega arith))
+first_steps p zero l = absurd (omega arith)
+first_steps p (suc zero) l = omega arith
+first_steps p (suc (suc n)) l = omega (arith, first_steps p (suc n) (omega arith))
 
 -- an accepted plan has a scan, and its radius is at least 1
 pub reach_some : (p : Plan) → Planned p → 1 ≤ reach p
 unfolding reach steps
-reach_some p s = omega (arith, (s.scan 0 s.scans_some).radius_some, first-steps p p.scans s.scans_some)
+reach_some p s = omega (arith, (s.scan 0 s.scans_some).radius_some, first_steps p p.scans s.scans_some)
 
 module _ (q : Request) (w : Window) (sound : Sound q) (on : OnGrid q.nx q.ny w) where
   abbrev pub across : Side
@@ -53,7 +53,7 @@ module _ (q : Request) (w : Window) (sound : Sound q) (on : OnGrid q.nx q.ny w) 
         n = q.ny;
         window = w.rows;
         wider = reach q.plan;
-        two = sound.shape.two-rows;
+        two = sound.shape.two_rows;
         ordered = on.down;
         inside = on.bottom;
         some = reach_some q.plan sound.plan;
@@ -77,10 +77,10 @@ module _ (q : Request) (w : Window) where
   unfolding cut
   row_cut r o = get_or-map (counted (cut_of q w)) kept_here r o
 
-  pub window-row : (k : ℕ) (o : Station) → k < length q.stations → on_window q.nx q.ny (cut_of q w) (get_or q.stations k o) ≡ true
+  pub window_row : (k : ℕ) (o : Station) → k < length q.stations → on_window q.nx q.ny (cut_of q w) (get_or q.stations k o) ≡ true
       → (row_in_cut q w k < length (cut q w).stations)
       × (get_or (cut q w).stations (row_in_cut q w k) (counted (cut_of q w) o) ≡ counted (cut_of q w) (get_or q.stations k o))
-  window-row k o l e =
+  window_row k o l e =
       let (r, same) = keep_at (on_window q.nx q.ny (cut_of q w)) o q.stations k l e in
       (omega (arith, rows_cut), row_cut (row_in_cut q w k) o ∙ ap (counted (cut_of q w)) same)
 
@@ -96,9 +96,9 @@ counted_small most n c (negsuc x) e h =
     let low = leb-true (step * c.first) 0 (and_true _ _ e).0 in
     omega (arith, low, size_minus (negsuc x) (pos (step * c.first)))
 
-counted-stationed : (nx ny : ℕ) (w : Window) (s : Station) → on_window nx ny w s ≡ true → Stationed s → Stationed (counted w s)
+counted_stationed : (nx ny : ℕ) (w : Window) (s : Station) → on_window nx ny w s ≡ true → Stationed s → Stationed (counted w s)
 unfolding counted
-counted-stationed nx ny w s e t =
+counted_stationed nx ny w s e t =
     let (x, y) = and_true _ _ e in
     record {
       value = t.value;
@@ -111,30 +111,30 @@ counted-stationed nx ny w s e t =
 module _ (q : Request) (w : Window) (sound : Sound q) (on : OnGrid q.nx q.ny w) where
   cut_shape : Shaped (cut q w).nx (cut q w).ny (length (cut q w).first_guess)
   cut_shape =
-      let x = cut-two (across q w sound on) in
+      let x = cut_two (across q w sound on) in
       let x' = cut_inside (across q w sound on) in
-      let y = cut-two (down q w sound on) in
+      let y = cut_two (down q w sound on) in
       let y' = cut_inside (down q w sound on) in
       unfold cut window_of in
       record {
         two_columns = omega arith;
         few_columns = omega (arith, sound.shape.few_columns);
-        two-rows = omega arith;
+        two_rows = omega arith;
         few_rows = omega (arith, sound.shape.few_rows);
         whole = length-stored (points_along (cut_of q w).columns) (points_along (cut_of q w).rows) _;
       }
 
-  cut-guess : (k : ℕ) → nat_abs (get_or (cut q w).first_guess k (pos 0)) ≤ most_value
+  cut_guess : (k : ℕ) → nat_abs (get_or (cut q w).first_guess k (pos 0)) ≤ most_value
   unfolding cut window_of
-  cut-guess k =
-      stored-all (λ (v : ℤ). nat_abs v ≤ most_value) (pos 0) (points_along (cut_of q w).columns) (points_along (cut_of q w).rows)
-      (λ i j. guess q (i + (cut_of q w).columns.first) (j + (cut_of q w).rows.first)) (omega arith) (λ i j. guess-within q sound _ _) k
+  cut_guess k =
+      stored_all (λ (v : ℤ). nat_abs v ≤ most_value) (pos 0) (points_along (cut_of q w).columns) (points_along (cut_of q w).rows)
+      (λ i j. guess q (i + (cut_of q w).columns.first) (j + (cut_of q w).rows.first)) (omega arith) (λ i j. guess_within q sound _ _) k
 
   cut_station : (r : ℕ) → r < length (cut q w).stations → Stationed (get_or (cut q w).stations r no_station)
   cut_station r l =
       let f = kept_from (on_window q.nx q.ny (cut_of q w)) no_station q.stations r (omega (arith, rows_cut q w)) in
       rw (get_d_any (cut q w).stations r no_station (counted (cut_of q w) no_station) l, row_cut q w r no_station, f.same)
-      (counted-stationed q.nx q.ny (cut_of q w) (get_or q.stations f.place no_station) f.kept (sound.stations f.place f.inside))
+      (counted_stationed q.nx q.ny (cut_of q w) (get_or q.stations f.place no_station) f.kept (sound.stations f.place f.inside))
 
   pub cut_sound : Sound (cut q w)
   cut_sound =
@@ -142,7 +142,7 @@ module _ (q : Request) (w : Window) (sound : Sound q) (on : OnGrid q.nx q.ny w) 
         shape = cut_shape;
         few_stations = omega (arith, rows_cut q w, length-keep (on_window q.nx q.ny (cut_of q w)) q.stations, sound.few_stations);
         plan = unfold cut in sound.plan;
-        first_guess = λ k h. cut-guess k;
+        first_guess = λ k h. cut_guess k;
         stations = cut_station;
       }
 

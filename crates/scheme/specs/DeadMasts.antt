@@ -3,7 +3,7 @@ use Rattle.std.specs.Prelude.{ℕ, zero, suc, ◌+◌, refl, Bool, false, ◌&&�
 use Rattle.std.proofs.Common.{arith, zero-add, add-zero, ◌∙◌}
 use Rattle.std.proofs.Math.Path.{◌≡◌, sym, ap, fun_ext}
 use Rattle.std.proofs.Math.Bool.{cond}
-use Rattle.lists.specs.Sums.{total, total-map}
+use Rattle.lists.specs.Sums.{total, total_map}
 use Rattle.lists.specs.Keep.{keep}
 use Rattle.lists.specs.Parted.{Parted, keep_parted, total_parted, each_parted}
 use Rattle.lists.specs.Each.{without, each_of_map}
@@ -15,8 +15,8 @@ use Rattle.scheme.specs.Correction.{Sums, nothing, plus, share, correction, back
 use Rattle.scheme.specs.Smoothing.{smoothed}
 use Rattle.scheme.specs.Scan.{begins, start, differences, all_tested, all_judged, rows_judged, sums_at, corrected, scan, after_within, after, analysis}
 use Rattle.scheme.specs.Judging.{no_row, judged_beside, rejected_passes_test, rejected_stays, judged_row, judged_station}
-use Rattle.scheme.specs.Adding.{nothing-plus, silence-both}
-use Rattle.scheme.specs.Gifts.{sums, rejected_gives-nothing}
+use Rattle.scheme.specs.Adding.{nothing_plus, silence_both}
+use Rattle.scheme.specs.Gifts.{sums, rejected_gives_nothing}
 
 -- ---- row n of a run
 
@@ -73,7 +73,7 @@ rejected_has_no_weight q k n t i j e =
     let same : get_or (rows_judged q (k + t) (after q (k + t))) n no_row ≡ row_after q (suc k) n =
     row_judged q (k + t) n ∙ ap (λ (m : ℕ). row_after q m n) s ∙ rejected_for_good q (suc k) n t e in
     let gone : is_accepted (get_or (rows_judged q (k + t) (after q (k + t))) n no_row).verdict ≡ false = rw same e in
-    rw (rejected_gives-nothing q.plan.mode (R q.plan (k + t)) (differences q (after q (k + t))) i j (get_or (rows_judged q (k + t) (after q (k + t))) n no_row) gone, weight_in)
+    rw (rejected_gives_nothing q.plan.mode (R q.plan (k + t)) (differences q (after q (k + t))) i j (get_or (rows_judged q (k + t) (after q (k + t))) n no_row) gone, weight_in)
 
 -- ---- a mast that is dead before the first scan: verdicts 1 to 5
 
@@ -124,18 +124,18 @@ module _ (q : Request) where
     abbrev D : Station → ℤ
     D = differences q (after q m)
 
-    same-D : differences without_dead_masts (after without_dead_masts m) ≡ D
+    same_D : differences without_dead_masts (after without_dead_masts m) ≡ D
     unfolding guess
-    same-D = ap (difference q.nx q.ny (guess q)) h.field
+    same_D = ap (difference q.nx q.ny (guess q)) h.field
 
     -- the judging of a row beside others as the scan finds them
     abbrev judging : Row → List Row → Row
     judging r others = judged_beside q.plan m D r (all_tested q.plan m D others)
 
     -- a dead mast says nothing to another
-    same-judging : (r c : Row) (rs cs : List Row) → r ≡ c → Parted ◌≡◌ Dead rs cs → judging r rs ≡ judging c cs
+    same_judging : (r c : Row) (rs cs : List Row) → r ≡ c → Parted ◌≡◌ Dead rs cs → judging r rs ≡ judging c cs
     unfolding beside_others heard
-    same-judging r c rs cs e p = rw e (ap (λ (x : Heard). record { station = (tested (m + 1) (E q.plan m) D c).station; verdict = after_buddies (m + 1) (L q.plan) (D (tested (m + 1) (E q.plan m) D c).station) x (tested (m + 1) (E q.plan m) D c).verdict }) same-heard)
+    same_judging r c rs cs e p = rw e (ap (λ (x : Heard). record { station = (tested (m + 1) (E q.plan m) D c).station; verdict = after_buddies (m + 1) (L q.plan) (D (tested (m + 1) (E q.plan m) D c).station) x (tested (m + 1) (E q.plan m) D c).verdict }) same_heard)
       where
         s : Station
         s = (tested (m + 1) (E q.plan m) D c).station
@@ -146,43 +146,43 @@ module _ (q : Request) where
         silent : (r : Row) → Dead r → said r ≡ silence
         silent r e = rw (rejected_passes_test (m + 1) (E q.plan m) D r e) (unfold says in rw e)
 
-        same-heard : total silence both (says (B q.plan) D s) (all_tested q.plan m D rs) ≡ total silence both (says (B q.plan) D s) (all_tested q.plan m D cs)
-        same-heard =
-            total-map silence both (says (B q.plan) D s) (tested (m + 1) (E q.plan m) D) rs
-            ∙ total_parted silence both said said silence-both (λ a b e. ap said e) silent p
-            ∙ sym (total-map silence both (says (B q.plan) D s) (tested (m + 1) (E q.plan m) D) cs)
+        same_heard : total silence both (says (B q.plan) D s) (all_tested q.plan m D rs) ≡ total silence both (says (B q.plan) D s) (all_tested q.plan m D cs)
+        same_heard =
+            total_map silence both (says (B q.plan) D s) (tested (m + 1) (E q.plan m) D) rs
+            ∙ total_parted silence both said said silence_both (λ a b e. ap said e) silent p
+            ∙ sym (total_map silence both (says (B q.plan) D s) (tested (m + 1) (E q.plan m) D) cs)
 
     judged_rows : Parted ◌≡◌ Dead (rows_judged q m (after q m)) (rows_judged without_dead_masts m (after without_dead_masts m))
     unfolding rows_judged all_judged
     judged_rows =
-        rw (same-D, each_of_map (beside_others (m + 1) (B q.plan) (L q.plan) D) (tested (m + 1) (E q.plan m) D) (after q m).rows, each_of_map (beside_others (m + 1) (B q.plan) (L q.plan) D) (tested (m + 1) (E q.plan m) D) (after without_dead_masts m).rows)
-        (each_parted ◌≡◌ Dead judging judging same-judging (λ r rs e. ap (λ (o : Row). is_accepted o.verdict) (rejected_stays q.plan m D r (all_tested q.plan m D rs) e) ∙ e) h.rows)
+        rw (same_D, each_of_map (beside_others (m + 1) (B q.plan) (L q.plan) D) (tested (m + 1) (E q.plan m) D) (after q m).rows, each_of_map (beside_others (m + 1) (B q.plan) (L q.plan) D) (tested (m + 1) (E q.plan m) D) (after without_dead_masts m).rows)
+        (each_parted ◌≡◌ Dead judging judging same_judging (λ r rs e. ap (λ (o : Row). is_accepted o.verdict) (rejected_stays q.plan m D r (all_tested q.plan m D rs) e) ∙ e) h.rows)
 
-    same-sums-at : (i j : ℕ) → sums_at without_dead_masts m (after without_dead_masts m) i j ≡ sums_at q m (after q m) i j
+    same_sums_at : (i j : ℕ) → sums_at without_dead_masts m (after without_dead_masts m) i j ≡ sums_at q m (after q m) i j
     unfolding sums_at
-    same-sums-at i j =
-        ap (λ (F : Station → ℤ). sums q.plan.mode (R q.plan m) F (rows_judged without_dead_masts m (after without_dead_masts m)) i j) same-D
-        ∙ sym (total_parted nothing plus _ _ nothing-plus (λ r c e. ap (share q.plan.mode (R q.plan m) D i j) e)
-        (rejected_gives-nothing q.plan.mode (R q.plan m) D i j) judged_rows)
+    same_sums_at i j =
+        ap (λ (F : Station → ℤ). sums q.plan.mode (R q.plan m) F (rows_judged without_dead_masts m (after without_dead_masts m)) i j) same_D
+        ∙ sym (total_parted nothing plus _ _ nothing_plus (λ r c e. ap (share q.plan.mode (R q.plan m) D i j) e)
+        (rejected_gives_nothing q.plan.mode (R q.plan m) D i j) judged_rows)
 
-    same-sums : sums_at without_dead_masts m (after without_dead_masts m) ≡ sums_at q m (after q m)
-    same-sums = fun_ext (λ i. fun_ext (same-sums-at i))
+    same_sums : sums_at without_dead_masts m (after without_dead_masts m) ≡ sums_at q m (after q m)
+    same_sums = fun_ext (λ i. fun_ext (same_sums_at i))
 
     alike_next : Alike (suc m)
     unfolding after_within scan corrected
     alike_next =
         record {
-          field = ap (λ (z : Field ℤ). cond q.plan.smooth (smoothed q.nx q.ny z) z) same-corrected;
+          field = ap (λ (z : Field ℤ). cond q.plan.smooth (smoothed q.nx q.ny z) z) same_corrected;
           support =
-              ap (λ (f : Field Sums). λ i j. backed_by m (f i j) ((after without_dead_masts m).support i j)) same-sums
+              ap (λ (f : Field Sums). λ i j. backed_by m (f i j) ((after without_dead_masts m).support i j)) same_sums
               ∙ ap (λ (f : Field ℕ). λ i j. backed_by m (sums_at q m (after q m) i j) (f i j)) h.support;
           rows = judged_rows;
         }
       where
-        same-corrected : corrected without_dead_masts m (after without_dead_masts m) ≡ corrected q m (after q m)
-        same-corrected =
+        same_corrected : corrected without_dead_masts m (after without_dead_masts m) ≡ corrected q m (after q m)
+        same_corrected =
             unfold corrected in
-            (ap (λ (f : Field Sums). λ i j. (after without_dead_masts m).field i j +ℤ correction q.plan.rule (f i j)) same-sums
+            (ap (λ (f : Field Sums). λ i j. (after without_dead_masts m).field i j +ℤ correction q.plan.rule (f i j)) same_sums
             ∙ ap (λ (z : Field ℤ). λ i j. z i j +ℤ correction q.plan.rule (sums_at q m (after q m) i j)) h.field)
 
   alike : (m : ℕ) → Alike m

@@ -58,9 +58,9 @@ digit_ind P one more n = below n n (omega arith)
 -- ---- lengths
 
 -- a number below 10 ^ (k + 1) has at most k + 1 digits
-pub decimal-length : (k n : ℕ) → n < 10 ^ suc k → length (decimal n) ≤ suc k
-decimal-length zero n h = rw (decimal_one n h) (omega arith)
-decimal-length (suc k) n h = go (lt_or_le n 10) (decimal-length k (n / 10))
+pub decimal_length : (k n : ℕ) → n < 10 ^ suc k → length (decimal n) ≤ suc k
+decimal_length zero n h = rw (decimal_one n h) (omega arith)
+decimal_length (suc k) n h = go (lt_or_le n 10) (decimal_length k (n / 10))
   where
     go : (n < 10) ⊎ (10 ≤ n) → (n / 10 < 10 ^ suc k → length (decimal (n / 10)) ≤ suc k) → length (decimal n) ≤ suc (suc k)
     go (inl u) r = rw (decimal_one n u) (omega arith)
@@ -69,7 +69,7 @@ decimal-length (suc k) n h = go (lt_or_le n 10) (decimal-length k (n / 10))
         rw (decimal_more n u, length-append) (omega arith)
 
 -- and a sign at most before them
-pub integer-length : (k : ℕ) (z : ℤ) → nat_abs z < 10 ^ suc k → length (integer z) ≤ suc (suc k)
+pub integer_length : (k : ℕ) (z : ℤ) → nat_abs z < 10 ^ suc k → length (integer z) ≤ suc (suc k)
 unfolding integer
-integer-length k (pos n) h = omega (arith, decimal-length k n h)
-integer-length k (negsuc n) h = omega (arith, decimal-length k (suc n) h)
+integer_length k (pos n) h = omega (arith, decimal_length k n h)
+integer_length k (negsuc n) h = omega (arith, decimal_length k (suc n) h)

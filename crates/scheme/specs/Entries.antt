@@ -8,7 +8,7 @@ use borrow.Author.Tests.{le-ltb}
 use Rattle.std.proofs.Math.IntN.{nat_abs}
 use Rattle.lists.specs.Sums.{total, up_to, up_to_same}
 use Rattle.lists.specs.Parted.{each}
-use Rattle.lists.specs.First.{first, first-same}
+use Rattle.lists.specs.First.{first, first_same}
 use Rattle.scheme.specs.Units.{Field, stored, Buddies, Plan, R, E, B, L, Request, guess, asking}
 use Rattle.scheme.specs.Refusals.{bad_scans, rising, bad_scan, bad_buddies, Window, from_five}
 use Rattle.scheme.specs.Difference.{Row, tested}
@@ -34,21 +34,21 @@ pub record UpToCount (p p' : Plan) : Type 0 where
   pub limits : (m : ℕ) → m < p.scans → get_or p'.limit m (pos 0) ≡ get_or p.limit m (pos 0)
 
 module _ (q : Request) (p' : Plan) (same : UpToCount q.plan p') where
-  same-R : (m : ℕ) → m < q.plan.scans → R p' m ≡ R q.plan m
+  same_R : (m : ℕ) → m < q.plan.scans → R p' m ≡ R q.plan m
   unfolding R
-  same-R m h = ap nat_abs (same.radii m h)
+  same_R m h = ap nat_abs (same.radii m h)
 
-  same-E : (m : ℕ) → m < q.plan.scans → E p' m ≡ E q.plan m
+  same_E : (m : ℕ) → m < q.plan.scans → E p' m ≡ E q.plan m
   unfolding E
-  same-E m h = ap nat_abs (same.limits m h)
+  same_E m h = ap nat_abs (same.limits m h)
 
-  same-B : B p' ≡ B q.plan
+  same_B : B p' ≡ B q.plan
   unfolding B
-  same-B = ap (λ (c : Buddies). cond c.on (nat_abs c.radius) 0) same.buddies
+  same_B = ap (λ (c : Buddies). cond c.on (nat_abs c.radius) 0) same.buddies
 
-  same-L : L p' ≡ L q.plan
+  same_L : L p' ≡ L q.plan
   unfolding L
-  same-L = ap (λ (c : Buddies). nat_abs c.limit) same.buddies
+  same_L = ap (λ (c : Buddies). nat_abs c.limit) same.buddies
 
   -- a scan that is made: it takes R, E, the switch, the mode, the rule, B and L of the plan
   module _ (m : ℕ) (found : State) (radius limit : ℕ) (smooth : Bool) (mode rule near apart : ℕ) where
@@ -69,21 +69,21 @@ module _ (q : Request) (p' : Plan) (same : UpToCount q.plan p') where
           rows = rows_by;
         }
 
-  scan-same : (m : ℕ) → m < q.plan.scans → (found : State) → scan (with_plan q p') m found ≡ scan q m found
+  scan_same : (m : ℕ) → m < q.plan.scans → (found : State) → scan (with_plan q p') m found ≡ scan q m found
   unfolding scan corrected sums_at rows_judged all_judged guess
-  scan-same m h found =
-      ap (λ (r : ℕ). scan_by m found r (E p' m) p'.smooth p'.mode p'.rule (B p') (L p')) (same-R m h)
-      ∙ ap (λ (e : ℕ). scan_by m found (R q.plan m) e p'.smooth p'.mode p'.rule (B p') (L p')) (same-E m h)
+  scan_same m h found =
+      ap (λ (r : ℕ). scan_by m found r (E p' m) p'.smooth p'.mode p'.rule (B p') (L p')) (same_R m h)
+      ∙ ap (λ (e : ℕ). scan_by m found (R q.plan m) e p'.smooth p'.mode p'.rule (B p') (L p')) (same_E m h)
       ∙ ap (λ (b : Bool). scan_by m found (R q.plan m) (E q.plan m) b p'.mode p'.rule (B p') (L p')) same.smooth
       ∙ ap (λ (n : ℕ). scan_by m found (R q.plan m) (E q.plan m) q.plan.smooth n p'.rule (B p') (L p')) same.mode
       ∙ ap (λ (n : ℕ). scan_by m found (R q.plan m) (E q.plan m) q.plan.smooth q.plan.mode n (B p') (L p')) same.rule
-      ∙ ap (λ (n : ℕ). scan_by m found (R q.plan m) (E q.plan m) q.plan.smooth q.plan.mode q.plan.rule n (L p')) same-B
-      ∙ ap (scan_by m found (R q.plan m) (E q.plan m) q.plan.smooth q.plan.mode q.plan.rule (B q.plan)) same-L
+      ∙ ap (λ (n : ℕ). scan_by m found (R q.plan m) (E q.plan m) q.plan.smooth q.plan.mode q.plan.rule n (L p')) same_B
+      ∙ ap (scan_by m found (R q.plan m) (E q.plan m) q.plan.smooth q.plan.mode q.plan.rule (B q.plan)) same_L
 
   after_same : (m : ℕ) → m ≤ q.plan.scans → after (with_plan q p') m ≡ after q m
   unfolding after_within
   after_same zero h = unfold start guess in refl
-  after_same (suc m) h = scan-same m h (after (with_plan q p') m) ∙ ap (scan q m) (after_same m (omega arith))
+  after_same (suc m) h = scan_same m h (after (with_plan q p') m) ∙ ap (scan q m) (after_same m (omega arith))
 
   -- what an analysis stores of the last state
   abbrev stored_of : State → Analysis
@@ -107,20 +107,20 @@ module _ (q : Request) (p' : Plan) (same : UpToCount q.plan p') where
   unfolding reach steps
   entries_past_the_count_change_no_reach =
       ap (λ (n : ℕ). up_to 0 ◌+◌ n (steps p')) same.scans
-      ∙ up_to_same 0 ◌+◌ q.plan.scans (steps p') (steps q.plan) (λ m h. unfold steps in rw (same-R m h, same-B, same.smooth))
+      ∙ up_to_same 0 ◌+◌ q.plan.scans (steps p') (steps q.plan) (λ m h. unfold steps in rw (same_R m h, same_B, same.smooth))
 
   -- nor a refusal, where all columns are as long as the count
-  same-rising : (m : ℕ) → m < q.plan.scans → rising p' m ≡ rising q.plan m
+  same_rising : (m : ℕ) → m < q.plan.scans → rising p' m ≡ rising q.plan m
   unfolding rising
-  same-rising zero h = refl
-  same-rising (suc m) h = rw (same.radii m (omega arith), same.radii (suc m) h)
+  same_rising zero h = refl
+  same_rising (suc m) h = rw (same.radii m (omega arith), same.radii (suc m) h)
 
   same_bad : (m : ℕ) → m < q.plan.scans → bad_scan p' m ≡ bad_scan q.plan m
   unfolding bad_scan
-  same_bad m h = rw (same.radii m h, same.limits m h, same-rising m h)
+  same_bad m h = rw (same.radii m h, same.limits m h, same_rising m h)
 
   same_first : first p'.scans (bad_scan p') ≡ first q.plan.scans (bad_scan q.plan)
-  same_first = ap (λ (n : ℕ). first n (bad_scan p')) same.scans ∙ first-same q.plan.scans (bad_scan p') (bad_scan q.plan) same_bad
+  same_first = ap (λ (n : ℕ). first n (bad_scan p')) same.scans ∙ first_same q.plan.scans (bad_scan p') (bad_scan q.plan) same_bad
 
   same_check : bad_buddies p' ≡ bad_buddies q.plan
   unfolding bad_buddies

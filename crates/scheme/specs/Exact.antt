@@ -15,7 +15,7 @@ use Rattle.std.specs.Float.Ieee.Scale.{round_same}
 use Rattle.std.specs.Int.{w32}
 use Rattle.integers.specs.Parts as parts
 use Rattle.integers.specs.Sizes.{size_add, size_mul}
-use Rattle.integers.specs.Order.{most_parts, not-most_parts}
+use Rattle.integers.specs.Order.{most_parts, not_most_parts}
 use Rattle.integers.specs.Words.{size_fits}
 use Rattle.lists.specs.Tests.{cond_both, true_or_false}
 use Rattle.lists.specs.Members.{All, none, more, all_also}
@@ -139,13 +139,13 @@ shares_size most i j k l p q r s e hp hq hr hs =
 pub sum_size : (most nx ny x y : ℕ) (z : Field ℤ) → Within most z → 2 ≤ nx → 2 ≤ ny → x ≤ 64 * (nx - 1) → y ≤ 64 * (ny - 1)
     → nat_abs (sum_at nx ny z x y) ≤ most * 4096
 unfolding sum_at corners
-sum_size most nx ny x y z h two_columns two-rows on_x on_y =
+sum_size most nx ny x y z h two_columns two_rows on_x on_y =
     let m = cell nx x in
     let n = cell ny y in
     let a = x - 64 * m in
     let b = y - 64 * n in
     shares_size most ((64 - a) * (64 - b)) (a * (64 - b)) ((64 - a) * b) (a * b) (z m n) (z (m + 1) n) (z m (n + 1)) (z (m + 1) (n + 1))
-    (four_shares a b (64 - a) (64 - b) (omega (arith, cell_low nx x, cell_high nx x two_columns on_x)) (omega (arith, cell_low ny y, cell_high ny y two-rows on_y)))
+    (four_shares a b (64 - a) (64 - b) (omega (arith, cell_low nx x, cell_high nx x two_columns on_x)) (omega (arith, cell_low ny y, cell_high ny y two_rows on_y)))
     (h m n) (h (m + 1) n) (h m (n + 1)) (h (m + 1) (n + 1))
 
 -- ---- the point reading
@@ -176,15 +176,15 @@ module _ (nx ny : ℕ) (field : List ℤ) (x y : ℤ) (i32 : All (SFits w32) fie
   abbrev pub value : Float
   value = double (sum_at nx ny (field_of (pos 0) nx field) (place nx x) (place ny y)) 262144
 
-  module _ (two_columns : 2 ≤ nx) (two-rows : 2 ≤ ny) where
-    pub reading-sum_size : nat_abs sum ≤ 2 ^ 43
+  module _ (two_columns : 2 ≤ nx) (two_rows : 2 ≤ ny) where
+    pub reading_sum_size : nat_abs sum ≤ 2 ^ 43
     unfolding field_of
-    reading-sum_size =
-        sum_size (2 ^ 31) nx ny (place nx x) (place ny y) (field_of (pos 0) nx field) (λ i j. value_size i32 (j * nx + i)) two_columns two-rows
+    reading_sum_size =
+        sum_size (2 ^ 31) nx ny (place nx x) (place ny y) (field_of (pos 0) nx field) (λ i j. value_size i32 (j * nx + i)) two_columns two_rows
         (on-grid nx x) (on-grid ny y)
 
-    pub reading-value_exact : Exactly value sum 262144
-    reading-value_exact = exact sum 18 (omega (arith, reading-sum_size)) (omega arith)
+    pub reading_value_exact : Exactly value sum 262144
+    reading_value_exact = exact sum 18 (omega (arith, reading_sum_size)) (omega arith)
 
   pub reading_exact : (support : List ℕ) → ReadsExactly (reading nx ny field support x y) sum
   unfolding reading reading_refusal refused_with reading_in
@@ -201,7 +201,7 @@ module _ (nx ny : ℕ) (field : List ℤ) (x y : ℤ) (i32 : All (SFits w32) fie
       go false true shape = tt
       go false false shape =
           let s = shape refl in
-          on (on_grid nx ny x y) (is_backed nx ny (field_of 0 nx support) (place nx x) (place ny y)) (reading-value_exact s.two_columns s.two-rows)
+          on (on_grid nx ny x y) (is_backed nx ny (field_of 0 nx support) (place nx x) (place ny y)) (reading_value_exact s.two_columns s.two_rows)
 
 -- ---- the summary
 
@@ -226,13 +226,13 @@ lesser_is : (a b : ℤ) → AtMost (lesser a b) a × AtMost (lesser a b) b
 unfolding AtMost
 lesser_is a b =
     cond_both (λ (c : ℤ). AtMost c a × AtMost c b) (le_z a b) a b
-    (λ e. (omega arith, most_parts a b e)) (λ e. (omega (arith, not-most_parts a b e), omega arith))
+    (λ e. (omega arith, most_parts a b e)) (λ e. (omega (arith, not_most_parts a b e), omega arith))
 
 greater_is : (a b : ℤ) → AtMost a (greater a b) × AtMost b (greater a b)
 unfolding AtMost
 greater_is a b =
     cond_both (λ (c : ℤ). AtMost a c × AtMost b c) (le_z a b) b a
-    (λ e. (most_parts a b e, omega arith)) (λ e. (omega arith, omega (arith, not-most_parts a b e)))
+    (λ e. (most_parts a b e, omega arith)) (λ e. (omega arith, omega (arith, not_most_parts a b e)))
 
 -- both ends of a field are found alike: one value after the other, the better is kept
 module _ (better : ℤ → ℤ → ℤ) (best : ℤ → List ℤ → ℤ) (ended : (v : ℤ) → best v [] ≡ v)
@@ -266,7 +266,7 @@ tested a b h = go (true_or_false (le_z a b))
   where
     go : (le_z a b ≡ true) ⊎ (le_z a b ≡ false) → le_z a b ≡ true
     go (inl e) = e
-    go (inr e) = absurd (omega (arith, not-most_parts a b e))
+    go (inr e) = absurd (omega (arith, not_most_parts a b e))
 
 pub lowest_is_least : (v : ℤ) (rest : List ℤ) → All (λ w. le_z (lowest v rest) w ≡ true) (v ∷ rest)
 unfolding lowest
@@ -353,9 +353,9 @@ exact_zero x n k e (s, z) = zero_is_positive x (2 ^ k) (pow_pos k) (rw (none x n
         size : (a : ℕ) → m * up e * 2 ^ k ≡ a * down e → m * up e ≡ 0 → a ≡ 0
         size a p q = eq_of_mul-eq-mul_right (down e) (down_pos e) a 0 (sym p ∙ (rw q (zero-mul (2 ^ k))) ∙ sym (zero-mul (down e)))
 
-pub zero-reading_is_positive : (nx ny : ℕ) (field : List ℤ) (support : List ℕ) (x y : ℤ) → All (SFits w32) field
+pub zero_reading_is_positive : (nx ny : ℕ) (field : List ℤ) (support : List ℕ) (x y : ℤ) → All (SFits w32) field
     → IsZero (value_of (reading nx ny field support x y)) → value_of (reading nx ny field support x y) ≡ positive_zero
-zero-reading_is_positive nx ny field support x y i32 = go (reading nx ny field support x y) (reading_exact nx ny field x y i32 support)
+zero_reading_is_positive nx ny field support x y i32 = go (reading nx ny field support x y) (reading_exact nx ny field x y i32 support)
   where
     go : (r : Reading) → ReadsExactly r (sum nx ny field x y i32) → IsZero (value_of r) → value_of r ≡ positive_zero
     go OffGrid e z = unfold numbers_of in refl
@@ -364,27 +364,27 @@ zero-reading_is_positive nx ny field support x y i32 = go (reading nx ny field s
     go Refused e z = unfold numbers_of in refl
 
 pub record ZerosPositive (u : Units) : Type 0 where
-  pub lowest-zero : IsZero u.lowest → u.lowest ≡ positive_zero
-  pub highest-zero : IsZero u.highest → u.highest ≡ positive_zero
+  pub lowest_zero : IsZero u.lowest → u.lowest ≡ positive_zero
+  pub highest_zero : IsZero u.highest → u.highest ≡ positive_zero
   pub span_zero : IsZero u.span → u.span ≡ positive_zero
 
-pub zero-summary_is_positive : (nx ny : ℕ) (field : List ℤ) → All (SFits w32) field → ZerosPositive (summary nx ny field).units
+pub zero_summary_is_positive : (nx ny : ℕ) (field : List ℤ) → All (SFits w32) field → ZerosPositive (summary nx ny field).units
 unfolding summary
-zero-summary_is_positive nx ny field i32 = go (summary_refusal nx ny (length field)) i32
+zero_summary_is_positive nx ny field i32 = go (summary_refusal nx ny (length field)) i32
   where
-    all-zeros : ZerosPositive zeros
-    all-zeros = record { lowest-zero = λ z. refl; highest-zero = λ z. refl; span_zero = λ z. refl }
+    all_zeros : ZerosPositive zeros
+    all_zeros = record { lowest_zero = λ z. refl; highest_zero = λ z. refl; span_zero = λ z. refl }
 
     ends : {field : List ℤ} → All (SFits w32) field → ZerosPositive (units_of field)
-    ends none = unfold units_of in all-zeros
+    ends none = unfold units_of in all_zeros
     ends (more {a = v} {xs = rest} f r) =
         let e = units_exact v f r in
         record {
-          lowest-zero = exact_zero _ _ 6 e.lowest_exact;
-          highest-zero = exact_zero _ _ 6 e.highest_exact;
+          lowest_zero = exact_zero _ _ 6 e.lowest_exact;
+          highest_zero = exact_zero _ _ 6 e.highest_exact;
           span_zero = exact_zero _ _ 6 e.span_exact;
         }
 
     go : (f : Refusal) → All (SFits w32) field → ZerosPositive (unless_refused f (units_of field) zeros)
     go accepted i32 = ends i32
-    go (refused number place) i32 = all-zeros
+    go (refused number place) i32 = all_zeros

@@ -164,18 +164,18 @@ example_accepted = under_both Accepts ((refl, refl), (refl, refl), (refl, refl))
 abbrev Analysed : (rule : ℕ) → Type 0
 Analysed rule = (analysis (example rule 1 false) ≡ once rule) × (analysis (example rule 2 false) ≡ twice rule) × (analysis (example rule 2 true) ≡ smooth rule)
 
-pub example-analysis : (rule : ℕ) → Ruled rule → Analysed rule
+pub example_analysis : (rule : ℕ) → Ruled rule → Analysed rule
 unfolding analysis stored tab after_within scan start rows_judged all_judged each each_from beside_others heard says is_odd after_buddies B L sums_at corrected smoothed pattern_sum pattern_row inner up_to guess field_of R E before_scans first_that_fits is_missing out_of_service serves off_grid near_axis tested after_test difference value_at place sum_at cell corners rounded total share gift weight_at blows weight divisor correction backed_by
-example-analysis = under_both Analysed (refl, refl, refl) (refl, refl, refl)
+example_analysis = under_both Analysed (refl, refl, refl) (refl, refl, refl)
 
 abbrev Tiled : (rule : ℕ) → Type 0
 Tiled rule =
     (whole_at (example rule 1 false) corner ≡ corner_once) × (whole_at (example rule 2 false) corner ≡ corner_twice)
     × (whole_at (example rule 2 true) corner ≡ corner_smooth rule)
 
-pub example-window : (rule : ℕ) → Ruled rule → Tiled rule
+pub example_window : (rule : ℕ) → Ruled rule → Tiled rule
 unfolding whole_at window_of stored tab after_within scan start rows_judged all_judged each each_from beside_others heard says is_odd after_buddies B L sums_at corrected smoothed pattern_sum pattern_row inner up_to guess field_of R E before_scans first_that_fits is_missing out_of_service serves off_grid near_axis tested after_test difference value_at place sum_at cell corners rounded total share gift weight_at blows weight divisor correction backed_by
-example-window = under_both Tiled (refl, refl, refl) (refl, refl, refl)
+example_window = under_both Tiled (refl, refl, refl) (refl, refl, refl)
 
 abbrev Screened : (rule : ℕ) → Type 0
 Screened rule = (screen_refusal (call_for (example rule 1 false)) blocks 7 7 ≡ accepted) × (whole_at_each (example rule 1 false) (windows_of blocks) ≡ blocks_once rule)

@@ -9,7 +9,7 @@ use Rattle.scheme.specs.Weight.{weight, squares}
 use Rattle.scheme.specs.Difference.{Row}
 use Rattle.scheme.specs.Scan.{rows_judged, after}
 use Rattle.scheme.specs.Streaks.{wind_never_weakens}
-use Rattle.scheme.specs.Support.{bit, Weighs, supported_exactly_where_a-mast-weighs}
+use Rattle.scheme.specs.Support.{bit, Weighs, supported_exactly_where_a_mast_weighs}
 
 -- ---- the whole part of the weight over 100 is the weight in hundredths
 
@@ -34,8 +34,8 @@ weight_over_100_is_in_hundredths r2 d2 = finer 100 100 r2 d2 (omega arith)
 
 -- ---- so whatever had weight keeps it
 
-pub weighed_in_hundredths-weighs : (r2 d2 : ℕ) → 0 < hundredths r2 d2 → 0 < weight r2 d2
-weighed_in_hundredths-weighs r2 d2 h = omega (arith, weight_over_100_is_in_hundredths r2 d2)
+pub weighed_in_hundredths_weighs : (r2 d2 : ℕ) → 0 < hundredths r2 d2 → 0 < weight r2 d2
+weighed_in_hundredths_weighs r2 d2 h = omega (arith, weight_over_100_is_in_hundredths r2 d2)
 
 -- the row is accepted, and has a nonzero weight at point (i, j) in hundredths
 abbrev WeighsInHundredths : (radius i j : ℕ) → Row → Type 0
@@ -45,14 +45,14 @@ WeighsInHundredths radius i j r =
 pub supported_in_hundredths_is_supported : (q : Request) (m k i j : ℕ) → k < m
     → Some (WeighsInHundredths (R q.plan k) i j) (rows_judged q k (after q k)) → bit k ((after q m).support i j) ≡ true
 supported_in_hundredths_is_supported q m k i j h some =
-    (supported_exactly_where_a-mast-weighs q m k i j h).1
+    (supported_exactly_where_a_mast_weighs q m k i j h).1
     (some_also (WeighsInHundredths (R q.plan k) i j) (Weighs q.plan.mode (R q.plan k) i j) weighs_also some)
   where
     -- a wind takes nothing away
     weighs_also : (r : Row) → WeighsInHundredths (R q.plan k) i j r → Weighs q.plan.mode (R q.plan k) i j r
     weighs_also r w =
         let s = r.station in
-        (w.0, omega (arith, weighed_in_hundredths-weighs _ _ w.1, wind_never_weakens q.plan.mode (R q.plan k * R q.plan k) s.wind (s.x -ℤ pos (step * i)) (s.y -ℤ pos (step * j))))
+        (w.0, omega (arith, weighed_in_hundredths_weighs _ _ w.1, wind_never_weakens q.plan.mode (R q.plan k * R q.plan k) s.wind (s.x -ℤ pos (step * i)) (s.y -ℤ pos (step * j))))
 
 -- ---- the rim of a radius
 

@@ -12,7 +12,7 @@ use Rattle.scheme.specs.Units.{step, Wind, Station}
 use Rattle.scheme.specs.Verdicts.{is_accepted}
 use Rattle.scheme.specs.Difference.{Row}
 use Rattle.scheme.specs.Correction.{Sums, nothing, plus, gift, share}
-use Rattle.scheme.specs.Streaks.{no_weight_outside, weight-inside-alone}
+use Rattle.scheme.specs.Streaks.{no_weight_outside, weight_inside_alone}
 
 -- what a station of weight w and difference D gives, inside the radius or not
 abbrev pub weighed : Bool → ℕ → ℤ → Sums
@@ -41,14 +41,14 @@ pub modest_weighed : (limit : ℕ) (within : Bool) (w : ℕ) (D : ℤ) → w ≤
 modest_weighed limit within w D hw hd = record { weights_most = hw; pulls_most = omega (arith, size_mul (pos w) D, mul-le-mul_left w hd) }
 
 module _ (mode r2 : ℕ) (wind : Wind) (D dx dy : ℤ) where
-  pub gift-weighed : gift mode r2 wind D dx dy ≡ weighed (inside r2 dx dy) (weight_at mode r2 wind dx dy) D
+  pub gift_weighed : gift mode r2 wind D dx dy ≡ weighed (inside r2 dx dy) (weight_at mode r2 wind dx dy) D
   unfolding gift
-  gift-weighed = refl
+  gift_weighed = refl
 
   -- the gate alone
   pub gift_outside : r2 ≤ squares dx dy → gift mode r2 wind D dx dy ≡ nothing
   gift_outside h =
-      gift-weighed
+      gift_weighed
       ∙ ap (λ (b : Bool). weighed b (weight_at mode r2 wind dx dy) D) (le-ltb (squares dx dy) r2 h)
       ∙ ap (λ (w : ℕ). weighed false w D) (no_weight_outside mode r2 wind dx dy h)
       ∙ weighed_none D
@@ -56,7 +56,7 @@ module _ (mode r2 : ℕ) (wind : Wind) (D dx dy : ℤ) where
   -- of a difference of at most that size
   pub gift_modest : (limit : ℕ) → nat_abs D ≤ limit → Modest limit (gift mode r2 wind D dx dy)
   gift_modest limit h =
-      rw gift-weighed (modest_weighed limit (inside r2 dx dy) (weight_at mode r2 wind dx dy) D (weight-inside-alone mode r2 wind dx dy) h)
+      rw gift_weighed (modest_weighed limit (inside r2 dx dy) (weight_at mode r2 wind dx dy) D (weight_inside_alone mode r2 wind dx dy) h)
 
 -- what is as far off as a radius along one axis is not inside it
 pub outside : (radius : ℕ) (dx dy : ℤ) → (radius ≤ nat_abs dx) ⊎ (radius ≤ nat_abs dy) → inside (radius * radius) dx dy ≡ false
@@ -91,13 +91,13 @@ module _ (mode radius : ℕ) (D : Station → ℤ) (i j : ℕ) (r : Row) where
   pub accepted_weight : is_accepted r.verdict ≡ true → (share mode radius D i j r).weights ≡ weight_there mode radius i j r
   accepted_weight e = ap (λ (s : Sums). s.weights) (accepted_gives e)
 
-  pub rejected_gives-nothing : is_accepted r.verdict ≡ false → share mode radius D i j r ≡ nothing
+  pub rejected_gives_nothing : is_accepted r.verdict ≡ false → share mode radius D i j r ≡ nothing
   unfolding share
-  rejected_gives-nothing e = rw e
+  rejected_gives_nothing e = rw e
 
-  pub outside_gives-nothing : inside_there radius i j r ≡ false → share mode radius D i j r ≡ nothing
+  pub outside_gives_nothing : inside_there radius i j r ≡ false → share mode radius D i j r ≡ nothing
   unfolding share
-  outside_gives-nothing e =
+  outside_gives_nothing e =
       let s = r.station in
       cond_same (is_accepted r.verdict) _ nothing nothing
       (λ t. gift_outside mode (radius * radius) s.wind (D s) (s.x -ℤ pos (step * i)) (s.y -ℤ pos (step * j)) (ltb-false _ _ e)) (λ t. refl)

@@ -5,11 +5,11 @@ use Rattle.std.proofs.Math.Path.{refl, sym, ap}
 use mathlib.Core.List.{List, [], ◌∷◌}
 use Rattle.std.proofs.lemmas.Bool.{lt-leb}
 use Rattle.std.proofs.Math.ListN.{length-map, get_or, get_or-map, get_or-eq_default}
-use Rattle.lists.specs.Tests.{lt_or_le, true_or_false, not-both}
+use Rattle.lists.specs.Tests.{lt_or_le, true_or_false, not_both}
 use Rattle.lists.specs.Sums.{total}
 use Rattle.lists.specs.Members.{All, all_map}
 use Rattle.lists.specs.Parted.{each}
-use Rattle.lists.specs.Each.{without, length-each, each_at, all-each}
+use Rattle.lists.specs.Each.{without, length-each, each_at, all_each}
 use Rattle.scheme.specs.Units.{Station, Plan, E, B, L}
 use Rattle.scheme.specs.Verdicts.{is_accepted}
 use Rattle.scheme.specs.Difference.{Row, after_test, tested}
@@ -17,7 +17,7 @@ use Rattle.scheme.specs.Weight.{squares, inside}
 use Rattle.scheme.specs.Buddies.{Heard, silence, both, says, heard, is_odd, after_buddies, beside_others}
 use Rattle.scheme.specs.Scan.{all_tested, all_judged}
 use Rattle.scheme.specs.Accepted.{no_station}
-use Rattle.scheme.specs.Adding.{silence-both}
+use Rattle.scheme.specs.Adding.{silence_both}
 
 -- ---- an accepted row has passed the E test, and was accepted before it
 
@@ -27,7 +27,7 @@ passed scan limit D verdict = go (true_or_false (is_accepted verdict)) (true_or_
   where
     go : (is_accepted verdict ≡ true) ⊎ (is_accepted verdict ≡ false) → (ltb limit (nat_abs D) ≡ true) ⊎ (ltb limit (nat_abs D) ≡ false)
         → is_accepted (cond (is_accepted verdict) (cond (ltb limit (nat_abs D)) (10 + scan) 0) verdict) ≡ true → nat_abs D ≤ limit
-    go (inr v) t e = absurd (not-both (sym (rw (v) at e) ∙ v))
+    go (inr v) t e = absurd (not_both (sym (rw (v) at e) ∙ v))
     go (inl v) (inr t) e = ltb-false limit (nat_abs D) t
     go (inl v) (inl t) e = absurd (let n : 10 + scan ≡ 0 = eqb-true (10 + scan) 0 (rw (v, t) at e) in omega arith)
 
@@ -37,7 +37,7 @@ was_accepted scan limit D verdict e = go (true_or_false (is_accepted verdict))
   where
     go : (is_accepted verdict ≡ true) ⊎ (is_accepted verdict ≡ false) → is_accepted verdict ≡ true
     go (inl v) = v
-    go (inr v) = absurd (not-both (sym (rw v at e) ∙ v))
+    go (inr v) = absurd (not_both (sym (rw v at e) ∙ v))
 
 -- ---- and a survivor of the buddy check has survived the E test
 
@@ -47,7 +47,7 @@ was_survivor scan limit D h verdict e = go (true_or_false (is_accepted verdict))
   where
     go : (is_accepted verdict ≡ true) ⊎ (is_accepted verdict ≡ false) → is_accepted verdict ≡ true
     go (inl v) = v
-    go (inr v) = absurd (not-both (sym (rw v at e) ∙ v))
+    go (inr v) = absurd (not_both (sym (rw v at e) ∙ v))
 
 -- ---- a row that is not accepted stays as it is, whatever it is judged by and beside whom
 
@@ -68,8 +68,8 @@ heard_nobody D s [] = refl
 heard_nobody D s (o ∷ others) = go (is_accepted o.verdict) (inside 0 (o.station.x -ℤ s.x) (o.station.y -ℤ s.y)) (le-ltb (squares (o.station.x -ℤ s.x) (o.station.y -ℤ s.y)) 0 (omega arith)) (heard_nobody D s others)
   where
     go : (a near : Bool) → near ≡ false → heard 0 D s others ≡ silence → both (cond (a && near) (record { count = 1; sum = D o.station }) silence) (heard 0 D s others) ≡ silence
-    go false near e rest = silence-both (heard 0 D s others) ∙ rest
-    go true near e rest = rw e (silence-both (heard 0 D s others) ∙ rest)
+    go false near e rest = silence_both (heard 0 D s others) ∙ rest
+    go true near e rest = rw e (silence_both (heard 0 D s others) ∙ rest)
 
 -- nor is anyone with fewer than two neighbours
 pub few_neighbours_stay : (scan radius limit : ℕ) (D : Station → ℤ) (r : Row) (others : List Row) → (heard radius D r.station others).count < 2
@@ -113,10 +113,10 @@ module _ (p : Plan) (m : ℕ) (D : Station → ℤ) where
       go (inl h) =
           unfold all_judged in
           (each_at (beside_others (m + 1) (B p) (L p) D) no_row no_row (all_tested p m D rows) n (rw (length-map rows (tested (m + 1) (E p m) D)) h)
-          ∙ ap (λ (r : Row). beside_others (m + 1) (B p) (L p) D r (without n (all_tested p m D rows))) tested-row)
+          ∙ ap (λ (r : Row). beside_others (m + 1) (B p) (L p) D r (without n (all_tested p m D rows))) tested_row)
         where
-          tested-row : get_or (all_tested p m D rows) n no_row ≡ tested (m + 1) (E p m) D (get_or rows n no_row)
-          tested-row =
+          tested_row : get_or (all_tested p m D rows) n no_row ≡ tested (m + 1) (E p m) D (get_or rows n no_row)
+          tested_row =
               ap (get_or (all_tested p m D rows) n) (sym (rejected_passes_test (m + 1) (E p m) D no_row refl))
               ∙ get_or-map (tested (m + 1) (E p m) D) rows n no_row
       go (inr h) =
@@ -128,7 +128,7 @@ module _ (p : Plan) (m : ℕ) (D : Station → ℤ) where
   pub all-judged : (P Q : Row → Type 0) → ((r : Row) (survivors : List Row) → P r → Q (judged_beside r survivors)) → {rows : List Row} → All P rows → All Q (all_judged p m D rows)
   unfolding all_judged
   all-judged P Q so rows =
-      all-each (beside_others (m + 1) (B p) (L p) D) (λ t. (survivors : List Row) → Q (beside_others (m + 1) (B p) (L p) D t survivors)) Q (λ t survivors f. f survivors)
+      all_each (beside_others (m + 1) (B p) (L p) D) (λ t. (survivors : List Row) → Q (beside_others (m + 1) (B p) (L p) D t survivors)) Q (λ t survivors f. f survivors)
       (all_map P (λ t. (survivors : List Row) → Q (beside_others (m + 1) (B p) (L p) D t survivors)) (tested (m + 1) (E p m) D) (λ r h survivors. so r survivors h) rows)
 
   -- with the buddy check off the E test alone judges

@@ -80,7 +80,7 @@ module _ (S : Scheme) where
   pub record Run (nx ny : ℕ) (guess : Field S.Value) (stations : List S.Station) (t : States) : Type 0 where
     pub field_first : (i j : ℕ) → t.field 0 i j ≡ guess i j
     pub support_first : (i j : ℕ) → t.support 0 i j ≡ S.unmarked
-    pub rows-first : t.rows 0 ≡ map (S.begins nx ny) stations
+    pub rows_first : t.rows 0 ≡ map (S.begins nx ny) stations
     pub rows_next : (m : ℕ) → t.rows (suc m) ≡ each (S.judged m (S.difference nx ny guess (t.field m))) (t.rows m)
     pub sums_are : (m i j : ℕ)
         → t.sums m i j ≡ gathered S.pull m (S.difference nx ny guess (t.field m)) (pos (step * i)) (pos (step * j)) (t.rows (suc m))
@@ -89,14 +89,14 @@ module _ (S : Scheme) where
 
   -- a station whose place is on the part
   pub record Placed (a b : Axis) (s : S.Station) : Type 0 where
-    pub along-x : On a (place a.n (S.x s))
-    pub along-y : On b (place b.n (S.y s))
+    pub along_x : On a (place a.n (S.x s))
+    pub along_y : On b (place b.n (S.y s))
 
 -- ---- the laws
 
 -- nothing adds nothing, nothing is given from beyond the range, and only the offset counts of a position
 pub record Ranged (S : Scheme) (I : Influence S.Station S.Diff) : Type 0 where
-  pub nil-plus : (t : I.Sum) → I.plus I.nil t ≡ t
+  pub nil_plus : (t : I.Sum) → I.plus I.nil t ≡ t
   pub far : (m : ℕ) (s : S.Station) (d : S.Diff) (dx dy : ℤ) → (I.range m ≤ nat_abs dx) ⊎ (I.range m ≤ nat_abs dy)
       → I.give m s d dx dy ≡ I.nil
   pub give_counted : (a b : Axis) (m : ℕ) (s : S.Station) (d : S.Diff) (dx dy : ℤ)
@@ -106,11 +106,11 @@ pub record Laws (S : Scheme) : Type 0 where
   pub pull_ranged : Ranged S S.pull
   pub buddies_ranged : Ranged S S.buddies
   -- a part counts positions from its first points
-  pub counted-x : (a b : Axis) (s : S.Station) → S.x (S.counted a b s) ≡ from_first a (S.x s)
-  pub counted-y : (a b : Axis) (s : S.Station) → S.y (S.counted a b s) ≡ from_first b (S.y s)
+  pub counted_x : (a b : Axis) (s : S.Station) → S.x (S.counted a b s) ≡ from_first a (S.x s)
+  pub counted_y : (a b : Axis) (s : S.Station) → S.y (S.counted a b s) ≡ from_first b (S.y s)
   -- a row begins with its station; a kept one has there its first verdict
   pub begins_station : (nx ny : ℕ) (s : S.Station) → S.station (S.begins nx ny s) ≡ s
-  pub begins-counted : (a b : Axis) (s : S.Station) → S.keeps a b s ≡ true
+  pub begins_counted : (a b : Axis) (s : S.Station) → S.keeps a b s ≡ true
       → S.verdict (S.begins a.n b.n s) ≡ S.verdict (S.begins (len a) (len b) (S.counted a b s))
   -- an accepted station with its place on the part is kept
   pub placed_kept : (a b : Axis) (s : S.Station) → is_accepted (S.verdict (S.begins a.n b.n s)) ≡ true → Placed S a b s

@@ -11,14 +11,14 @@ use Rattle.scheme.specs.Stored.{length-stored}
 
 module _ (q : Request) where
   -- a scan leaves a row for each
-  scan-rows : (m : ℕ) (found : State) → length (scan q m found).rows ≡ length found.rows
+  scan_rows : (m : ℕ) (found : State) → length (scan q m found).rows ≡ length found.rows
   unfolding scan rows_judged
-  scan-rows m found = judged_length q.plan m (differences q found) found.rows
+  scan_rows m found = judged_length q.plan m (differences q found) found.rows
 
   pub rows_many : (m : ℕ) → length (after q m).rows ≡ length q.stations
   unfolding after_within start
   rows_many zero = length-map q.stations (begins most_beyond q.nx q.ny q.T q.A)
-  rows_many (suc m) = scan-rows m (after q m) ∙ rows_many m
+  rows_many (suc m) = scan_rows m (after q m) ∙ rows_many m
 
   pub grid_long : length (analysis q).grid ≡ q.nx * q.ny
   unfolding analysis

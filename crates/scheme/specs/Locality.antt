@@ -8,16 +8,16 @@ use Rattle.std.specs.Prelude.{◌≡◌, refl, ◌⊎◌, true, false, cond, len
 use Rattle.std.proofs.Math.Path.{sym}
 use mathlib.Core.List.{List, [], ◌∷◌, map}
 use Rattle.integers.specs.Ring.{pos_minus}
-use Rattle.lists.specs.Tests.{true_or_false, not-both}
+use Rattle.lists.specs.Tests.{true_or_false, not_both}
 use Rattle.lists.specs.Sums.{up_to}
 use Rattle.lists.specs.Keep.{keep}
-use Rattle.lists.specs.Parted.{rank, end, kept, gone, rank-map, map_each, each_parted, parted_at}
+use Rattle.lists.specs.Parted.{rank, end, kept, gone, rank_map, map_each, each_parted, parted_at}
 use Rattle.scheme.specs.Units.{Field, step}
 use Rattle.scheme.specs.Verdicts.{is_accepted}
 use Rattle.scheme.specs.Axes.{Axis, off, len, from_first}
 use Rattle.scheme.specs.Laws.{Scheme, States, Run, gathered, Placed, Laws}
 use Rattle.scheme.specs.Near.{Side, cut_along, Inside, Agree, inside_point, beside_point, point_spot, agree_less}
-use Rattle.scheme.specs.Gathered.{is_kept, in_cut, Near, near_more, Twin, Gone, Rows, rows_less, gathered-same}
+use Rattle.scheme.specs.Gathered.{is_kept, in_cut, Near, near_more, Twin, Gone, Rows, rows_less, gathered_same}
 use Rattle.scheme.specs.Borders.{smoothing_agrees}
 
 -- what agrees on the window, said of its points
@@ -38,7 +38,7 @@ pub record Runs (S : Scheme) (across down : Side) : Type 0 where
   pub law : Laws S
   pub guess : Field S.Value
   pub guess' : Field S.Value
-  pub same-guess : (i j : ℕ) → i < len (cut_along across) → j < len (cut_along down)
+  pub same_guess : (i j : ℕ) → i < len (cut_along across) → j < len (cut_along down)
       → guess (i + off (cut_along across)) (j + off (cut_along down)) ≡ guess' i j
   pub stations : List S.Station
   pub whole : States S
@@ -76,19 +76,19 @@ module _ (S : Scheme) (across down : Side) (both : Runs S across down) where
       record {
         kept = rw t e;
         same = law.begins_station (len a) (len b) (in_cut S across down s) ∙ ap (in_cut S across down) (sym t);
-        verdicts = λ n. law.begins-counted a b s e;
+        verdicts = λ n. law.begins_counted a b s e;
       }
 
   gone_row : (s : S.Station) → is_kept S across down s ≡ false → Gone S across down (whole_row s)
   gone_row s e =
       let t = law.begins_station across.n down.n s in
-      record { left = rw t e; away = λ v p. not-both (sym (law.placed_kept a b s v (rw t at p)) ∙ e) }
+      record { left = rw t e; away = λ v p. not_both (sym (law.placed_kept a b s v (rw t at p)) ∙ e) }
 
-  start-rows : (u : ℕ) (ss : List S.Station)
+  start_rows : (u : ℕ) (ss : List S.Station)
       → Rows S across down u (map whole_row ss) (map cut_row (map (in_cut S across down) (keep (is_kept S across down) ss)))
   unfolding keep
-  start-rows u [] = end
-  start-rows u (s ∷ ss) = go (true_or_false (is_kept S across down s)) (start-rows u ss)
+  start_rows u [] = end
+  start_rows u (s ∷ ss) = go (true_or_false (is_kept S across down s)) (start_rows u ss)
     where
       go : (is_kept S across down s ≡ true) ⊎ (is_kept S across down s ≡ false)
           → Rows S across down u (map whole_row ss) (map cut_row (map (in_cut S across down) (keep (is_kept S across down) ss)))
@@ -101,9 +101,9 @@ module _ (S : Scheme) (across down : Side) (both : Runs S across down) where
   unfolding Agree
   start_alike ρ =
       record {
-        fields = λ i j p r. both.whole_runs.field_first (i + off a) (j + off b) ∙ both.same-guess i j p.inside r.inside ∙ sym (both.part_runs.field_first i j);
+        fields = λ i j p r. both.whole_runs.field_first (i + off a) (j + off b) ∙ both.same_guess i j p.inside r.inside ∙ sym (both.part_runs.field_first i j);
         supports = λ i j p r. both.whole_runs.support_first (i + off a) (j + off b) ∙ sym (both.part_runs.support_first i j);
-        rows = rw (both.whole_runs.rows-first, both.part_runs.rows-first) (start-rows (step * ρ) both.stations);
+        rows = rw (both.whole_runs.rows_first, both.part_runs.rows_first) (start_rows (step * ρ) both.stations);
       }
 
   -- ---- scan number m + 1
@@ -115,13 +115,13 @@ module _ (S : Scheme) (across down : Side) (both : Runs S across down) where
   abbrev D' : ℕ → S.Station → S.Diff
   D' m = S.difference (len a) (len b) both.guess' (both.part.field m)
 
-  same-difference : (σ m : ℕ) → Agree across down σ (both.whole.field m) (both.part.field m) → (s : S.Station) → is_kept S across down s ≡ true
+  same_difference : (σ m : ℕ) → Agree across down σ (both.whole.field m) (both.part.field m) → (s : S.Station) → is_kept S across down s ≡ true
       → Near S across down (step * σ) s → D m s ≡ D' m (in_cut S across down s)
   unfolding Agree
-  same-difference σ m ag s e n =
+  same_difference σ m ag s e n =
       law.difference_local a b s e both.guess both.guess' (both.whole.field m) (both.part.field m)
-      (λ i j p r. both.same-guess i j p.inside r.inside)
-      (λ i j p r. ag i j (beside_point across σ _ i n.along-x p) (beside_point down σ _ j n.along-y r))
+      (λ i j p r. both.same_guess i j p.inside r.inside)
+      (λ i j p r. ag i j (beside_point across σ _ i n.along_x p) (beside_point down σ _ j n.along_y r))
 
   -- before smoothing, from σ steps to ρ
   module _ (m ρ σ : ℕ) (room : step * ρ + (S.pull.range m + S.buddies.range m) ≤ step * σ)
@@ -130,18 +130,18 @@ module _ (S : Scheme) (across down : Side) (both : Runs S across down) where
     abbrev told : ℕ
     told = step * ρ + S.pull.range m
 
-    same-D : (u : ℕ) → u ≤ step * σ → (s : S.Station) → is_kept S across down s ≡ true → Near S across down u s
+    same_D : (u : ℕ) → u ≤ step * σ → (s : S.Station) → is_kept S across down s ≡ true → Near S across down u s
         → D m s ≡ D' m (in_cut S across down s)
-    same-D u l s e n = same-difference σ m h.fields s e (near_more S across down u (step * σ) s l n)
+    same_D u l s e n = same_difference σ m h.fields s e (near_more S across down u (step * σ) s l n)
 
     -- what the others give to a station
-    heard-same : (s : S.Station) {rs cs : List S.Row} → Rows S across down (step * σ) rs cs → Near S across down told s
+    heard_same : (s : S.Station) {rs cs : List S.Row} → Rows S across down (step * σ) rs cs → Near S across down told s
         → gathered S S.buddies m (D m) (S.x s) (S.y s) rs
         ≡ gathered S S.buddies m (D' m) (S.x (in_cut S across down s)) (S.y (in_cut S across down s)) cs
-    heard-same s p n =
-        rw (law.counted-x a b s, law.counted-y a b s)
-        (gathered-same S across down law S.buddies law.buddies_ranged m (D m) (D' m) told (step * σ)
-        (omega arith) (omega arith) (omega arith) (same-D (step * σ) (omega arith)) (S.x s) (S.y s) n.along-x n.along-y p)
+    heard_same s p n =
+        rw (law.counted_x a b s, law.counted_y a b s)
+        (gathered_same S across down law S.buddies law.buddies_ranged m (D m) (D' m) told (step * σ)
+        (omega arith) (omega arith) (omega arith) (same_D (step * σ) (omega arith)) (S.x s) (S.y s) n.along_x n.along_y p)
 
     judged_twin : (r c : S.Row) (rs cs : List S.Row) → Twin S across down (step * σ) r c → Rows S across down (step * σ) rs cs
         → Twin S across down told (S.judged m (D m) r rs) (S.judged m (D' m) c cs)
@@ -158,8 +158,8 @@ module _ (S : Scheme) (across down : Side) (both : Runs S across down) where
             ≡ S.judge m (D' m (S.station c)) (gathered S S.buddies m (D' m) (S.x (S.station c)) (S.y (S.station c)) cs) (S.verdict c)
         one n =
             rw t.same (cc (
-              same-D told (omega arith) (S.station r) t.kept n,
-              heard-same (S.station r) p n,
+              same_D told (omega arith) (S.station r) t.kept n,
+              heard_same (S.station r) p n,
               t.verdicts (near_more S across down told (step * σ) (S.station r) (omega arith) n),
             ))
 
@@ -172,7 +172,7 @@ module _ (S : Scheme) (across down : Side) (both : Runs S across down) where
             → Placed S a b (S.station r) → ⊥
         go (inl v) e p = g.away v p
         go (inr v) e p =
-            not-both (sym e ∙ ap is_accepted (law.judged_verdict m (D m) r rs) ∙ law.rejected_stays m _ _ (S.verdict r) v)
+            not_both (sym e ∙ ap is_accepted (law.judged_verdict m (D m) r rs) ∙ law.rejected_stays m _ _ (S.verdict r) v)
 
     rows_same : Rows S across down told (both.whole.rows (suc m)) (both.part.rows (suc m))
     rows_same =
@@ -192,13 +192,13 @@ module _ (S : Scheme) (across down : Side) (both : Runs S across down) where
     unfolding Agree
     sums_same i j p r =
         both.whole_runs.sums_are m (i + off a) (j + off b)
-        ∙ gathered-same S across down law S.pull law.pull_ranged m (D m) (D' m) (step * ρ) told (omega arith) (omega arith) (omega arith)
-        (same-D told (omega arith)) (pos (step * (i + off a))) (pos (step * (j + off b))) (point_spot across ρ i p) (point_spot down ρ j r) rows_same
+        ∙ gathered_same S across down law S.pull law.pull_ranged m (D m) (D' m) (step * ρ) told (omega arith) (omega arith) (omega arith)
+        (same_D told (omega arith)) (pos (step * (i + off a))) (pos (step * (j + off b))) (point_spot across ρ i p) (point_spot down ρ j r) rows_same
         ∙ rw (point_counted across i, point_counted down j) (sym (both.part_runs.sums_are m i j))
 
-    corrected-same : Agree across down ρ (λ i j. S.correct m (both.whole.sums m i j) (both.whole.field m i j)) (λ i j. S.correct m (both.part.sums m i j) (both.part.field m i j))
+    corrected_same : Agree across down ρ (λ i j. S.correct m (both.whole.sums m i j) (both.whole.field m i j)) (λ i j. S.correct m (both.part.sums m i j) (both.part.field m i j))
     unfolding Agree
-    corrected-same i j p r =
+    corrected_same i j p r =
         cc (sums_same i j p r, agree_less across down ρ σ (both.whole.field m) (both.part.field m) (omega arith) h.fields i j p r)
 
   -- ---- a scan, smoothing included: `taken` steps are used up
@@ -222,7 +222,7 @@ module _ (S : Scheme) (across down : Side) (both : Runs S across down) where
             fields =
                 λ i j p r. both.whole_runs.field_next m (i + off a) (j + off b)
                 ∙ smoothing_agrees S law across down ρ _ _ (omega (arith, left_fits)) (omega (arith, left_fits))
-                (corrected-same m left (taken m + ρ) room on_x on_y h) i j p r
+                (corrected_same m left (taken m + ρ) room on_x on_y h) i j p r
                 ∙ sym (both.part_runs.field_next m i j);
             supports =
                 λ i j p r. both.whole_runs.support_next m (i + off a) (j + off b)
@@ -249,7 +249,7 @@ module _ (S : Scheme) (across down : Side) (both : Runs S across down) where
   stations_first (s ∷ ss) = cc (law.begins_station across.n down.n s, stations_first ss)
 
   pub stations_stay : (m : ℕ) → map S.station (both.whole.rows m) ≡ both.stations
-  stations_stay zero = rw both.whole_runs.rows-first (stations_first both.stations)
+  stations_stay zero = rw both.whole_runs.rows_first (stations_first both.stations)
   stations_stay (suc m) =
       rw (both.whole_runs.rows_next m) (map_each S.station (S.judged m (D m)) (λ r rs. law.judged_station m (D m) r rs) (both.whole.rows m)) ∙ stations_stay m
 
@@ -258,7 +258,7 @@ module _ (S : Scheme) (across down : Side) (both : Runs S across down) where
       → Twin S across down (step * ρ) (get_or (both.whole.rows m) k o) (get_or (both.part.rows m) (rank (is_kept S across down) both.stations k) o')
   twin_row m ρ h o o' k l e =
       let same : rank (λ r. is_kept S across down (S.station r)) (both.whole.rows m) k ≡ rank (is_kept S across down) both.stations k =
-      sym (rank-map (is_kept S across down) S.station (both.whole.rows m) k)
+      sym (rank_map (is_kept S across down) S.station (both.whole.rows m) k)
       ∙ ap (λ (ss : List S.Station). rank (is_kept S across down) ss k) (stations_stay m) in
       rw (← same)
       (parted_at (λ r. is_kept S across down (S.station r)) (λ r c t. t.kept) (λ r g. g.left) o o' h.rows k l e)

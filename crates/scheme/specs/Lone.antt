@@ -10,7 +10,7 @@ use mathlib.Core.List.{List, [], ◌∷◌, map}
 use Rattle.std.proofs.Math.ListN.{length}
 use Rattle.std.proofs.Math.IntN.{pos, neg_ℤ, zero-*ℤ}
 use Rattle.std.specs.Int.Signed.{le_z}
-use Rattle.lists.specs.Tests.{true_or_false, not-both, cond_same}
+use Rattle.lists.specs.Tests.{true_or_false, not_both, cond_same}
 use Rattle.lists.specs.Sums.{total}
 use Rattle.lists.specs.Members.{Some, here, later, some_also}
 use Rattle.lists.specs.Keep.{keep}
@@ -23,11 +23,11 @@ use Rattle.scheme.specs.Weight.{scale}
 use Rattle.scheme.specs.Correction.{Sums, nothing, plus, share, is_lone, divisor, correction, backed_by}
 use Rattle.scheme.specs.Smoothing.{smoothed}
 use Rattle.scheme.specs.Scan.{State, start, differences, all_judged, rows_judged, sums_at, corrected, scan, after_within, after, analysis}
-use Rattle.scheme.specs.Adding.{nothing-plus, plus-nothing}
-use Rattle.scheme.specs.Nearest.{rounded-turned, half_size}
+use Rattle.scheme.specs.Adding.{nothing_plus, plus_nothing}
+use Rattle.scheme.specs.Nearest.{rounded_turned, half_size}
 use Rattle.scheme.specs.Streaks.{weight_lies_in_the_scale}
-use Rattle.scheme.specs.Gifts.{weighed, sums, inside_there, weight_there, accepted_gives, rejected_gives-nothing, outside_gives-nothing}
-use Rattle.scheme.specs.Stored.{Same, stored_same, sum_same, smoothed-same}
+use Rattle.scheme.specs.Gifts.{weighed, sums, inside_there, weight_there, accepted_gives, rejected_gives_nothing, outside_gives_nothing}
+use Rattle.scheme.specs.Stored.{Same, stored_same, sum_same, smoothed_same}
 
 -- ---- the sums of a point, under either rule
 
@@ -49,9 +49,9 @@ rules_agree_unless_lone rule rule' s e = ap (λ (d : ℕ). cond (eqb s.weights 0
         go false = refl
 
 -- and not where its weight is the whole scale, as it is at the station itself
-pub rules_agree_at_the_whole-scale : (rule rule' : ℕ) (s : Sums) → s.weights ≡ scale → correction rule s ≡ correction rule' s
+pub rules_agree_at_the_whole_scale : (rule rule' : ℕ) (s : Sums) → s.weights ≡ scale → correction rule s ≡ correction rule' s
 unfolding correction
-rules_agree_at_the_whole-scale rule rule' s e = ap (λ (d : ℕ). cond (eqb s.weights 0) (pos 0) (rounded s.pulls d)) (by_scale rule ∙ sym (by_scale rule'))
+rules_agree_at_the_whole_scale rule rule' s e = ap (λ (d : ℕ). cond (eqb s.weights 0) (pos 0) (rounded s.pulls d)) (by_scale rule ∙ sym (by_scale rule'))
   where
     by_scale : (rule : ℕ) → divisor rule s ≡ scale
     by_scale rule = unfold divisor in cond_same (eqb rule listing_rule && is_lone s) scale s.weights scale (λ b. refl) (λ b. e)
@@ -82,7 +82,7 @@ lone_moves_by_all_of_D (suc w) D h = rw (ne_eqb (suc w) 0 (λ e. omega arith)) (
 
     go : (D : ℤ) → rounded (pos (suc w) *ℤ D) (suc w) ≡ D
     go (pos n) = unfold rounded in ap pos (whole n)
-    go (negsuc n) = rounded-turned (suc w * suc n) (suc w) (omega arith) ∙ ap (λ (t : ℕ). neg_ℤ (pos t)) (whole (suc n))
+    go (negsuc n) = rounded_turned (suc w * suc n) (suc w) (omega arith) ∙ ap (λ (t : ℕ). neg_ℤ (pos t)) (whole (suc n))
 
 module _ (w : ℕ) (within : w ≤ scale) where
   size : (n : ℕ) → half_up (w * n) scale ≤ n
@@ -92,12 +92,12 @@ module _ (w : ℕ) (within : w ≤ scale) where
   up_to n h l = (λ e. rw (le-leb 0 h (omega arith), le-leb h n l), λ e. (let none : n ≤ 0 = leb-true n 0 e in rw (le-leb n h (omega arith), le-leb h 0 (omega arith))))
 
   down_to : (n h : ℕ) → h ≤ suc n → Toward (negsuc n) (neg_ℤ (pos h))
-  down_to n zero l = (λ e. absurd (not-both (sym e)), λ e. refl)
-  down_to n (suc h) l = (λ e. absurd (not-both (sym e)), λ e. rw (le-leb h n (omega arith)))
+  down_to n zero l = (λ e. absurd (not_both (sym e)), λ e. refl)
+  down_to n (suc h) l = (λ e. absurd (not_both (sym e)), λ e. rw (le-leb h n (omega arith)))
 
   toward : (D : ℤ) → Toward D (rounded (pos w *ℤ D) scale)
   toward (pos n) = unfold rounded in up_to n (half_up (w * n) scale) (size n)
-  toward (negsuc n) = rw (rounded-turned (w * suc n) scale (omega arith)) (down_to n (half_up (w * suc n) scale) (size (suc n)))
+  toward (negsuc n) = rw (rounded_turned (w * suc n) scale (omega arith)) (down_to n (half_up (w * suc n) scale) (size (suc n)))
 
   -- so that under rule 2 a lone station never moves a point away from its reading, nor past it
   pub lone_moves_toward_D : (D : ℤ) → Toward D (correction listing_rule (weighed true w D))
@@ -123,8 +123,8 @@ module _ (mode radius : ℕ) (D : Station → ℤ) (i j : ℕ) where
     where
       go : (is_accepted r.verdict ≡ true) ⊎ (is_accepted r.verdict ≡ false) → (inside_there radius i j r ≡ true) ⊎ (inside_there radius i j r ≡ false)
           → ((heard r ≡ true) × (share mode radius D i j r ≡ gives r)) ⊎ ((heard r ≡ false) × (share mode radius D i j r ≡ nothing))
-      go (inr v) b = inr (rw v, rejected_gives-nothing mode radius D i j r v)
-      go (inl v) (inr b) = inr (rw (v, b), outside_gives-nothing mode radius D i j r b)
+      go (inr v) b = inr (rw v, rejected_gives_nothing mode radius D i j r v)
+      go (inl v) (inr b) = inr (rw (v, b), outside_gives_nothing mode radius D i j r b)
       go (inl v) (inl b) =
           inl (rw (v, b), accepted_gives mode radius D i j r v ∙ ap (λ (t : Bool). weighed t (weight_there mode radius i j r) (D r.station)) b)
 
@@ -151,25 +151,25 @@ module _ (mode radius : ℕ) (D : Station → ℤ) (i j : ℕ) where
       go (inl (h, s)) rest = absurd (let n = ap (λ (t : Sums). t.inside) s in omega arith)
       go (inr (h, s)) rest =
           let n = ap (λ (t : Sums). t.inside) s in
-          rw (s, rest (omega arith)) (nothing-plus nothing)
+          rw (s, rest (omega arith)) (nothing_plus nothing)
 
   -- exactly one is inside: it alone is what the point hears
-  pub lone_is_heard-alone : (rows : List Row) → (sums mode radius D rows i j).inside ≡ 1
+  pub lone_is_heard_alone : (rows : List Row) → (sums mode radius D rows i j).inside ≡ 1
       → Some (λ r. (is_heard radius i j r ≡ true) × (sums mode radius D rows i j ≡ weighed true (weight_there mode radius i j r) (D r.station))) rows
   unfolding total
-  lone_is_heard-alone [] e = absurd (omega arith)
-  lone_is_heard-alone (r ∷ rows) e = go (share_is r) (lone_is_heard-alone rows)
+  lone_is_heard_alone [] e = absurd (omega arith)
+  lone_is_heard_alone (r ∷ rows) e = go (share_is r) (lone_is_heard_alone rows)
     where
       go : ((heard r ≡ true) × (share mode radius D i j r ≡ gives r)) ⊎ ((heard r ≡ false) × (share mode radius D i j r ≡ nothing))
           → ((sums mode radius D rows i j).inside ≡ 1 → Some (λ o. (heard o ≡ true) × (sums mode radius D rows i j ≡ gives o)) rows)
           → Some (λ o. (heard o ≡ true) × (plus (share mode radius D i j r) (sums mode radius D rows i j) ≡ gives o)) (r ∷ rows)
       go (inl (h, s)) rest =
           let n = ap (λ (t : Sums). t.inside) s in
-          here {a = r} (h, rw (s, none_inside rows (omega arith)) (plus-nothing (gives r)))
+          here {a = r} (h, rw (s, none_inside rows (omega arith)) (plus_nothing (gives r)))
       go (inr (h, s)) rest =
           let n = ap (λ (t : Sums). t.inside) s in
           later (some_also _ (λ o. (heard o ≡ true) × (plus (share mode radius D i j r) (sums mode radius D rows i j) ≡ gives o))
-          (λ o k. (k.0, rw s (nothing-plus (sums mode radius D rows i j) ∙ k.1))) (rest (omega arith)))
+          (λ o k. (k.0, rw s (nothing_plus (sums mode radius D rows i j) ∙ k.1))) (rest (omega arith)))
 
 -- ---- a scan, from the same state
 
@@ -209,7 +209,7 @@ module _ (q : Request) (rule m : ℕ) (found : State) where
   lone_station_moves_alone i j e =
       some_also (λ r. (is_heard (R q.plan m) i j r ≡ true) × (sums_at q m found i j ≡ gives q.plan.mode (R q.plan m) (differences q found) i j r)) (MovesAlone i j)
       (λ r h. alone r h.0 h.1)
-      (unfold sums_at in lone_is_heard-alone q.plan.mode (R q.plan m) (differences q found) i j (rows_judged q m found) (eqb-true _ 1 e))
+      (unfold sums_at in lone_is_heard_alone q.plan.mode (R q.plan m) (differences q found) i j (rows_judged q m found) (eqb-true _ 1 e))
     where
       alone : (r : Row) → is_heard (R q.plan m) i j r ≡ true → sums_at q m found i j ≡ gives q.plan.mode (R q.plan m) (differences q found) i j r → MovesAlone i j r
       alone r h e =
@@ -259,35 +259,35 @@ module _ (q : Request) (rule : ℕ) (wide : 2 ≤ q.nx) (high : 2 ≤ q.ny)
 
   module _ (m : ℕ) (turn : m < q.plan.scans) (h : Alike m) where
     -- a value at a station is read from the grid
-    same-value : (s : Station) → value_at q.nx q.ny (after other m).field s ≡ value_at q.nx q.ny (after q m).field s
+    same_value : (s : Station) → value_at q.nx q.ny (after other m).field s ≡ value_at q.nx q.ny (after q m).field s
     unfolding value_at
-    same-value s = ap (λ (v : ℤ). rounded v 4096) (sum_same q.nx q.ny (after other m).field (after q m).field wide high h.field _ _)
+    same_value s = ap (λ (v : ℤ). rounded v 4096) (sum_same q.nx q.ny (after other m).field (after q m).field wide high h.field _ _)
 
-    same-D : differences other (after other m) ≡ differences q (after q m)
+    same_D : differences other (after other m) ≡ differences q (after q m)
     unfolding difference guess
-    same-D = fun_ext (λ s. ap (λ (v : ℤ). s.value -ℤ v) (go s (on_grid q.nx q.ny s.x s.y)))
+    same_D = fun_ext (λ s. ap (λ (v : ℤ). s.value -ℤ v) (go s (on_grid q.nx q.ny s.x s.y)))
       where
         go : (s : Station) (on : Bool) → value_at q.nx q.ny (cond on (after other m).field (guess q)) s ≡ value_at q.nx q.ny (cond on (after q m).field (guess q)) s
-        go s true = same-value s
+        go s true = same_value s
         go s false = refl
 
     same_rows : rows_judged other m (after other m) ≡ rows_judged q m (after q m)
     unfolding rows_judged all_judged E B L
     same_rows =
-        ap (λ (D : Station → ℤ). all_judged q.plan m D (after other m).rows) same-D
+        ap (λ (D : Station → ℤ). all_judged q.plan m D (after other m).rows) same_D
         ∙ ap (all_judged q.plan m (differences q (after q m))) h.rows
 
-    same-sums : sums_at other m (after other m) ≡ sums_at q m (after q m)
+    same_sums : sums_at other m (after other m) ≡ sums_at q m (after q m)
     unfolding sums_at R
-    same-sums =
+    same_sums =
         fun_ext (λ i. fun_ext (λ j.
-        ap (λ (D : Station → ℤ). sums q.plan.mode (R q.plan m) D (rows_judged other m (after other m)) i j) same-D
+        ap (λ (D : Station → ℤ). sums q.plan.mode (R q.plan m) D (rows_judged other m (after other m)) i j) same_D
         ∙ ap (λ (rows : List Row). sums q.plan.mode (R q.plan m) (differences q (after q m)) rows i j) same_rows))
 
-    same-corrected : Same q.nx q.ny (corrected other m (after other m)) (corrected q m (after q m))
+    same_corrected : Same q.nx q.ny (corrected other m (after other m)) (corrected q m (after q m))
     unfolding corrected
-    same-corrected i j hi hj =
-        ap (λ (f : Field Sums). (after other m).field i j +ℤ correction rule (f i j)) same-sums
+    same_corrected i j hi hj =
+        ap (λ (f : Field Sums). (after other m).field i j +ℤ correction rule (f i j)) same_sums
         ∙ ap (λ (c : ℤ). (after other m).field i j +ℤ c) (rules_agree_unless_lone rule q.plan.rule (sums_at q m (after q m) i j) (never m i j turn hi hj))
         ∙ ap (λ (z : ℤ). z +ℤ correction q.plan.rule (sums_at q m (after q m) i j)) (h.field i j hi hj)
 
@@ -297,15 +297,15 @@ module _ (q : Request) (rule : ℕ) (wide : 2 ≤ q.nx) (high : 2 ≤ q.ny)
         record {
           field = smoothed_too q.plan.smooth;
           support =
-              λ i j hi hj. ap (λ (f : Field Sums). backed_by m (f i j) ((after other m).support i j)) same-sums
+              λ i j hi hj. ap (λ (f : Field Sums). backed_by m (f i j) ((after other m).support i j)) same_sums
               ∙ ap (backed_by m (sums_at q m (after q m) i j)) (h.support i j hi hj);
           rows = same_rows;
         }
       where
         smoothed_too : (on : Bool) → Same q.nx q.ny (cond on (smoothed q.nx q.ny (corrected other m (after other m))) (corrected other m (after other m)))
             (cond on (smoothed q.nx q.ny (corrected q m (after q m))) (corrected q m (after q m)))
-        smoothed_too true = smoothed-same q.nx q.ny (corrected other m (after other m)) (corrected q m (after q m)) same-corrected
-        smoothed_too false = same-corrected
+        smoothed_too true = smoothed_same q.nx q.ny (corrected other m (after other m)) (corrected q m (after q m)) same_corrected
+        smoothed_too false = same_corrected
 
   alike : (m : ℕ) → m ≤ q.plan.scans → Alike m
   unfolding after_within start guess

@@ -6,7 +6,7 @@ use Rattle.scheme.specs.Value.{place}
 use Rattle.scheme.specs.Cells.{place_on}
 use Rattle.scheme.specs.Refusals.{Span}
 use Rattle.scheme.specs.Reach.{widened}
-use Rattle.scheme.specs.Axes.{Axis, off, len, gap, On, Beside, place-most, place-gap}
+use Rattle.scheme.specs.Axes.{Axis, off, len, gap, On, Beside, place_most, place_gap}
 
 -- along one axis of n points: the window, and the steps by which the cut is wider on both sides
 pub record Side : Type 0 where
@@ -19,9 +19,9 @@ pub record Side : Type 0 where
   pub some : 0 < wider
 
 -- the cut along it has at least two points, and lies on the grid
-pub cut-two : (w : Side) → (widened w.wider w.n w.window).first < (widened w.wider w.n w.window).last
+pub cut_two : (w : Side) → (widened w.wider w.n w.window).first < (widened w.wider w.n w.window).last
 unfolding widened
-cut-two w = omega (arith, w.two, w.ordered, w.inside, w.some)
+cut_two w = omega (arith, w.two, w.ordered, w.inside, w.some)
 
 pub cut_inside : (w : Side) → (widened w.wider w.n w.window).last < w.n
 unfolding widened
@@ -29,7 +29,7 @@ cut_inside w = omega (arith, w.two)
 
 abbrev pub cut_along : Side → Axis
 cut_along w =
-    record { n = w.n; span = widened w.wider w.n w.window; two = cut-two w; inside = cut_inside w }
+    record { n = w.n; span = widened w.wider w.n w.window; two = cut_two w; inside = cut_inside w }
 
 -- ---- along one axis
 
@@ -98,7 +98,7 @@ point_spot w ρ i p =
 
 -- a position nearer than r to one that is at most v off is at most v + r off
 pub near_spot : (w : Side) (v r : ℕ) (x c : ℤ) → Spot w v (place w.n c) → nat_abs (x -ℤ c) < r → Spot w (v + r) (place w.n x)
-near_spot w v r x c s h = go (place w.n x) (place w.n c) s.low s.high (place-gap w.n x c)
+near_spot w v r x c s h = go (place w.n x) (place w.n c) s.low s.high (place_gap w.n x c)
   where
     go : (p q : ℕ) → step * w.window.first ≤ q + v → q ≤ step * w.window.last + v → gap p q ≤ nat_abs (x -ℤ c) → Spot w (v + r) p
     go p q l k g = record { low = omega arith; high = omega arith }
@@ -106,7 +106,7 @@ near_spot w v r x c s h = go (place w.n x) (place w.n c) s.low s.high (place-gap
 -- what is at most `wider` steps off is on the cut
 pub spot_on : (w : Side) (u : ℕ) (x : ℤ) → u ≤ step * w.wider → Spot w u (place w.n x) → On (cut_along w) (place w.n x)
 unfolding widened
-spot_on w u x h s = go (place w.n x) (place-most w.n x) s.low s.high
+spot_on w u x h s = go (place w.n x) (place_most w.n x) s.low s.high
   where
     go : (p : ℕ) → p ≤ step * (w.n - 1) → step * w.window.first ≤ p + u → p ≤ step * w.window.last + u → On (cut_along w) p
     go p t l k = unfold widened in record { low = omega arith; high = omega arith }

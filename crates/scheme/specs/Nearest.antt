@@ -3,7 +3,7 @@ use Rattle.std.specs.Prelude.{ℕ, zero, suc, ◌+◌, ◌-◌, ◌*◌, ◌/◌
 use Rattle.std.proofs.Common.{arith, div-mul-le_self, mul-le-mul_right, div-lt_iff_lt-mul, sym, ap, ◌∙◌, inl, inr}
 use Rattle.std.proofs.Math.Nat.{div-eq_of_lt, lt-div-mul-add, div-zero}
 use Rattle.std.proofs.Math.IntN.{neg_ℤ-neg_ℤ}
-use Rattle.integers.specs.Parts.{up, dn, eq_parts, minus_parts, mul_parts, neg-up, neg-dn}
+use Rattle.integers.specs.Parts.{up, dn, eq_parts, minus_parts, mul_parts, neg_up, neg_dn}
 use Rattle.integers.specs.Sizes.{size_neg, size_gap}
 use Rattle.lists.specs.Tests.{lt_or_le}
 use Rattle.scheme.specs.Rounding.{half_up, rounded}
@@ -29,18 +29,18 @@ below : (n d : ℕ) → 0 < d → 2 * (half_up n d * d) ≤ 2 * n + d
 below n d h = omega (arith, div-mul-le_self (2 * n + d) (2 * d))
 
 -- how far, as naturals
-off-pos : (n d r : ℕ) → off (pos n) d (pos r) ≡ (n - r * d) + (r * d - n)
-off-pos n d r = size_gap (pos n -ℤ pos (r * d)) (r * d) n (omega (arith, minus_parts (pos n) (pos (r * d))))
+off_pos : (n d r : ℕ) → off (pos n) d (pos r) ≡ (n - r * d) + (r * d - n)
+off_pos n d r = size_gap (pos n -ℤ pos (r * d)) (r * d) n (omega (arith, minus_parts (pos n) (pos (r * d))))
 
-off-neg : (n d r : ℕ) → off (pos n) d (negsuc r) ≡ n + suc r * d
-off-neg n d r =
+off_neg : (n d r : ℕ) → off (pos n) d (negsuc r) ≡ n + suc r * d
+off_neg n d r =
     size_gap (pos n -ℤ negsuc r *ℤ pos d) 0 (n + suc r * d) (omega (arith, minus_parts (pos n) (negsuc r *ℤ pos d), mul_parts (negsuc r) (pos d)))
     ∙ omega arith
 
 -- a whole number past the nearest is farther by d, on either side
 module _ (n d h : ℕ) (some : 0 < d) (lo : 2 * (h * d) ≤ 2 * n + d) (hi : 2 * n < 2 * (h * d) + d) where
-  near-pos : (k : ℕ) → (n - h * d) + (h * d - n) ≤ (n - k * d) + (k * d - n)
-  near-pos k = go (lt_or_le k h) (lt_or_le h k)
+  near_pos : (k : ℕ) → (n - h * d) + (h * d - n) ≤ (n - k * d) + (k * d - n)
+  near_pos k = go (lt_or_le k h) (lt_or_le h k)
     where
       less : (a b : ℕ) → a < b → a * d + d ≤ b * d
       less a b l = omega (arith, mul-le-mul_right d l)
@@ -57,8 +57,8 @@ module _ (n d h : ℕ) (some : 0 < d) (lo : 2 * (h * d) ≤ 2 * n + d) (hi : 2 *
       go (inr q) = q
       go (inl q) = let m : h * d + d ≤ k * d = omega (arith, mul-le-mul_right d q) in absurd (omega arith)
 
-  near-neg : (k : ℕ) → (n - h * d) + (h * d - n) ≤ n + suc k * d
-  near-neg k = let m : d ≤ suc k * d = omega arith in omega arith
+  near_neg : (k : ℕ) → (n - h * d) + (h * d - n) ≤ n + suc k * d
+  near_neg k = let m : d ≤ suc k * d = omega arith in omega arith
 
   away_neg : (k : ℕ) → n + suc k * d ≡ (n - h * d) + (h * d - n) → suc k ≤ h
   away_neg k e = let m : d ≤ suc k * d = omega arith in absurd (omega arith)
@@ -67,20 +67,20 @@ nearest_pos : (n d : ℕ) → 0 < d → Nearest (pos n) d (pos (half_up n d))
 nearest_pos n d some = record { near = near; away = away }
   where
     near : (k : ℤ) → off (pos n) d (pos (half_up n d)) ≤ off (pos n) d k
-    near (pos k) = rw (off-pos n d (half_up n d), off-pos n d k) (near-pos n d (half_up n d) some (below n d some) (above n d some) k)
-    near (negsuc k) = rw (off-pos n d (half_up n d), off-neg n d k) (near-neg n d (half_up n d) some (below n d some) (above n d some) k)
+    near (pos k) = rw (off_pos n d (half_up n d), off_pos n d k) (near_pos n d (half_up n d) some (below n d some) (above n d some) k)
+    near (negsuc k) = rw (off_pos n d (half_up n d), off_neg n d k) (near_neg n d (half_up n d) some (below n d some) (above n d some) k)
 
     away : (k : ℤ) → off (pos n) d k ≡ off (pos n) d (pos (half_up n d)) → nat_abs k ≤ half_up n d
     away (pos k) e =
-        away_pos n d (half_up n d) some (below n d some) (above n d some) k (sym (off-pos n d k) ∙ e ∙ off-pos n d (half_up n d))
+        away_pos n d (half_up n d) some (below n d some) (above n d some) k (sym (off_pos n d k) ∙ e ∙ off_pos n d (half_up n d))
     away (negsuc k) e =
-        away_neg n d (half_up n d) some (below n d some) (above n d some) k (sym (off-neg n d k) ∙ e ∙ off-pos n d (half_up n d))
+        away_neg n d (half_up n d) some (below n d some) (above n d some) k (sym (off_neg n d k) ∙ e ∙ off_pos n d (half_up n d))
 
 -- no negative number is the nearest: 0 is nearer
 not_negative : (n d r : ℕ) → 0 < d → Nearest (pos n) d (negsuc r) → ⊥
 not_negative n d r some p =
     let e = p.near (pos 0) in
-    let l : n + suc r * d ≤ (n - 0 * d) + (0 * d - n) = rw (off-neg n d r, off-pos n d 0) at e in
+    let l : n + suc r * d ≤ (n - 0 * d) + (0 * d - n) = rw (off_neg n d r, off_pos n d 0) at e in
     let m : d ≤ suc r * d = omega arith in
     omega arith
 
@@ -96,8 +96,8 @@ one_pos n d (pos r) (negsuc s) some p q = absurd (not_negative n d s some q)
 
 -- ---- either sign: all is turned about zero
 
-off-turned : (n : ℤ) (d : ℕ) (k : ℤ) → off (neg_ℤ n) d k ≡ off n d (neg_ℤ k)
-off-turned n d k =
+off_turned : (n : ℤ) (d : ℕ) (k : ℤ) → off (neg_ℤ n) d k ≡ off n d (neg_ℤ k)
+off_turned n d k =
     ap nat_abs (eq_parts (neg_ℤ n -ℤ k *ℤ pos d) (neg_ℤ (n -ℤ neg_ℤ k *ℤ pos d)) same) ∙ size_neg (n -ℤ neg_ℤ k *ℤ pos d)
   where
     same : up (neg_ℤ n -ℤ k *ℤ pos d) + dn (neg_ℤ (n -ℤ neg_ℤ k *ℤ pos d)) ≡ up (neg_ℤ (n -ℤ neg_ℤ k *ℤ pos d)) + dn (neg_ℤ n -ℤ k *ℤ pos d)
@@ -106,27 +106,27 @@ off-turned n d k =
           arith,
           minus_parts (neg_ℤ n) (k *ℤ pos d),
           minus_parts n (neg_ℤ k *ℤ pos d),
-          neg-up n,
-          neg-dn n,
-          neg-up (n -ℤ neg_ℤ k *ℤ pos d),
-          neg-dn (n -ℤ neg_ℤ k *ℤ pos d),
+          neg_up n,
+          neg_dn n,
+          neg_up (n -ℤ neg_ℤ k *ℤ pos d),
+          neg_dn (n -ℤ neg_ℤ k *ℤ pos d),
           mul_parts k (pos d),
           mul_parts (neg_ℤ k) (pos d),
-          ap (λ (t : ℕ). t * d) (neg-up k),
-          ap (λ (t : ℕ). t * d) (neg-dn k),
+          ap (λ (t : ℕ). t * d) (neg_up k),
+          ap (λ (t : ℕ). t * d) (neg_dn k),
         )
 
 turned : (n : ℤ) (d : ℕ) (r : ℤ) → Nearest n d r → Nearest (neg_ℤ n) d (neg_ℤ r)
 turned n d r p = record { near = near; away = away }
   where
     back : off (neg_ℤ n) d (neg_ℤ r) ≡ off n d r
-    back = off-turned n d (neg_ℤ r) ∙ ap (off n d) (neg_ℤ-neg_ℤ r)
+    back = off_turned n d (neg_ℤ r) ∙ ap (off n d) (neg_ℤ-neg_ℤ r)
 
     near : (k : ℤ) → off (neg_ℤ n) d (neg_ℤ r) ≤ off (neg_ℤ n) d k
-    near k = rw (back, off-turned n d k) (p.near (neg_ℤ k))
+    near k = rw (back, off_turned n d k) (p.near (neg_ℤ k))
 
     away : (k : ℤ) → off (neg_ℤ n) d k ≡ off (neg_ℤ n) d (neg_ℤ r) → nat_abs k ≤ nat_abs (neg_ℤ r)
-    away k e = rw (size_neg r, ← (size_neg k)) (p.away (neg_ℤ k) (sym (off-turned n d k) ∙ e ∙ back))
+    away k e = rw (size_neg r, ← (size_neg k)) (p.away (neg_ℤ k) (sym (off_turned n d k) ∙ e ∙ back))
 
 -- ---- the theorem
 
@@ -143,10 +143,10 @@ nearest_is_one (negsuc n) d r s some p q =
     ∙ neg_ℤ-neg_ℤ s
 
 -- a quotient turned about zero
-pub rounded-turned : (n d : ℕ) → 0 < d → rounded (neg_ℤ (pos n)) d ≡ neg_ℤ (pos (half_up n d))
+pub rounded_turned : (n d : ℕ) → 0 < d → rounded (neg_ℤ (pos n)) d ≡ neg_ℤ (pos (half_up n d))
 unfolding rounded
-rounded-turned zero d some = let e : (2 * 0 + d) / (2 * d) ≡ 0 = div-eq_of_lt (omega arith) in rw e
-rounded-turned (suc n) d some = refl
+rounded_turned zero d some = let e : (2 * 0 + d) / (2 * d) ≡ 0 = div-eq_of_lt (omega arith) in rw e
+rounded_turned (suc n) d some = refl
 
 -- what is at most `most` times d is, over d and rounded, at most `most`
 pub half_size : (n d most : ℕ) → n ≤ most * d → half_up n d ≤ most

@@ -3,7 +3,7 @@ use Rattle.std.specs.Prelude.{ℕ, ◌/◌, ◌%◌, ◌≤◌, ◌<◌, ◌≡�
 use Rattle.std.proofs.Common.{arith, mul-le-mul}
 use Rattle.std.proofs.Math.Arith.{digits_div, digits_mod}
 use Rattle.lists.specs.Tab.{length-tab}
-use Rattle.lists.specs.First.{first, first_in, Search, all-good, bad-at, search, in_places}
+use Rattle.lists.specs.First.{first, first_in, Search, all_good, bad-at, search, in_places}
 use Rattle.scheme.specs.Units.{most_stations, most_scans, Request, Call, asked}
 use Rattle.scheme.specs.Refusals.{Refusal, number_of, place_of, as_one, in_order, refused_if, refused_with, refused_at, bad_shape, Window, bad_window, most_windows, Screen, window_on, windows_of, bad_screen, bad_columns, bad_scans, bad_buddies, bad_guess, bad_station, from_five, analysis_refusal, window_refusal, screen_refusal}
 use Rattle.scheme.specs.Accepted.{Shaped, shaped, equal, scans_fit, no_station, rows_of, equal_screen}
@@ -27,7 +27,7 @@ unfolding in_order refused_at
 small_at number n bad rest few h = go (search n bad)
   where
     go : Search n bad → Small (in_order (refused_at number (first n bad) ∷ rest))
-    go (all-good e g) = rw e h
+    go (all_good e g) = rw e h
     go (bad-at k e f) = rw e (omega (arith, f.inside))
 
 -- a test of each element of a list
@@ -77,11 +77,11 @@ screen_small c s grid support =
     small_in 2 (bad_window c.nx c.ny) (window_on s 0) (windows_of s) _ (omega (arith, length-tab (length s.left) (window_on s), (equal_screen s two).few))
     (small_if 3 _ _ (λ three. small_from_four c (shaped _ _ _ one)))))
 
-pub analysis_tells_refusal_and-place : (c : Call) (grid support verdict : ℕ) → Tells (analysis_refusal c grid support verdict)
-analysis_tells_refusal_and-place c grid support verdict = told (analysis_refusal c grid support verdict) (analysis_small c grid support verdict)
+pub analysis_tells_refusal_and_place : (c : Call) (grid support verdict : ℕ) → Tells (analysis_refusal c grid support verdict)
+analysis_tells_refusal_and_place c grid support verdict = told (analysis_refusal c grid support verdict) (analysis_small c grid support verdict)
 
-pub window_tells_refusal_and-place : (c : Call) (w : Window) (grid support : ℕ) → Tells (window_refusal c w grid support)
-window_tells_refusal_and-place c w grid support = told (window_refusal c w grid support) (window_small c w grid support)
+pub window_tells_refusal_and_place : (c : Call) (w : Window) (grid support : ℕ) → Tells (window_refusal c w grid support)
+window_tells_refusal_and_place c w grid support = told (window_refusal c w grid support) (window_small c w grid support)
 
-pub screen_tells_refusal_and-place : (c : Call) (s : Screen) (grid support : ℕ) → Tells (screen_refusal c s grid support)
-screen_tells_refusal_and-place c s grid support = told (screen_refusal c s grid support) (screen_small c s grid support)
+pub screen_tells_refusal_and_place : (c : Call) (s : Screen) (grid support : ℕ) → Tells (screen_refusal c s grid support)
+screen_tells_refusal_and_place c s grid support = told (screen_refusal c s grid support) (screen_small c s grid support)

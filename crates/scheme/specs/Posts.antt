@@ -5,7 +5,7 @@ use Rattle.std.proofs.Common.{arith, add-zero, ◌∙◌, inl, inr, leb-true, le
 use Rattle.std.specs.Prelude.{◌≡◌, refl, ◌⊎◌, false, List, map, ℤ, pos, negsuc, nat_abs, ◌-ℤ◌}
 use Rattle.std.proofs.Math.Path.{sym, ap}
 use Rattle.std.proofs.Math.Bool.{true, not}
-use Rattle.lists.specs.Tests.{true_or_false, not-both, and_true}
+use Rattle.lists.specs.Tests.{true_or_false, not_both, and_true}
 use Rattle.lists.specs.Members.{All, none, more}
 use Rattle.scheme.specs.Units.{step, Station, E, B, Request, guess}
 use Rattle.scheme.specs.Verdicts.{near_axis, near_grid, on_grid, off_grid, is_accepted, before_scans}
@@ -22,10 +22,10 @@ abbrev Beyond : Request → Station → Type 0
 Beyond q s = on_grid q.nx q.ny s.x s.y ≡ false
 
 -- whatever the scan finds, it is the observation less the first guess at the nearest place on the grid
-pub post_differs_from_first-guess : (q : Request) (found : State) (s : Station) → Beyond q s
+pub post_differs_from_first_guess : (q : Request) (found : State) (s : Station) → Beyond q s
     → differences q found s ≡ s.value -ℤ value_at q.nx q.ny (guess q) s
 unfolding difference
-post_differs_from_first-guess q found s off = rw off
+post_differs_from_first_guess q found s off = rw off
 
 -- ---- so a post that one scan accepts passes the E test of each later one, as long as its limit is no lower
 
@@ -40,7 +40,7 @@ module _ (q : Request) (m n : ℕ) (off : Beyond q (row_after q (suc m) n).stati
   -- it found its difference within the limit
   within_limit : nat_abs ((row_after q (suc m) n).station.value -ℤ value_at q.nx q.ny (guess q) (row_after q (suc m) n).station) ≤ E q.plan m
   within_limit =
-      rw (← (post_differs_from_first-guess q (after q m) (row_after q (suc m) n).station off)) (go (row_after q (suc m) n) (row_next q m n) e)
+      rw (← (post_differs_from_first_guess q (after q m) (row_after q (suc m) n).station off)) (go (row_after q (suc m) n) (row_next q m n) e)
     where
       go : (r : Row) → r ≡ judged_in q m n (row_after q m n) → is_accepted r.verdict ≡ true → nat_abs (differences q (after q m) r.station) ≤ E q.plan m
       go r same a =
@@ -56,7 +56,7 @@ module _ (q : Request) (m n : ℕ) (off : Beyond q (row_after q (suc m) n).stati
   post_passes_later_tests t limit a =
       let same = station_stays q (suc m) n t in
       within_stays (suc m + t + 1) (E q.plan (suc m + t)) (differences q (after q (suc m + t))) (row_after q (suc m + t) n) a
-      (rw (same, post_differs_from_first-guess q (after q (suc m + t)) (row_after q (suc m) n).station off) (omega (arith, within_limit)))
+      (rw (same, post_differs_from_first_guess q (after q (suc m + t)) (row_after q (suc m) n).station off) (omega (arith, within_limit)))
 
   -- so with the buddy check off it stays accepted
   pub post_stays_accepted : B q.plan ≡ 0 → (t : ℕ) → ((k : ℕ) → k < t → E q.plan m ≤ E q.plan (suc m + k)) → row_after q (suc m + t) n ≡ row_after q (suc m) n
@@ -90,7 +90,7 @@ module _ (nx ny b b' : ℕ) (h : b ≤ b') where
   off_less s e = go (true_or_false (near_grid b nx ny s.x s.y))
     where
       go : (near_grid b nx ny s.x s.y ≡ true) ⊎ (near_grid b nx ny s.x s.y ≡ false) → not (near_grid b nx ny s.x s.y) ≡ true
-      go (inl near) = absurd (not-both (sym e ∙ rw (grid_more s.x s.y near)))
+      go (inl near) = absurd (not_both (sym e ∙ rw (grid_more s.x s.y near)))
       go (inr far) = rw far
 
 -- a station that is on the grid, or off it by more than the most that is in question
@@ -98,13 +98,13 @@ abbrev NoPost : (most : ℕ) → Request → Station → Type 0
 NoPost most q s = (on_grid q.nx q.ny s.x s.y ≡ true) ⊎ (off_grid most q.nx q.ny s ≡ true)
 
 module _ (q : Request) (most b b' : ℕ) (h : b ≤ most) (h' : b' ≤ most) where
-  same-off : (s : Station) → NoPost most q s → off_grid b q.nx q.ny s ≡ off_grid b' q.nx q.ny s
-  same-off s (inl on) = unfold off_grid in rw (grid_more q.nx q.ny 0 b (omega arith) s.x s.y on, grid_more q.nx q.ny 0 b' (omega arith) s.x s.y on)
-  same-off s (inr off) = off_less q.nx q.ny b most h s off ∙ sym (off_less q.nx q.ny b' most h' s off)
+  same_off : (s : Station) → NoPost most q s → off_grid b q.nx q.ny s ≡ off_grid b' q.nx q.ny s
+  same_off s (inl on) = unfold off_grid in rw (grid_more q.nx q.ny 0 b (omega arith) s.x s.y on, grid_more q.nx q.ny 0 b' (omega arith) s.x s.y on)
+  same_off s (inr off) = off_less q.nx q.ny b most h s off ∙ sym (off_less q.nx q.ny b' most h' s off)
 
   same_first : (s : Station) → NoPost most q s → before_scans b q.nx q.ny q.T q.A s ≡ before_scans b' q.nx q.ny q.T q.A s
   unfolding before_scans
-  same_first s post = rw (same-off s post)
+  same_first s post = rw (same_off s post)
 
   same_rows : {ss : List Station} → All (NoPost most q) ss → map (begins b q.nx q.ny q.T q.A) ss ≡ map (begins b' q.nx q.ny q.T q.A) ss
   same_rows none = refl

@@ -95,7 +95,7 @@ pub record BuddiesInRange (b : Buddies) : Type 0 where
 pub record InRange (q : Request) : Type 0 where
   pub two_columns : 2 ≤ q.nx
   pub few_columns : q.nx ≤ 64
-  pub two-rows : 2 ≤ q.ny
+  pub two_rows : 2 ≤ q.ny
   pub few_rows : q.ny ≤ 64
   pub time : Unsigned q.T
   pub age : Unsigned q.A
@@ -156,20 +156,20 @@ unfoldable value : ℕ → List ℕ → ℕ
 value a [] = a
 value a (b ∷ bs) = value (10 * a + (b - 48)) bs
 
-value-last : (a : ℕ) (bs : List ℕ) (b : ℕ) → value a (bs ++ (b ∷ [])) ≡ 10 * value a bs + (b - 48)
+value_last : (a : ℕ) (bs : List ℕ) (b : ℕ) → value a (bs ++ (b ∷ [])) ≡ 10 * value a bs + (b - 48)
 unfolding value
-value-last a [] b = refl
-value-last a (x ∷ bs) b = value-last (10 * a + (x - 48)) bs b
+value_last a [] b = refl
+value_last a (x ∷ bs) b = value_last (10 * a + (x - 48)) bs b
 
-value-decimal : (n : ℕ) → value 0 (decimal n) ≡ n
+value_decimal : (n : ℕ) → value 0 (decimal n) ≡ n
 unfolding value
-value-decimal = digit_ind (λ n. value 0 (decimal n) ≡ n) one next
+value_decimal = digit_ind (λ n. value 0 (decimal n) ≡ n) one next
   where
     one : (n : ℕ) → n < 10 → value 0 (decimal n) ≡ n
     one n h = ap (value 0) (decimal_one n h) ∙ omega arith
 
     next : (n : ℕ) → 10 ≤ n → value 0 (decimal (n / 10)) ≡ n / 10 → value 0 (decimal n) ≡ n
-    next n h r = ap (value 0) (decimal_more n h) ∙ value-last 0 (decimal (n / 10)) (digit (n % 10)) ∙ omega arith
+    next n h r = ap (value 0) (decimal_more n h) ∙ value_last 0 (decimal (n / 10)) (digit (n % 10)) ∙ omega arith
 
 abbrev Digits : List ℕ → Type 0
 Digits bs = All (λ b. is_digit b ≡ true) bs
@@ -221,77 +221,77 @@ front = digit_ind Front one next
         }
 
 module _ (n : ℕ) (rest : List ℕ) (h : Stops rest) where
-  positive-decimal : 1 ≤ n → positive (decimal n ++ rest) ≡ reads n rest
+  positive_decimal : 1 ≤ n → positive (decimal n ++ rest) ≡ reads n rest
   unfolding positive value
-  positive-decimal k =
+  positive_decimal k =
       let f = front n in
       let z : f.first - 48 ≡ 10 * 0 + (f.first - 48) = omega arith in
-      let e : value (f.first - 48) f.later ≡ n = ap (λ (a : ℕ). value a f.later) z ∙ sym (ap (value 0) f.is) ∙ value-decimal n in
+      let e : value (f.first - 48) f.later ≡ n = ap (λ (a : ℕ). value a f.later) z ∙ sym (ap (value 0) f.is) ∙ value_decimal n in
       rw (f.is, le-leb 49 f.first (f.some k), le-leb f.first 57 f.high, positive)
       (digits_over (f.first - 48) rest f.all h ∙ ap (λ (a : ℕ). reads a rest) e)
 
   -- a word that begins with no digit does not stand there
-  not-word : (b : ℕ) (key : List ℕ) → 57 < b → word (b ∷ key) (decimal n ++ rest) ≡ fails tt
+  not_word : (b : ℕ) (key : List ℕ) → 57 < b → word (b ∷ key) (decimal n ++ rest) ≡ fails tt
   unfolding word
-  not-word b key k = let f = front n in rw (f.is, ne_eqb f.first b (λ e. omega (arith, f.high)), word)
+  not_word b key k = let f = front n in rw (f.is, ne_eqb f.first b (λ e. omega (arith, f.high)), word)
 
-natural-decimal : (n : ℕ) (rest : List ℕ) → Stops rest → natural (decimal n ++ rest) ≡ reads n rest
+natural_decimal : (n : ℕ) (rest : List ℕ) → Stops rest → natural (decimal n ++ rest) ≡ reads n rest
 unfolding natural word
-natural-decimal zero rest h = rw (decimal_one 0 (omega arith))
-natural-decimal (suc n) rest h =
+natural_decimal zero rest h = rw (decimal_one 0 (omega arith))
+natural_decimal (suc n) rest h =
     let f = front (suc n) in
     let w : word (48 ∷ []) (decimal (suc n) ++ rest) ≡ fails tt = rw (f.is, ne_eqb f.first 48 (λ e. omega (arith, f.some (omega arith))), word) in
-    rw (w, ◌or◌) (positive-decimal (suc n) rest h (omega arith))
+    rw (w, ◌or◌) (positive_decimal (suc n) rest h (omega arith))
 
 pub between_reads : (low high n : ℕ) (rest : List ℕ) → low ≤ n → n ≤ high → between low high n rest ≡ reads n rest
 unfolding between
 between_reads low high n rest l h = rw (le-leb low n l, le-leb n high h, between)
 
-count-decimal : (low high n : ℕ) (rest : List ℕ) → low ≤ n → n ≤ high → Stops rest → count low high (decimal n ++ rest) ≡ reads n rest
+count_decimal : (low high n : ℕ) (rest : List ℕ) → low ≤ n → n ≤ high → Stops rest → count low high (decimal n ++ rest) ≡ reads n rest
 unfolding count
-count-decimal low high n rest l h s = rw (natural-decimal n rest s) (between_reads low high n rest l h)
+count_decimal low high n rest l h s = rw (natural_decimal n rest s) (between_reads low high n rest l h)
 
-negative-decimal : (n : ℕ) (rest : List ℕ) → n < 2 ^ 31 → Stops rest → negative (decimal (suc n) ++ rest) ≡ reads (negsuc n) rest
+negative_decimal : (n : ℕ) (rest : List ℕ) → n < 2 ^ 31 → Stops rest → negative (decimal (suc n) ++ rest) ≡ reads (negsuc n) rest
 unfolding negative
-negative-decimal n rest h s = rw (positive-decimal (suc n) rest s (omega arith), between_reads 0 (2 ^ 31) (suc n) rest (omega arith) h)
+negative_decimal n rest h s = rw (positive_decimal (suc n) rest s (omega arith), between_reads 0 (2 ^ 31) (suc n) rest (omega arith) h)
 
 signed_minus : (bs : List ℕ) → signed (45 ∷ bs) ≡ negative bs
 unfolding signed count between natural positive word
 signed_minus bs = refl
 
-signed-integer : (z : ℤ) (rest : List ℕ) → Signed z → Stops rest → signed (integer z ++ rest) ≡ reads z rest
+signed_integer : (z : ℤ) (rest : List ℕ) → Signed z → Stops rest → signed (integer z ++ rest) ≡ reads z rest
 unfolding signed integer
-signed-integer (pos n) rest h s = rw (count-decimal 0 (2 ^ 31 - 1) n rest (omega arith) (omega arith) s, ◌or◌)
-signed-integer (negsuc n) rest h s = signed_minus (decimal (suc n) ++ rest) ∙ negative-decimal n rest h s
+signed_integer (pos n) rest h s = rw (count_decimal 0 (2 ^ 31 - 1) n rest (omega arith) (omega arith) s, ◌or◌)
+signed_integer (negsuc n) rest h s = signed_minus (decimal (suc n) ++ rest) ∙ negative_decimal n rest h s
 
 -- `M` and `open` do not stand where digits do
-observation-integer : (z : ℤ) (rest : List ℕ) → Signed z → Stops rest → observation (integer z ++ rest) ≡ reads z rest
+observation_integer : (z : ℤ) (rest : List ℕ) → Signed z → Stops rest → observation (integer z ++ rest) ≡ reads z rest
 unfolding observation integer word
-observation-integer (pos n) rest h s = rw (not-word n rest s 77 [] (omega arith), ◌or◌) (signed-integer (pos n) rest h s)
-observation-integer (negsuc n) rest h s = signed-integer (negsuc n) rest h s
+observation_integer (pos n) rest h s = rw (not_word n rest s 77 [] (omega arith), ◌or◌) (signed_integer (pos n) rest h s)
+observation_integer (negsuc n) rest h s = signed_integer (negsuc n) rest h s
 
-end-decimal : (n : ℕ) (rest : List ℕ) → Unsigned n → Stops rest → end (decimal n ++ rest) ≡ reads n rest
+end_decimal : (n : ℕ) (rest : List ℕ) → Unsigned n → Stops rest → end (decimal n ++ rest) ≡ reads n rest
 unfolding end unsigned
-end-decimal n rest h s = rw (not-word n rest s 111 (112 ∷ 101 ∷ 110 ∷ []) (omega arith), ◌or◌) (count-decimal 0 (2 ^ 32 - 1) n rest (omega arith) h s)
+end_decimal n rest h s = rw (not_word n rest s 111 (112 ∷ 101 ∷ 110 ∷ []) (omega arith), ◌or◌) (count_decimal 0 (2 ^ 32 - 1) n rest (omega arith) h s)
 
 -- ---- lines read back
 
 -- a line that says one number
-number-keyed : (key : List ℕ) (low high n : ℕ) (rest : List ℕ) → ((bs : List ℕ) → word key (key ++ bs) ≡ reads tt bs) → low ≤ n → n ≤ high
+number_keyed : (key : List ℕ) (low high n : ℕ) (rest : List ℕ) → ((bs : List ℕ) → word key (key ++ bs) ≡ reads tt bs) → low ≤ n → n ≤ high
     → number key (count low high) (keyed key decimal (n ∷ []) ++ rest) ≡ reads n rest
 unfolding number keyed cells word
-number-keyed key low high n rest w l h =
-    rw (append_assoc key (decimal n ++ (10 ∷ [])) rest, append_assoc (decimal n) (10 ∷ []) rest, w (decimal n ++ (10 ∷ rest)), count-decimal low high n (10 ∷ rest) l h refl)
+number_keyed key low high n rest w l h =
+    rw (append_assoc key (decimal n ++ (10 ∷ [])) rest, append_assoc (decimal n) (10 ∷ []) rest, w (decimal n ++ (10 ∷ rest)), count_decimal low high n (10 ∷ rest) l h refl)
 
-grid-keyed : (nx ny : ℕ) (rest : List ℕ) → 2 ≤ nx → nx ≤ 64 → 2 ≤ ny → ny ≤ 64
+grid_keyed : (nx ny : ℕ) (rest : List ℕ) → 2 ≤ nx → nx ≤ 64 → 2 ≤ ny → ny ≤ 64
     → grid_line (keyed (ascii "grid=") decimal (nx ∷ ny ∷ []) ++ rest) ≡ reads (record { nx = nx; ny = ny }) rest
 unfolding grid_line keyed cells word
-grid-keyed nx ny rest a b c d =
+grid_keyed nx ny rest a b c d =
     rw (
       append_assoc (decimal nx) (44 ∷ (decimal ny ++ (10 ∷ []))) rest,
       append_assoc (decimal ny) (10 ∷ []) rest,
-      count-decimal 2 64 nx (44 ∷ (decimal ny ++ (10 ∷ rest))) a b refl,
-      count-decimal 2 64 ny (10 ∷ rest) c d refl,
+      count_decimal 2 64 nx (44 ∷ (decimal ny ++ (10 ∷ rest))) a b refl,
+      count_decimal 2 64 ny (10 ∷ rest) c d refl,
     )
 
 entry_keyed : (key : List ℕ) (t : Entry) (rest : List ℕ) → ((bs : List ℕ) → word key (key ++ bs) ≡ reads tt bs) → EntryInRange t
@@ -303,13 +303,13 @@ entry_keyed key t rest w r =
       append_assoc (integer t.radius) (44 ∷ (integer t.limit ++ (10 ∷ []))) rest,
       append_assoc (integer t.limit) (10 ∷ []) rest,
       w (integer t.radius ++ (44 ∷ (integer t.limit ++ (10 ∷ rest)))),
-      signed-integer t.radius (44 ∷ (integer t.limit ++ (10 ∷ rest))) r.radius refl,
-      signed-integer t.limit (10 ∷ rest) r.limit refl,
+      signed_integer t.radius (44 ∷ (integer t.limit ++ (10 ∷ rest))) r.radius refl,
+      signed_integer t.limit (10 ∷ rest) r.limit refl,
     )
 
-scan-keyed : (t : Entry) (rest : List ℕ) → EntryInRange t → scan_line (entry_text t ++ rest) ≡ reads t rest
+scan_keyed : (t : Entry) (rest : List ℕ) → EntryInRange t → scan_line (entry_text t ++ rest) ≡ reads t rest
 unfolding word
-scan-keyed t rest r = entry_keyed (ascii "scan=") t rest (λ bs. refl) r
+scan_keyed t rest r = entry_keyed (ascii "scan=") t rest (λ bs. refl) r
 
 -- six numbers, each before its mark
 station_keyed : (s : Station) (rest : List ℕ) → StationInRange s → station_line (station_text s ++ rest) ≡ reads s rest
@@ -317,17 +317,17 @@ unfolding station_line unsigned word
 station_keyed s rest r =
     let after_from : List ℕ = 44 ∷ (decimal s.until ++ (10 ∷ rest)) in
     let after_observed : List ℕ = 44 ∷ (decimal s.from ++ after_from) in
-    let after-value : List ℕ = 44 ∷ (decimal s.observed ++ after_observed) in
-    let after-y : List ℕ = 44 ∷ (integer s.value ++ after-value) in
-    let after-x : List ℕ = 44 ∷ (integer s.y ++ after-y) in
+    let after_value : List ℕ = 44 ∷ (decimal s.observed ++ after_observed) in
+    let after_y : List ℕ = 44 ∷ (integer s.value ++ after_value) in
+    let after_x : List ℕ = 44 ∷ (integer s.y ++ after_y) in
     simp append_assoc
     (rw (
-      signed-integer s.x after-x r.x refl,
-      signed-integer s.y after-y r.y refl,
-      observation-integer s.value after-value r.value refl,
-      count-decimal 0 (2 ^ 32 - 1) s.observed after_observed (omega arith) r.observed refl,
-      count-decimal 0 (2 ^ 32 - 1) s.from after_from (omega arith) r.from refl,
-      end-decimal s.until (10 ∷ rest) r.until refl,
+      signed_integer s.x after_x r.x refl,
+      signed_integer s.y after_y r.y refl,
+      observation_integer s.value after_value r.value refl,
+      count_decimal 0 (2 ^ 32 - 1) s.observed after_observed (omega arith) r.observed refl,
+      count_decimal 0 (2 ^ 32 - 1) s.from after_from (omega arith) r.from refl,
+      end_decimal s.until (10 ∷ rest) r.until refl,
       r.wind,
     ))
 
@@ -341,30 +341,30 @@ lines_read P f shown h (more {a = a} {xs = l} p r) k rest =
     rw (append_assoc (shown a) (lines_text shown l) rest, h a (lines_text shown l ++ rest) p, line, lines_read P f shown h r (suc k) rest, e)
 
 -- the rows of a grid
-mark-after : (n : ℕ) (bs : List ℕ) → word (mark n ∷ []) (mark n ∷ bs) ≡ reads tt bs
+mark_after : (n : ℕ) (bs : List ℕ) → word (mark n ∷ []) (mark n ∷ bs) ≡ reads tt bs
 unfolding word
-mark-after zero bs = refl
-mark-after (suc n) bs = refl
+mark_after zero bs = refl
+mark_after (suc n) bs = refl
 
 mark_stops : (n : ℕ) (bs : List ℕ) → Stops (mark n ∷ bs)
 mark_stops zero bs = refl
 mark_stops (suc n) bs = refl
 
-values-cells : {zs : List ℤ} → All Signed zs → (rest : List ℕ) → values (length zs) (cells integer zs ++ rest) ≡ reads zs rest
+values_cells : {zs : List ℤ} → All Signed zs → (rest : List ℕ) → values (length zs) (cells integer zs ++ rest) ≡ reads zs rest
 unfolding values cells
-values-cells none rest = refl
-values-cells (more {a = z} {xs = zs} h r) rest =
+values_cells none rest = refl
+values_cells (more {a = z} {xs = zs} h r) rest =
     rw (
       append_assoc (integer z) (mark (length zs) ∷ cells integer zs) rest,
-      signed-integer z (mark (length zs) ∷ (cells integer zs ++ rest)) h (mark_stops (length zs) (cells integer zs ++ rest)),
-      mark-after (length zs) (cells integer zs ++ rest),
-      values-cells r rest,
+      signed_integer z (mark (length zs) ∷ (cells integer zs ++ rest)) h (mark_stops (length zs) (cells integer zs ++ rest)),
+      mark_after (length zs) (cells integer zs ++ rest),
+      values_cells r rest,
     )
 
-row-keyed : (n : ℕ) {zs : List ℤ} → All Signed zs → length zs ≡ suc n → (rest : List ℕ) → row_line (suc n) (keyed (ascii "row=") integer zs ++ rest) ≡ reads zs rest
+row_keyed : (n : ℕ) {zs : List ℤ} → All Signed zs → length zs ≡ suc n → (rest : List ℕ) → row_line (suc n) (keyed (ascii "row=") integer zs ++ rest) ≡ reads zs rest
 unfolding row_line keyed word
-row-keyed n none e rest = absurd (omega arith)
-row-keyed n (more {a = z} {xs = zs} h r) e rest = ap (λ (k : ℕ). values k (cells integer (z ∷ zs) ++ rest)) (sym e) ∙ values-cells (more {a = z} {xs = zs} h r) rest
+row_keyed n none e rest = absurd (omega arith)
+row_keyed n (more {a = z} {xs = zs} h r) e rest = ap (λ (k : ℕ). values k (cells integer (z ∷ zs) ++ rest)) (sym e) ∙ values_cells (more {a = z} {xs = zs} h r) rest
 
 -- values of lines that were read before others
 abbrev pub led : {A : Type 0} → List A → Result (ℕ × List ℕ) ℕ (List A) → Result (ℕ × List ℕ) ℕ (List A)
@@ -393,7 +393,7 @@ rows_read nx (suc ny) {vs = vs} h l k rest =
     let b : length (drop (suc nx) vs) ≡ ny * suc nx = length-drop (suc nx) vs ∙ omega (arith, suc-mul ny (suc nx)) in
     rw (
       append_assoc (keyed (ascii "row=") integer (take (suc nx) vs)) (grid_lines (ascii "row=") integer (suc nx) ny (drop (suc nx) vs)) rest,
-      rows_more (row_line (suc nx)) _ _ _ (row-keyed nx (all_take Signed (suc nx) h) a (grid_lines (ascii "row=") integer (suc nx) ny (drop (suc nx) vs) ++ rest)) ny k,
+      rows_more (row_line (suc nx)) _ _ _ (row_keyed nx (all_take Signed (suc nx) h) a (grid_lines (ascii "row=") integer (suc nx) ny (drop (suc nx) vs) ++ rest)) ny k,
       rows_read nx ny (all_drop Signed (suc nx) h) b (suc k) rest,
       take-append-drop (suc nx) vs,
       e,
@@ -440,12 +440,12 @@ module _ (q : Request) (r : InRange q) where
 
   scans_read : scans_line after_rule ≡ reads q.plan.scans after_scans
   unfolding word
-  scans_read = number-keyed (ascii "scans=") 1 most_scans q.plan.scans after_scans (λ bs. refl) r.some_scans r.few_scans
+  scans_read = number_keyed (ascii "scans=") 1 most_scans q.plan.scans after_scans (λ bs. refl) r.some_scans r.few_scans
 
   plan_read : (k : ℕ) → lines q.plan.scans scan_line (k, after_scans) ≡ reads (entries q.plan) (k + q.plan.scans, after_plan)
   plan_read k =
       let e = length-tab q.plan.scans (λ m. entry m) in
-      rw e at (lines_read EntryInRange scan_line entry_text scan-keyed r.entries k after_plan)
+      rw e at (lines_read EntryInRange scan_line entry_text scan_keyed r.entries k after_plan)
     where
       entry : ℕ → Entry
       entry m = record { radius = get_or q.plan.radius m (pos 0); limit = get_or q.plan.limit m (pos 0) }
@@ -456,7 +456,7 @@ module _ (q : Request) (r : InRange q) where
 
   -- a row of the grid is no line of the check
   buddy_absent : buddy_line after_buddies ≡ fails tt
-  buddy_absent = go q.ny r.two-rows q.first_guess
+  buddy_absent = go q.ny r.two_rows q.first_guess
     where
       go : (ny : ℕ) → 2 ≤ ny → (vs : List ℤ) → buddy_line (grid_lines (ascii "row=") integer q.nx ny vs ++ after_rows) ≡ fails tt
       go zero h vs = absurd (omega arith)
@@ -491,7 +491,7 @@ module _ (q : Request) (r : InRange q) where
   count_read : stations_line after_rows ≡ reads (length q.stations) after_count
   unfolding word
   count_read =
-      number-keyed (ascii "stations=") 0 most_stations (length q.stations) after_count (λ bs. refl) (omega arith) r.few_stations
+      number_keyed (ascii "stations=") 0 most_stations (length q.stations) after_count (λ bs. refl) (omega arith) r.few_stations
 
   -- the lines from the scan count on, of which the first is line k
   rest_reads_back : (k : ℕ) → from_scans (record { nx = q.nx; ny = q.ny }) q.T q.A (cond q.plan.smooth 1 0) q.plan.rule (k, after_rule)
@@ -528,25 +528,25 @@ module _ (q : Request) (r : InRange q) where
 
     time_read : time_line after_grid ≡ reads q.T after_time
     unfolding unsigned word
-    time_read = number-keyed (ascii "time=") 0 (2 ^ 32 - 1) q.T after_time (λ bs. refl) (omega arith) r.time
+    time_read = number_keyed (ascii "time=") 0 (2 ^ 32 - 1) q.T after_time (λ bs. refl) (omega arith) r.time
 
     age_read : age_line after_time ≡ reads q.A after_age
     unfolding unsigned word
-    age_read = number-keyed (ascii "age=") 0 (2 ^ 32 - 1) q.A after_age (λ bs. refl) (omega arith) r.age
+    age_read = number_keyed (ascii "age=") 0 (2 ^ 32 - 1) q.A after_age (λ bs. refl) (omega arith) r.age
 
     smooth_read : smooth_line after_age ≡ reads (cond q.plan.smooth 1 0) after_smooth
     unfolding word
-    smooth_read = number-keyed (ascii "smooth=") 0 1 (cond q.plan.smooth 1 0) after_smooth (λ bs. refl) (omega arith) (cond_both (λ n. n ≤ 1) q.plan.smooth 1 0 (λ e. omega arith) (λ e. omega arith))
+    smooth_read = number_keyed (ascii "smooth=") 0 1 (cond q.plan.smooth 1 0) after_smooth (λ bs. refl) (omega arith) (cond_both (λ n. n ≤ 1) q.plan.smooth 1 0 (λ e. omega arith) (λ e. omega arith))
 
     head_read : request_lines (1, request_text_with said q)
         ≡ onward ((line rule_line or gives default_rule) (5, after_smooth)) (λ rule. from_scans (record { nx = q.nx; ny = q.ny }) q.T q.A (cond q.plan.smooth 1 0) rule)
     unfolding request_lines request_text_with from_scans
     head_read =
-        rw (grid-keyed q.nx q.ny after_grid r.two_columns r.few_columns r.two-rows r.few_rows, line, ◌or◌, time_read, age_read, smooth_read)
+        rw (grid_keyed q.nx q.ny after_grid r.two_columns r.few_columns r.two_rows r.few_rows, line, ◌or◌, time_read, age_read, smooth_read)
 
   rule_read : rule_line (keyed (ascii "rule=") decimal (q.plan.rule ∷ []) ++ after_rule) ≡ reads q.plan.rule after_rule
   unfolding word
-  rule_read = number-keyed (ascii "rule=") equation_rule listing_rule q.plan.rule after_rule (λ bs. refl) r.first_rule r.last_rule
+  rule_read = number_keyed (ascii "rule=") equation_rule listing_rule q.plan.rule after_rule (λ bs. refl) r.first_rule r.last_rule
 
   -- the line of the scan count is no line of a rule
   rule_absent : rule_line after_rule ≡ fails tt

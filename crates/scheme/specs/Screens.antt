@@ -12,8 +12,8 @@ use Rattle.lists.specs.Tests.{true_or_false}
 use Rattle.lists.specs.Tab.{tab, length-tab, map-tab}
 use Rattle.lists.specs.Sums.{total, up_to_same}
 use Rattle.lists.specs.Turns.{join_to, join_tab}
-use Rattle.lists.specs.First.{Found, nowhere, at, first_from, first_in, first-map, first-same_tests}
-use Rattle.lists.specs.Members.{All, none, more, all_below, all-at}
+use Rattle.lists.specs.First.{Found, nowhere, at, first_from, first_in, first_map, first_same_tests}
+use Rattle.lists.specs.Members.{All, none, more, all_below, all_at}
 use Rattle.scheme.specs.Units.{most_scans, Call, asked}
 use Rattle.scheme.specs.Refusals.{Refusal, accepted, refused, number_of, as_one, unless_refused, in_order, refused_if, refused_with, refused_at, bad_shape, Window, bad_window, Screen, window_at, window_on, windows_of, bad_screen, points_of, points_of_all, bad_lengths, bad_columns, from_five, analysis_refusal, window_refusal, screen_refusal}
 use Rattle.scheme.specs.Reach.{Tile, whole_at, whole_at_each}
@@ -39,27 +39,27 @@ single c w = window_refusal c w (points_of w) (points_of w)
 abbrev from_four : Call → List Refusal
 from_four c = refused_if 4 (bad_columns c.stations) ∷ from_five (asked c)
 
-not-two_if : (number place : ℕ) (bad : Bool) → eqb number 2 ≡ false → for_its_window (refused_with number place bad) ≡ false
+not_two_if : (number place : ℕ) (bad : Bool) → eqb number 2 ≡ false → for_its_window (refused_with number place bad) ≡ false
 unfolding refused_with
-not-two_if number place true e = e
-not-two_if number place false e = refl
+not_two_if number place true e = e
+not_two_if number place false e = refl
 
-not-two-at : (number : ℕ) (f : Found) → eqb number 2 ≡ false → for_its_window (refused_at number f) ≡ false
+not_two_at : (number : ℕ) (f : Found) → eqb number 2 ≡ false → for_its_window (refused_at number f) ≡ false
 unfolding refused_at
-not-two-at number nowhere e = refl
-not-two-at number (at k) e = e
+not_two_at number nowhere e = refl
+not_two_at number (at k) e = e
 
-not-two_in : (rs : List Refusal) → All (λ r. for_its_window r ≡ false) rs → for_its_window (in_order rs) ≡ false
+not_two_in : (rs : List Refusal) → All (λ r. for_its_window r ≡ false) rs → for_its_window (in_order rs) ≡ false
 unfolding in_order
-not-two_in [] none = refl
-not-two_in (accepted ∷ rs) (more e h) = not-two_in rs h
-not-two_in (refused number place ∷ rs) (more e h) = e
+not_two_in [] none = refl
+not_two_in (accepted ∷ rs) (more e h) = not_two_in rs h
+not_two_in (refused number place ∷ rs) (more e h) = e
 
-not-two : (c : Call) → for_its_window (in_order (from_four c)) ≡ false
+not_two : (c : Call) → for_its_window (in_order (from_four c)) ≡ false
 unfolding from_five
-not-two c =
-    not-two_in (from_four c)
-    (more (not-two_if 4 0 _ refl) (more (not-two_if 5 0 _ refl) (more (not-two-at 6 _ refl) (more (not-two_if 6 most_scans _ refl) (more (not-two-at 7 _ refl) (more (not-two-at 8 _ refl) none))))))
+not_two c =
+    not_two_in (from_four c)
+    (more (not_two_if 4 0 _ refl) (more (not_two_if 5 0 _ refl) (more (not_two_at 6 _ refl) (more (not_two_if 6 most_scans _ refl) (more (not_two_at 7 _ refl) (more (not_two_at 8 _ refl) none))))))
 
 -- equal refusals, one at least
 all_accept : (rs : List Refusal) → All (λ s. s ≡ accepted) rs → in_order rs ≡ accepted
@@ -105,7 +105,7 @@ module _ (c : Call) where
     where
       go : (b : Bool) → for_its_window (cond b (refused 2 0) (in_order (from_four c))) ≡ b
       go true = refl
-      go false = not-two c
+      go false = not_two c
 
   -- queries that are not refused for their window are refused alike
   pub singles_are_refused_alike : (w v : Window) → for_its_window (single c w) ≡ false → for_its_window (single c v) ≡ false → single c w ≡ single c v
@@ -119,11 +119,11 @@ module _ (c : Call) where
       go (inr e) = one e w good ∙ sym (one e v good')
 
   -- all windows on the grid
-  good-singles : bad_shape c.nx c.ny (length c.first_guess) ≡ false → (ws : List Window) (k : ℕ)
+  good_singles : bad_shape c.nx c.ny (length c.first_guess) ≡ false → (ws : List Window) (k : ℕ)
       → first_from k (bad_window c.nx c.ny) ws ≡ nowhere → All (λ r. r ≡ in_order (from_four c)) (map (single c) ws)
   unfolding first_from
-  good-singles e [] k h = none
-  good-singles e (w ∷ ws) k h = go (bad_window c.nx c.ny w) refl h (good-singles e ws (suc k))
+  good_singles e [] k h = none
+  good_singles e (w ∷ ws) k h = go (bad_window c.nx c.ny w) refl h (good_singles e ws (suc k))
     where
       go : (b : Bool) → bad_window c.nx c.ny w ≡ b → cond b (at k) (first_from (suc k) (bad_window c.nx c.ny) ws) ≡ nowhere
           → (first_from (suc k) (bad_window c.nx c.ny) ws ≡ nowhere → All (λ r. r ≡ in_order (from_four c)) (map (single c) ws))
@@ -137,14 +137,14 @@ module _ (c : Call) where
     after_columns = in_order (refused_at 2 (first_in (bad_window c.nx c.ny) ws) ∷ from_four c)
 
     same_search : bad_shape c.nx c.ny (length c.first_guess) ≡ false → first_in for_its_window (map (single c) ws) ≡ first_in (bad_window c.nx c.ny) ws
-    same_search e = first-map for_its_window (single c) 0 ws ∙ first-same_tests _ _ 0 ws (for-its-window e)
+    same_search e = first_map for_its_window (single c) 0 ws ∙ first_same_tests _ _ 0 ws (for-its-window e)
 
     by_windows : bad_shape c.nx c.ny (length c.first_guess) ≡ false → of_singles (map (single c) ws) ≡ after_columns
     unfolding of_singles in_order refused_at
     by_windows e = rw (same_search e) (go (first_in (bad_window c.nx c.ny) ws) refl)
       where
         go : (f : Found) → first_in (bad_window c.nx c.ny) ws ≡ f → in_order (refused_at 2 f ∷ map (single c) ws) ≡ in_order (refused_at 2 f ∷ from_four c)
-        go nowhere h = all_alike (in_order (from_four c)) (map (single c) ws) (good-singles e ws 0 h) (rw (length-map ws (single c)) some)
+        go nowhere h = all_alike (in_order (from_four c)) (map (single c) ws) (good_singles e ws 0 h) (rw (length-map ws (single c)) some)
         go (at k) h = refl
 
     -- of a shape that is wrong
@@ -288,7 +288,7 @@ module _ (c : Call) (s : Screen) (equal : bad_screen s ≡ false) (some : 0 < le
       ∙ ap (λ (r : Refusal). (as_one r, unless_refused r (whole_at (asked c) (window_on s k)) (each.found k))) (ap₂ (window_refusal c (window_on s k)) (each.fits k h).grid_long (each.fits k h).support_long)
 
   accepted_each : of_singles singles ≡ accepted → (k : ℕ) → k < n → single c (window_on s k) ≡ accepted
-  accepted_each e = all-at (λ r. r ≡ accepted) n _ (rw in-order at (singly_accepted singles e))
+  accepted_each e = all_at (λ r. r ≡ accepted) n _ (rw in-order at (singly_accepted singles e))
 
   in-turn : of_singles singles ≡ accepted → all ≡ tile (join_to n (λ k. (each.left k).grid)) (join_to n (λ k. (each.left k).support))
   unfolding windows_of

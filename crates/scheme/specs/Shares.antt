@@ -5,7 +5,7 @@ use Rattle.std.proofs.Math.IntN.{zero-*ℤ, +ℤ_idl, +ℤ_idr}
 use Rattle.lists.specs.Tests.{lt_or_le}
 use Rattle.scheme.specs.Units.{Field, step}
 use Rattle.scheme.specs.Value.{cell, corners, sum_at}
-use Rattle.scheme.specs.Cells.{cell-inside, cell_low, cell_high}
+use Rattle.scheme.specs.Cells.{cell_inside, cell_low, cell_high}
 use Rattle.scheme.specs.Axes.{Axis, off, len, On, Beside, SameBeside}
 
 -- the sum of the corners of the cell at (m, n)
@@ -32,8 +32,8 @@ unfolding corners
 row_next z m n a = simp (mul-zero, zero-*ℤ, +ℤ_idl, +ℤ_idr)
 
 -- what one cell and the next have in common, all cells that hold the position have
-same-cell : (f : ℕ → ℤ) (x : ℕ) → ((m : ℕ) → x ≡ step * m + step → f m ≡ f (m + 1)) → (m m' : ℕ) → Holds m x → Holds m' x → f m ≡ f m'
-same-cell f x next m m' h h' = go (lt_or_le m m') (lt_or_le m' m)
+same_cell : (f : ℕ → ℤ) (x : ℕ) → ((m : ℕ) → x ≡ step * m + step → f m ≡ f (m + 1)) → (m m' : ℕ) → Holds m x → Holds m' x → f m ≡ f m'
+same_cell f x next m m' h h' = go (lt_or_le m m') (lt_or_le m' m)
   where
     go : (m < m') ⊎ (m' ≤ m) → (m' < m) ⊎ (m ≤ m') → f m ≡ f m'
     go (inl l) k =
@@ -46,8 +46,8 @@ same-cell f x next m m' h h' = go (lt_or_le m m') (lt_or_le m' m)
 
 any_cell : (z : Field ℤ) (x y m m' n n' : ℕ) → Holds m x → Holds m' x → Holds n y → Holds n' y → sum_from z m n x y ≡ sum_from z m' n' x y
 any_cell z x y m m' n n' hm hm' hn hn' =
-    same-cell (λ (k : ℕ). sum_from z k n x y) x (λ k e. across k e) m m' hm hm'
-    ∙ same-cell (λ (k : ℕ). sum_from z m' k x y) y (λ k e. down k e) n n' hn hn'
+    same_cell (λ (k : ℕ). sum_from z k n x y) x (λ k e. across k e) m m' hm hm'
+    ∙ same_cell (λ (k : ℕ). sum_from z m' k x y) y (λ k e. down k e) n n' hn hn'
   where
     across : (k : ℕ) → x ≡ step * k + step → sum_from z k n x y ≡ sum_from z (k + 1) n x y
     across k e =
@@ -93,15 +93,15 @@ high_beside : (a : Axis) (x m : ℕ) → m + 1 < len a → x ≤ step * (m + off
 high_beside a x m l h k = record { inside = l; close = omega arith }
 
 -- the cell of a position on the part, counted on the grid
-part-cell : (a : Axis) (x x' : ℕ) → On a x → x ≡ x' + step * off a → Holds (cell (len a) x' + off a) x
-part-cell a x x' h e =
+part_cell : (a : Axis) (x x' : ℕ) → On a x → x ≡ x' + step * off a → Holds (cell (len a) x' + off a) x
+part_cell a x x' h e =
     go (cell_low (len a) x') (cell_high (len a) x' (omega (arith, a.two)) (omega (arith, a.two, h.high, h.low)))
   where
     go : step * cell (len a) x' ≤ x' → x' ≤ step * cell (len a) x' + step → Holds (cell (len a) x' + off a) x
     go p q = record { low = omega arith; high = omega arith }
 
-whole-cell : (a : Axis) (x : ℕ) → On a x → Holds (cell a.n x) x
-whole-cell a x h =
+whole_cell : (a : Axis) (x : ℕ) → On a x → Holds (cell a.n x) x
+whole_cell a x h =
     record {
       low = cell_low a.n x;
       high = cell_high a.n x (omega (arith, a.two, a.inside)) (omega (arith, a.inside, h.high));
@@ -112,9 +112,9 @@ pub sum_local : (a b : Axis) (z z' : Field ℤ) (x y x' y' : ℕ) → On a x →
 unfolding sum_at
 sum_local a b z z' x y x' y' hx hy ex ey ag =
     any_cell z x y (cell a.n x) (cell (len a) x' + off a) (cell b.n y) (cell (len b) y' + off b)
-    (whole-cell a x hx) (part-cell a x x' hx ex) (whole-cell b y hy) (part-cell b y y' hy ey)
-    ∙ corners (cell (len a) x') (cell (len b) y') (part-cell a x x' hx ex) (part-cell b y y' hy ey)
-    (cell-inside (len a) x' (omega (arith, a.two))) (cell-inside (len b) y' (omega (arith, b.two)))
+    (whole_cell a x hx) (part_cell a x x' hx ex) (whole_cell b y hy) (part_cell b y y' hy ey)
+    ∙ corners (cell (len a) x') (cell (len b) y') (part_cell a x x' hx ex) (part_cell b y y' hy ey)
+    (cell_inside (len a) x' (omega (arith, a.two))) (cell_inside (len b) y' (omega (arith, b.two)))
   where
     corners : (m n : ℕ) → Holds (m + off a) x → Holds (n + off b) y → m + 2 ≤ len a → n + 2 ≤ len b
         → sum_from z (m + off a) (n + off b) x y ≡ sum_from z' m n x' y'

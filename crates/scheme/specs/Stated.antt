@@ -107,17 +107,17 @@ pub text_has_one_outcome : (input found : List ℕ) (bytes bytes' : ℕ) (left l
     → Replies input found bytes left → Replies input found bytes' left' → ◌≡◌ {A = ℕ × List ℕ} (bytes, left) (bytes', left')
 text_has_one_outcome = outcomes.text_has_one_outcome
 
-pub analysis_tells_refusal_and-place : (c : Call) (grid support verdict : ℕ)
+pub analysis_tells_refusal_and_place : (c : Call) (grid support verdict : ℕ)
     → (let r = analysis_refusal c grid support verdict in (as_one r / 65536 ≡ number_of r) × (as_one r % 65536 ≡ place_of r))
-analysis_tells_refusal_and-place = places.analysis_tells_refusal_and-place
+analysis_tells_refusal_and_place = places.analysis_tells_refusal_and_place
 
-pub window_tells_refusal_and-place : (c : Call) (w : Window) (grid support : ℕ)
+pub window_tells_refusal_and_place : (c : Call) (w : Window) (grid support : ℕ)
     → (let r = window_refusal c w grid support in (as_one r / 65536 ≡ number_of r) × (as_one r % 65536 ≡ place_of r))
-window_tells_refusal_and-place = places.window_tells_refusal_and-place
+window_tells_refusal_and_place = places.window_tells_refusal_and_place
 
-pub screen_tells_refusal_and-place : (c : Call) (s : Screen) (grid support : ℕ)
+pub screen_tells_refusal_and_place : (c : Call) (s : Screen) (grid support : ℕ)
     → (let r = screen_refusal c s grid support in (as_one r / 65536 ≡ number_of r) × (as_one r % 65536 ≡ place_of r))
-screen_tells_refusal_and-place = places.screen_tells_refusal_and-place
+screen_tells_refusal_and_place = places.screen_tells_refusal_and_place
 
 -- ---- DEMAND 2: what is not accepted has no weight from then on
 
@@ -158,10 +158,10 @@ removing_dead_masts_changes_no_support = dead.removing_dead_masts_changes_no_sup
 -- ---- posts beyond the border
 
 -- whatever a scan finds, a post's difference is its observation less the first guess at its nearest place on the grid
-pub post_differs_from_first-guess : (q : Request) (found : State) (s : Station) → on_grid q.nx q.ny s.x s.y ≡ false
+pub post_differs_from_first_guess : (q : Request) (found : State) (s : Station) → on_grid q.nx q.ny s.x s.y ≡ false
     → differences q found s ≡ s.value -ℤ rounded (sum_at q.nx q.ny (guess q) (place q.nx s.x) (place q.ny s.y)) 4096
 unfolding value_at
-post_differs_from_first-guess = posts.post_differs_from_first-guess
+post_differs_from_first_guess = posts.post_differs_from_first_guess
 
 -- so a post that scan number m + 1 accepts passes the E test of each later scan that it is still accepted in and that has no lower limit
 pub post_passes_later_tests : (q : Request) (m n : ℕ) → on_grid q.nx q.ny (row_after q (suc m) n).station.x (row_after q (suc m) n).station.y ≡ false
@@ -296,11 +296,11 @@ rounded_is_nearest n d some = let h = nearest.rounded_is_nearest n d some in (h.
 pub nearest_is_one : (n : ℤ) (d : ℕ) (r s : ℤ) → 0 < d → Nearest n d r → Nearest n d s → r ≡ s
 nearest_is_one = nearest.nearest_is_one
 
-pub weight-most : (r2 d2 : ℕ) → weight r2 d2 ≤ scale
-weight-most = weights.weight-most
+pub weight_most : (r2 d2 : ℕ) → weight r2 d2 ≤ scale
+weight_most = weights.weight_most
 
-pub weight-at_station : (r2 : ℕ) → 0 < r2 → weight r2 0 ≡ scale
-weight-at_station = weights.weight-at_station
+pub weight_at_station : (r2 : ℕ) → 0 < r2 → weight r2 0 ≡ scale
+weight_at_station = weights.weight_at_station
 
 pub weight_beyond : (r2 d2 : ℕ) → r2 ≤ d2 → weight r2 d2 ≡ 0
 weight_beyond = weights.weight_beyond
@@ -312,8 +312,8 @@ weight_never_rises = weights.weight_never_rises
 pub weight_over_100_is_in_hundredths : (r2 d2 : ℕ) → weight r2 d2 / 100 ≡ 100 * (r2 - d2) / (r2 + d2)
 weight_over_100_is_in_hundredths = fineness.weight_over_100_is_in_hundredths
 
-pub weighed_in_hundredths-weighs : (r2 d2 : ℕ) → 0 < 100 * (r2 - d2) / (r2 + d2) → 0 < weight r2 d2
-weighed_in_hundredths-weighs = fineness.weighed_in_hundredths-weighs
+pub weighed_in_hundredths_weighs : (r2 d2 : ℕ) → 0 < 100 * (r2 - d2) / (r2 + d2) → 0 < weight r2 d2
+weighed_in_hundredths_weighs = fineness.weighed_in_hundredths_weighs
 
 pub inside_70_weighs : (radius d2 : ℕ) → radius ≤ 70 → d2 < radius * radius → 0 < weight (radius * radius) d2
 inside_70_weighs = fineness.inside_70_weighs
@@ -336,14 +336,14 @@ module _ (mode r2 : ℕ) (w : Wind) (dx dy : ℤ) where
   pub across_the_wind_is_round : w.u *ℤ dx +ℤ w.v *ℤ dy ≡ pos 0 → weight_at mode r2 w dx dy ≡ weight r2 (square dx + square dy)
   across_the_wind_is_round = streaks.across_the_wind_is_round mode r2 w dx dy
 
-  pub turned-wind-weighs_alike : nat_abs w.u ≤ 100 → nat_abs w.v ≤ 100
+  pub turned_wind_weighs_alike : nat_abs w.u ≤ 100 → nat_abs w.v ≤ 100
       → weight_at mode r2 (record { u = neg_ℤ w.u; v = neg_ℤ w.v }) dx dy ≡ weight_at mode r2 w dx dy
-  turned-wind-weighs_alike u v = streaks.turned-wind-weighs_alike mode r2 w dx dy (u, v)
+  turned_wind_weighs_alike u v = streaks.turned_wind_weighs_alike mode r2 w dx dy (u, v)
 
-  pub stronger_wind-weighs_alike : (k : ℤ) → 0 < nat_abs k → nat_abs w.u ≤ 100 → nat_abs w.v ≤ 100
+  pub stronger_wind_weighs_alike : (k : ℤ) → 0 < nat_abs k → nat_abs w.u ≤ 100 → nat_abs w.v ≤ 100
       → nat_abs (k *ℤ w.u) ≤ 100 → nat_abs (k *ℤ w.v) ≤ 100
       → weight_at mode r2 (record { u = k *ℤ w.u; v = k *ℤ w.v }) dx dy ≡ weight_at mode r2 w dx dy
-  stronger_wind-weighs_alike k some u v ku kv = streaks.stronger_wind-weighs_alike k some w dx dy mode r2 (u, v) (ku, kv)
+  stronger_wind_weighs_alike k some u v ku kv = streaks.stronger_wind_weighs_alike k some w dx dy mode r2 (u, v) (ku, kv)
 
 -- the request with a wind for each wind, and with that mode
 abbrev with_winds : (mode : ℕ) → (Wind → Wind) → Request → Request
@@ -420,11 +420,11 @@ module _ (q : Request) (rule m : ℕ) (found : State) where
       (lones.lone_station_moves_alone q rule m found i j e)
 
 -- at the station itself its weight is the whole scale, and there the rules agree
-pub at_the_station_weighs-all : (mode r2 : ℕ) (w : Wind) → 0 < r2 → weight_at mode r2 w (pos 0) (pos 0) ≡ scale
-at_the_station_weighs-all = streaks.at_the_station_weighs-all
+pub at_the_station_weighs_all : (mode r2 : ℕ) (w : Wind) → 0 < r2 → weight_at mode r2 w (pos 0) (pos 0) ≡ scale
+at_the_station_weighs_all = streaks.at_the_station_weighs_all
 
-pub rules_agree_at_the_whole-scale : (rule rule' : ℕ) (s : Sums) → s.weights ≡ scale → correction rule s ≡ correction rule' s
-rules_agree_at_the_whole-scale = lones.rules_agree_at_the_whole-scale
+pub rules_agree_at_the_whole_scale : (rule rule' : ℕ) (s : Sums) → s.weights ≡ scale → correction rule s ≡ correction rule' s
+rules_agree_at_the_whole_scale = lones.rules_agree_at_the_whole_scale
 
 pub of_one_scan_the_rules_support_and_judge_alike : (q : Request) (rule : ℕ) → q.plan.scans ≡ 1
     → ((analysis (with_rule rule q)).support ≡ (analysis q).support) × ((analysis (with_rule rule q)).verdict ≡ (analysis q).verdict)
@@ -450,8 +450,8 @@ module _ (p : Plan) (m : ℕ) (D : Station → ℤ) (rows : List Row) where
   same_one_by_one (n ∷ ns) = rw (same_one_by_one ns)
 
   -- in whatever order all are judged, it comes to the same
-  pub judged_at-once : (ns : List ℕ) → ((k : ℕ) → k < length rows → Some (λ n. n ≡ k) ns) → one_by_one ns ≡ all_judged p m D rows
-  judged_at-once ns all = same_one_by_one ns ∙ buddies.judged_at-once p m D rows ns all
+  pub judged_at_once : (ns : List ℕ) → ((k : ℕ) → k < length rows → Some (λ n. n ≡ k) ns) → one_by_one ns ≡ all_judged p m D rows
+  judged_at_once ns all = same_one_by_one ns ∙ buddies.judged_at_once p m D rows ns all
 
 -- a scan and a run as the landing before had them, by the E test alone
 unfoldable pub scan_before : Request → (m : ℕ) → State → State
@@ -466,20 +466,20 @@ unfoldable pub before : Request → ℕ → State
 before q zero = start most_beyond q
 before q (suc m) = scan_before q m (before q m)
 
-same-before : (q : Request) (m : ℕ) → buddies.before q m ≡ before q m
+same_before : (q : Request) (m : ℕ) → buddies.before q m ≡ before q m
 unfolding before buddies.before scan_before buddies.scan_before
-same-before q zero = refl
-same-before q (suc m) = rw (same-before q m)
+same_before q zero = refl
+same_before q (suc m) = rw (same_before q m)
 
 -- with the check off every answer is that of the landing before: of the analysis, of a window, refused, and how far a window is widened
 module _ (q : Request) (off : q.plan.buddies.on ≡ false) where
   pub off_analyses_as_before : analysis q
       ≡ (let s = before q q.plan.scans in record { grid = stored q.nx q.ny s.field; support = stored q.nx q.ny s.support; verdict = map (λ r. r.verdict) s.rows })
-  off_analyses_as_before = rw (← same-before q q.plan.scans) (buddies.off_analyses_as_before q off)
+  off_analyses_as_before = rw (← same_before q q.plan.scans) (buddies.off_analyses_as_before q off)
 
   pub off_answers_windows_as_before : (w : Window) → whole_at q w
       ≡ (let s = before q q.plan.scans in record { grid = window_of w s.field; support = window_of w s.support })
-  off_answers_windows_as_before w = rw (← same-before q q.plan.scans) (buddies.off_answers_windows_as_before q off w)
+  off_answers_windows_as_before w = rw (← same_before q q.plan.scans) (buddies.off_answers_windows_as_before q off w)
 
   pub off_refuses_as_before : in_order (from_five q)
       ≡ in_order (refused_if 5 (bad_scans q.plan) ∷ refused_at 6 (first q.plan.scans (bad_scan q.plan)) ∷ refused_at 7 (first_in bad_guess q.first_guess) ∷ refused_at 8 (first_in bad_station q.stations) ∷ [])
@@ -522,18 +522,18 @@ module _ (scan radius limit : ℕ) (D : Station → ℤ) (a b c : Row) where
   abbrev IsNear : Row → Row → Type 0
   IsNear r o = (is_accepted o.verdict ≡ true) × (inside (radius * radius) (o.station.x -ℤ r.station.x) (o.station.y -ℤ r.station.y) ≡ true)
 
-  pub two_that_agree_and-a_third : D a.station ≡ D b.station → IsNear a b → IsNear a c → IsNear b a → IsNear b c → IsNear c a → IsNear c b
+  pub two_that_agree_and_a_third : D a.station ≡ D b.station → IsNear a b → IsNear a c → IsNear b a → IsNear b c → IsNear c a → IsNear c b
       → (let apart = nat_abs (D a.station -ℤ D c.station) in
       map (λ r. r.verdict) (each (beside_others scan radius limit D) (a ∷ b ∷ c ∷ []))
       ≡ cond (ltb (2 * limit) apart) (20 + scan) 0 ∷ cond (ltb (2 * limit) apart) (20 + scan) 0 ∷ cond (ltb limit apart) (20 + scan) 0 ∷ [])
-  two_that_agree_and-a_third = buddies.two_that_agree_and-a_third scan radius limit D a b c
+  two_that_agree_and_a_third = buddies.two_that_agree_and_a_third scan radius limit D a b c
 
 pub gift_far : (mode radius : ℕ) (wind : Wind) (D dx dy : ℤ) → (radius ≤ nat_abs dx) ⊎ (radius ≤ nat_abs dy)
     → gift mode (radius * radius) wind D dx dy ≡ nothing
 gift_far = gifts.gift_far
 
-pub correction-at-most-E : (q : Request) (m : ℕ) (found : State) (i j : ℕ) → nat_abs (correction q.plan.rule (sums_at q m found i j)) ≤ E q.plan m
-correction-at-most-E = bounds.correction-at-most-E
+pub correction_at_most_E : (q : Request) (m : ℕ) (found : State) (i j : ℕ) → nat_abs (correction q.plan.rule (sums_at q m found i j)) ≤ E q.plan m
+correction_at_most_E = bounds.correction_at_most_E
 
 pub run_stays_within : (q : Request) (most limit : ℕ) → ((i j : ℕ) → nat_abs (guess q i j) ≤ most) → (n : ℕ) → ((m : ℕ) → m < n → E q.plan m ≤ limit)
     → (i j : ℕ) → nat_abs ((after q n).field i j) ≤ most + n * limit
@@ -543,12 +543,12 @@ pub accepted_run_stays_within : (c : Call) (grid support verdict : ℕ) → anal
     → (m : ℕ) → m ≤ c.plan.scans → (i j : ℕ) → nat_abs ((after (asked c) m).field i j) ≤ 13000000
 accepted_run_stays_within = bounds.accepted_run_stays_within
 
-pub supported_exactly_where_a-mast-weighs : (q : Request) (m k i j : ℕ) → k < m
+pub supported_exactly_where_a_mast_weighs : (q : Request) (m k i j : ℕ) → k < m
     → (eqb ((after q m).support i j / 2 ^ k % 2) 1 ≡ true)
     ↔ Some (λ r. (is_accepted r.verdict ≡ true) × (0 < weight_at q.plan.mode (R q.plan k * R q.plan k) r.station.wind (r.station.x -ℤ pos (step * i)) (r.station.y -ℤ pos (step * j))))
     (rows_judged q k (after q k))
 unfolding bit
-supported_exactly_where_a-mast-weighs = support.supported_exactly_where_a-mast-weighs
+supported_exactly_where_a_mast_weighs = support.supported_exactly_where_a_mast_weighs
 
 pub supported_in_hundredths_is_supported : (q : Request) (m k i j : ℕ) → k < m
     → Some (λ r. (is_accepted r.verdict ≡ true) × (0 < (let r2 = R q.plan k * R q.plan k in
@@ -558,8 +558,8 @@ pub supported_in_hundredths_is_supported : (q : Request) (m k i j : ℕ) → k <
 unfolding bit
 supported_in_hundredths_is_supported = fineness.supported_in_hundredths_is_supported
 
-pub unsupported_point_keeps_first-guess : (q : Request) → q.plan.smooth ≡ false → (i j m : ℕ) → (after q m).support i j ≡ 0 → (after q m).field i j ≡ guess q i j
-unsupported_point_keeps_first-guess = support.unsupported_point_keeps_first-guess
+pub unsupported_point_keeps_first_guess : (q : Request) → q.plan.smooth ≡ false → (i j m : ℕ) → (after q m).support i j ≡ 0 → (after q m).field i j ≡ guess q i j
+unsupported_point_keeps_first_guess = support.unsupported_point_keeps_first_guess
 
 pub smoothing_may_move_an_unsupported_point : ((at_end lone).support 1 1 ≡ 0) × (guess lone 1 1 ≡ pos 640) × ((at_end lone).field 1 1 ≡ pos 636)
 smoothing_may_move_an_unsupported_point = examples.smoothing_may_move_an_unsupported_point
@@ -591,17 +591,17 @@ module _ (nx ny : ℕ) (field : List ℤ) (x y : ℤ) (i32 : All (SFits w32) fie
   abbrev sum : ℤ
   sum = sum_at nx ny (field_of (pos 0) nx field) (place nx x) (place ny y)
 
-  pub reading-sum_size : 2 ≤ nx → 2 ≤ ny → nat_abs sum ≤ 2 ^ 43
-  reading-sum_size = exactness.reading-sum_size nx ny field x y i32
+  pub reading_sum_size : 2 ≤ nx → 2 ≤ ny → nat_abs sum ≤ 2 ^ 43
+  reading_sum_size = exactness.reading_sum_size nx ny field x y i32
 
-  pub reading-value_exact : 2 ≤ nx → 2 ≤ ny → HasValue (double sum 262144) (negative sum) (nat_abs sum) 262144
-  reading-value_exact h k = (exactness.reading-value_exact nx ny field x y i32 h k).value
+  pub reading_value_exact : 2 ≤ nx → 2 ≤ ny → HasValue (double sum 262144) (negative sum) (nat_abs sum) 262144
+  reading_value_exact h k = (exactness.reading_value_exact nx ny field x y i32 h k).value
 
   pub reading_exact : (support : List ℕ) → ReadsExactly (reading nx ny field support x y) sum
   reading_exact = exactness.reading_exact nx ny field x y i32
 
-  pub zero-reading_is_positive : (support : List ℕ) → IsZero (value_of (reading nx ny field support x y)) → value_of (reading nx ny field support x y) ≡ positive_zero
-  zero-reading_is_positive support = exactness.zero-reading_is_positive nx ny field support x y i32
+  pub zero_reading_is_positive : (support : List ℕ) → IsZero (value_of (reading nx ny field support x y)) → value_of (reading nx ny field support x y) ≡ positive_zero
+  zero_reading_is_positive support = exactness.zero_reading_is_positive nx ny field support x y i32
 
 module _ (nx ny : ℕ) (v : ℤ) (rest : List ℤ) (f : SFits w32 v) (r : All (SFits w32) rest) where
   pub summary_exact : bad_shape nx ny (length (v ∷ rest)) ≡ false
@@ -615,8 +615,8 @@ pub refused_summary_is_zeros : (nx ny : ℕ) (field : List ℤ) → bad_shape nx
     → summary nx ny field ≡ record { refusal = 1; place = 0; units = record { lowest = positive_zero; highest = positive_zero; span = positive_zero } }
 refused_summary_is_zeros = exactness.refused_summary_is_zeros
 
-pub zero-summary_is_positive : (nx ny : ℕ) (field : List ℤ) → All (SFits w32) field → ZerosPositive (summary nx ny field).units
-zero-summary_is_positive = exactness.zero-summary_is_positive
+pub zero_summary_is_positive : (nx ny : ℕ) (field : List ℤ) → All (SFits w32) field → ZerosPositive (summary nx ny field).units
+zero_summary_is_positive = exactness.zero_summary_is_positive
 
 pub lowest_is_least : (v : ℤ) (rest : List ℤ) → All (λ w. le_z (lowest v rest) w ≡ true) (v ∷ rest)
 lowest_is_least = exactness.lowest_is_least
@@ -656,8 +656,8 @@ module _ (rule : ℕ) (ruled : (1 ≤ rule) × (rule ≤ 2)) (found : Analysis) 
   pub no_refusal : (answer ≡ 0) × (answer' ≡ 0) × (answer'' ≡ 0)
   no_refusal = cheats.no_refusal rule ruled found long answer answer' answer'' left left' left'' asked-once asked_twice asked-smooth
 
-  pub not_the_first-guess : left.grid ≡ level → ⊥
-  not_the_first-guess = cheats.not_the_first-guess rule ruled found long answer answer' answer'' left left' left'' asked-once asked_twice asked-smooth
+  pub not_the_first_guess : left.grid ≡ level → ⊥
+  not_the_first_guess = cheats.not_the_first_guess rule ruled found long answer answer' answer'' left left' left'' asked-once asked_twice asked-smooth
 
   pub not_one_fixed_grid : left'.grid ≡ left.grid → ⊥
   not_one_fixed_grid = cheats.not_one_fixed_grid rule ruled found long answer answer' answer'' left left' left'' asked-once asked_twice asked-smooth
@@ -680,17 +680,17 @@ module _ (rule : ℕ) (ruled : (1 ≤ rule) × (rule ≤ 2)) (found : Tile) (lon
   pub window_no_refusal : (answer ≡ 0) × (answer' ≡ 0) × (answer'' ≡ 0)
   window_no_refusal = cheats.window_no_refusal rule ruled found long answer answer' answer'' left left' left'' asked-once asked_twice asked-smooth
 
-  pub window-not_the_first-guess : left.grid ≡ tab 4 (λ p. pos 640) → ⊥
-  window-not_the_first-guess = cheats.window-not_the_first-guess rule ruled found long answer answer' answer'' left left' left'' asked-once asked_twice asked-smooth
+  pub window_not_the_first_guess : left.grid ≡ tab 4 (λ p. pos 640) → ⊥
+  window_not_the_first_guess = cheats.window_not_the_first_guess rule ruled found long answer answer' answer'' left left' left'' asked-once asked_twice asked-smooth
 
-  pub window-not_one_fixed_grid : left'.grid ≡ left.grid → ⊥
-  window-not_one_fixed_grid = cheats.window-not_one_fixed_grid rule ruled found long answer answer' answer'' left left' left'' asked-once asked_twice asked-smooth
+  pub window_not_one_fixed_grid : left'.grid ≡ left.grid → ⊥
+  window_not_one_fixed_grid = cheats.window_not_one_fixed_grid rule ruled found long answer answer' answer'' left left' left'' asked-once asked_twice asked-smooth
 
-  pub window-not_one_scan_only : left'.grid ≡ window_of corner (after (example rule 2 false) 1).field → ⊥
-  window-not_one_scan_only = cheats.window-not_one_scan_only rule ruled found long answer answer' answer'' left left' left'' asked-once asked_twice asked-smooth
+  pub window_not_one_scan_only : left'.grid ≡ window_of corner (after (example rule 2 false) 1).field → ⊥
+  window_not_one_scan_only = cheats.window_not_one_scan_only rule ruled found long answer answer' answer'' left left' left'' asked-once asked_twice asked-smooth
 
-  pub window-not_only_smoothed : left''.grid ≡ window_of corner (only_smoothed rule) → ⊥
-  window-not_only_smoothed = cheats.window-not_only_smoothed rule ruled found long answer answer' answer'' left left' left'' asked-once asked_twice asked-smooth
+  pub window_not_only_smoothed : left''.grid ≡ window_of corner (only_smoothed rule) → ⊥
+  window_not_only_smoothed = cheats.window_not_only_smoothed rule ruled found long answer answer' answer'' left left' left'' asked-once asked_twice asked-smooth
 
   pub window_no_other_support : (left.support ≡ corner_once.support) × (left'.support ≡ corner_twice.support) × (left''.support ≡ (corner_smooth rule).support)
   window_no_other_support = cheats.window_no_other_support rule ruled found long answer answer' answer'' left left' left'' asked-once asked_twice asked-smooth
@@ -700,8 +700,8 @@ module _ (rule : ℕ) (ruled : (1 ≤ rule) × (rule ≤ 2)) (found left left' l
   pub text_no_refusal : (first_two_lines left ≡ ascii "refusal=0\nplace=0\n") × (first_two_lines left' ≡ ascii "refusal=0\nplace=0\n") × (first_two_lines left'' ≡ ascii "refusal=0\nplace=0\n")
   text_no_refusal = cheats.text_no_refusal rule ruled found left left' left'' bytes bytes' bytes'' asked-once asked_twice asked-smooth
 
-  pub text_not_the_first-guess : row_lines left ≡ shown level → ⊥
-  text_not_the_first-guess = cheats.text_not_the_first-guess rule ruled found left left' left'' bytes bytes' bytes'' asked-once asked_twice asked-smooth
+  pub text_not_the_first_guess : row_lines left ≡ shown level → ⊥
+  text_not_the_first_guess = cheats.text_not_the_first_guess rule ruled found left left' left'' bytes bytes' bytes'' asked-once asked_twice asked-smooth
 
   pub text_not_one_fixed_grid : row_lines left' ≡ row_lines left → ⊥
   text_not_one_fixed_grid = cheats.text_not_one_fixed_grid rule ruled found left left' left'' bytes bytes' bytes'' asked-once asked_twice asked-smooth

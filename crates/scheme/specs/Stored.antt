@@ -9,13 +9,13 @@ use Rattle.std.proofs.Math.Arith.{digits_div, digits_mod}
 use Rattle.std.proofs.Math.ListN.{get_or-eq_default}
 use Rattle.std.proofs.Math.IntN.{pos, ◌+ℤ◌}
 use Rattle.lists.specs.Tests.{lt_or_le, true_or_false, and_true}
-use Rattle.lists.specs.Tab.{tab, get_or_tab, length-tab, tab-same}
+use Rattle.lists.specs.Tab.{tab, get_or_tab, length-tab, tab_same}
 use Rattle.lists.specs.Sums.{up_to_same}
 use Rattle.scheme.specs.Units.{Field, stored, field_of}
 use Rattle.scheme.specs.Rounding.{rounded}
 use Rattle.scheme.specs.Value.{cell, corners, sum_at}
 use Rattle.scheme.specs.Smoothing.{pattern_at, pattern_row, pattern_sum, inner, smoothed}
-use Rattle.scheme.specs.Cells.{cell-inside}
+use Rattle.scheme.specs.Cells.{cell_inside}
 
 -- two fields are the same on a grid
 abbrev pub Same : {A : Type 0} → (nx ny : ℕ) → Field A → Field A → Type 0
@@ -42,7 +42,7 @@ module _ {A : Type 0} (nx ny : ℕ) where
 
   pub stored_same : (f g : Field A) → Same nx ny f g → stored nx ny f ≡ stored nx ny g
   unfolding stored
-  stored_same f g h = tab-same (nx * ny) (λ k. f (k % nx) (k / nx)) (λ k. g (k % nx) (k / nx)) go
+  stored_same f g h = tab_same (nx * ny) (λ k. f (k % nx) (k / nx)) (λ k. g (k % nx) (k / nx)) go
     where
       go : (k : ℕ) → k < nx * ny → f (k % nx) (k / nx) ≡ g (k % nx) (k / nx)
       go k l = h (k % nx) (k / nx) (mod-lt k (some nx l)) ((div-lt_iff_lt-mul {k = nx} (some nx l)).1 (omega (arith, mul_comm nx ny)))
@@ -55,8 +55,8 @@ module _ {A : Type 0} (nx ny : ℕ) where
 pub sum_same : (nx ny : ℕ) (z z' : Field ℤ) → 2 ≤ nx → 2 ≤ ny → Same nx ny z z' → (x y : ℕ) → sum_at nx ny z x y ≡ sum_at nx ny z' x y
 unfolding sum_at corners
 sum_same nx ny z z' hx hy h x y =
-    let cx = cell-inside nx x hx in
-    let cy = cell-inside ny y hy in
+    let cx = cell_inside nx x hx in
+    let cy = cell_inside ny y hy in
     let m = cell nx x in
     let n = cell ny y in
     let e1 : z m n ≡ z' m n = h m n (omega arith) (omega arith) in
@@ -70,9 +70,9 @@ pub inner_in : (n i : ℕ) → inner n i ≡ true → (0 < i) × (i + 1 < n)
 unfolding inner
 inner_in n i e = let (a, b) = and_true _ _ e in (ltb-true 0 i a, ltb-true (i + 1) n b)
 
-pub smoothed-same : (nx ny : ℕ) (z z' : Field ℤ) → Same nx ny z z' → Same nx ny (smoothed nx ny z) (smoothed nx ny z')
+pub smoothed_same : (nx ny : ℕ) (z z' : Field ℤ) → Same nx ny z z' → Same nx ny (smoothed nx ny z) (smoothed nx ny z')
 unfolding smoothed
-smoothed-same nx ny z z' h i j hi hj = go (true_or_false (inner nx i && inner ny j))
+smoothed_same nx ny z z' h i j hi hj = go (true_or_false (inner nx i && inner ny j))
   where
     sums : (0 < i) × (i + 1 < nx) → (0 < j) × (j + 1 < ny) → pattern_sum z i j ≡ pattern_sum z' i j
     sums p q =
@@ -89,9 +89,9 @@ smoothed-same nx ny z z' h i j hi hj = go (true_or_false (inner nx i && inner ny
     go (inr e) = rw e (h i j hi hj)
 
 -- what holds of a field's values, and past its end, holds of the list that stores it
-pub stored-all : {A : Type 0} (P : A → Type 0) (past : A) (nx ny : ℕ) (f : Field A) → P past → ((i j : ℕ) → P (f i j)) → (k : ℕ) → P (get_or (stored nx ny f) k past)
+pub stored_all : {A : Type 0} (P : A → Type 0) (past : A) (nx ny : ℕ) (f : Field A) → P past → ((i j : ℕ) → P (f i j)) → (k : ℕ) → P (get_or (stored nx ny f) k past)
 unfolding stored
-stored-all {A = A} P past nx ny f e h k = go (lt_or_le k (nx * ny))
+stored_all {A = A} P past nx ny f e h k = go (lt_or_le k (nx * ny))
   where
     go : (k < nx * ny) ⊎ (nx * ny ≤ k) → P (get_or (tab (nx * ny) (λ n. f (n % nx) (n / nx))) k past)
     go (inl l) = rw (get_or_tab (nx * ny) (λ n. f (n % nx) (n / nx)) k past l) (h (k % nx) (k / nx))

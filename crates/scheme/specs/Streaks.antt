@@ -8,13 +8,13 @@ use Rattle.std.proofs.Math.Bool.{true, false, not}
 use Rattle.std.proofs.lemmas.Bool.{lt-leb}
 use Rattle.std.proofs.Math.Dec.{ltb}
 use Rattle.std.specs.Int.Signed.{le_z}
-use Rattle.integers.specs.Parts.{eq_parts, mul_parts, neg-up, neg-dn}
+use Rattle.integers.specs.Parts.{eq_parts, mul_parts, neg_up, neg_dn}
 use Rattle.integers.specs.Sizes.{size_mul}
 use Rattle.integers.specs.Ring.{mul-add, mul_assoc}
-use Rattle.lists.specs.Tests.{lt_or_le, true_or_false, not-both, and_true, ltb_same}
+use Rattle.lists.specs.Tests.{lt_or_le, true_or_false, not_both, and_true, ltb_same}
 use Rattle.scheme.specs.Units.{Wind, most_wind, missing_mark, is_missing, is_no_wind, round_mode, wind_mode}
 use Rattle.scheme.specs.Weight.{scale, weight, square, squares, inside, along, strength, stretched, blows, weight_at}
-use Rattle.scheme.specs.Weights.{weight_beyond, weight-most, inside-alone, weight-at_station, weight_grows, weight_scaled}
+use Rattle.scheme.specs.Weights.{weight_beyond, weight_most, inside_alone, weight_at_station, weight_grows, weight_scaled}
 
 -- ---- the cases of a weight
 
@@ -23,17 +23,17 @@ module _ (mode r2 : ℕ) (w : Wind) (dx dy : ℤ) where
   unfolding weight_at
   no_weight_outside h = rw (le-ltb (squares dx dy) r2 h)
 
-  pub weight-inside : squares dx dy < r2
+  pub weight_inside : squares dx dy < r2
       → weight_at mode r2 w dx dy ≡ cond (blows mode w dx dy) (stretched r2 w dx dy) (weight r2 (squares dx dy))
   unfolding weight_at
-  weight-inside h = rw (lt-ltb (squares dx dy) r2 h)
+  weight_inside h = rw (lt-ltb (squares dx dy) r2 h)
 
   -- where no wind blows it is the round weight, which from the radius on is 0 too
   pub round_if_still : blows mode w dx dy ≡ false → weight_at mode r2 w dx dy ≡ weight r2 (squares dx dy)
   round_if_still e = go (lt_or_le (squares dx dy) r2)
     where
       go : (squares dx dy < r2) ⊎ (r2 ≤ squares dx dy) → weight_at mode r2 w dx dy ≡ weight r2 (squares dx dy)
-      go (inl h) = rw (weight-inside h, e)
+      go (inl h) = rw (weight_inside h, e)
       go (inr h) = no_weight_outside h ∙ sym (weight_beyond r2 (squares dx dy) h)
 
   pub weight_lies_in_the_scale : weight_at mode r2 w dx dy ≤ scale
@@ -41,12 +41,12 @@ module _ (mode r2 : ℕ) (w : Wind) (dx dy : ℤ) where
     where
       go : (squares dx dy < r2) ⊎ (r2 ≤ squares dx dy) → (blows mode w dx dy ≡ true) ⊎ (blows mode w dx dy ≡ false) → weight_at mode r2 w dx dy ≤ scale
       go (inr h) b = rw (no_weight_outside h) (omega arith)
-      go (inl h) (inl b) = rw (weight-inside h, b) (unfold stretched in weight-most _ _)
-      go (inl h) (inr b) = rw (round_if_still b) (weight-most r2 (squares dx dy))
+      go (inl h) (inl b) = rw (weight_inside h, b) (unfold stretched in weight_most _ _)
+      go (inl h) (inr b) = rw (round_if_still b) (weight_most r2 (squares dx dy))
 
   -- at most the whole scale inside the radius, and nothing outside
-  pub weight-inside-alone : weight_at mode r2 w dx dy ≤ scale * cond (inside r2 dx dy) 1 0
-  weight-inside-alone = inside-alone (weight_at mode r2 w dx dy) r2 (squares dx dy) weight_lies_in_the_scale no_weight_outside
+  pub weight_inside_alone : weight_at mode r2 w dx dy ≤ scale * cond (inside r2 dx dy) 1 0
+  weight_inside_alone = inside_alone (weight_at mode r2 w dx dy) r2 (squares dx dy) weight_lies_in_the_scale no_weight_outside
 
 -- in mode 0 no wind is read
 pub still_in_mode_0 : (w : Wind) (dx dy : ℤ) → blows round_mode w dx dy ≡ false
@@ -63,8 +63,8 @@ still_if_missing mode w dx dy e = rw e (go (eqb mode wind_mode))
     go false = refl
 
 -- nor is any at the station itself, which has there the whole scale
-pub at_the_station_weighs-all : (mode r2 : ℕ) (w : Wind) → 0 < r2 → weight_at mode r2 w (pos 0) (pos 0) ≡ scale
-at_the_station_weighs-all mode r2 w some = round_if_still mode r2 w (pos 0) (pos 0) still ∙ weight-at_station r2 some
+pub at_the_station_weighs_all : (mode r2 : ℕ) (w : Wind) → 0 < r2 → weight_at mode r2 w (pos 0) (pos 0) ≡ scale
+at_the_station_weighs_all mode r2 w some = round_if_still mode r2 w (pos 0) (pos 0) still ∙ weight_at_station r2 some
   where
     still : blows mode w (pos 0) (pos 0) ≡ false
     still = unfold blows in (let e : strength w * 0 ≡ 0 = omega arith in rw e (go (eqb mode wind_mode && not (is_no_wind w))))
@@ -96,9 +96,9 @@ module _ (r2 : ℕ) (w : Wind) (dx dy : ℤ) (near : squares dx dy < r2) (windy 
       weight_grows r2 d2 (r2 * (strength w * d2 + square (along w dx dy))) (strength w * d2 * d2) (omega arith) upper_some (omega arith) lower_within
       (omega arith)
 
-  stretched-across : square (along w dx dy) ≡ 0 → stretched r2 w dx dy ≡ weight r2 d2
+  stretched_across : square (along w dx dy) ≡ 0 → stretched r2 w dx dy ≡ weight r2 d2
   unfolding stretched
-  stretched-across e =
+  stretched_across e =
       let f : r2 * (strength w * d2 + square (along w dx dy)) ≡ strength w * d2 * r2 = rw e (omega arith) in
       rw f (weight_scaled (strength w * d2) r2 d2 windy)
 
@@ -109,7 +109,7 @@ module _ (mode r2 : ℕ) (w : Wind) (dx dy : ℤ) where
       go : (squares dx dy < r2) ⊎ (r2 ≤ squares dx dy) → (blows mode w dx dy ≡ true) ⊎ (blows mode w dx dy ≡ false)
           → weight r2 (squares dx dy) ≤ weight_at mode r2 w dx dy
       go (inr h) b = rw (weight_beyond r2 (squares dx dy) h) (omega arith)
-      go (inl h) (inl b) = rw (weight-inside mode r2 w dx dy h, b) (stretched_least r2 w dx dy h (blown mode w dx dy b))
+      go (inl h) (inl b) = rw (weight_inside mode r2 w dx dy h, b) (stretched_least r2 w dx dy h (blown mode w dx dy b))
       go (inl h) (inr b) = rw (round_if_still mode r2 w dx dy b) (omega arith)
 
   -- with the wind at right angles to the offset
@@ -119,7 +119,7 @@ module _ (mode r2 : ℕ) (w : Wind) (dx dy : ℤ) where
       go : (squares dx dy < r2) ⊎ (r2 ≤ squares dx dy) → (blows mode w dx dy ≡ true) ⊎ (blows mode w dx dy ≡ false)
           → weight_at mode r2 w dx dy ≡ weight r2 (squares dx dy)
       go (inr h) b = no_weight_outside mode r2 w dx dy h ∙ sym (weight_beyond r2 (squares dx dy) h)
-      go (inl h) (inl b) = rw (weight-inside mode r2 w dx dy h, b) (stretched-across r2 w dx dy h (blown mode w dx dy b) (rw e))
+      go (inl h) (inl b) = rw (weight_inside mode r2 w dx dy h, b) (stretched_across r2 w dx dy h (blown mode w dx dy b) (rw e))
       go (inl h) (inr b) = round_if_still mode r2 w dx dy b
 
 -- ---- the wind's strength and sign
@@ -149,34 +149,34 @@ pub fair_is_there : (w : Wind) → Fair w → is_no_wind w ≡ false
 unfolding is_no_wind
 fair_is_there w h = rw (small_is_no_mark w.u h.0)
 
-square-times : (k z : ℤ) → square (k *ℤ z) ≡ square k * square z
-square-times k z = rw (size_mul k z) (omega arith)
+square_times : (k z : ℤ) → square (k *ℤ z) ≡ square k * square z
+square_times k z = rw (size_mul k z) (omega arith)
 
-strength-times : (k : ℤ) (w : Wind) → strength (times k w) ≡ square k * strength w
-strength-times k w = rw (square-times k w.u, square-times k w.v) (omega arith)
+strength_times : (k : ℤ) (w : Wind) → strength (times k w) ≡ square k * strength w
+strength_times k w = rw (square_times k w.u, square_times k w.v) (omega arith)
 
-along-times : (k : ℤ) (w : Wind) (dx dy : ℤ) → along (times k w) dx dy ≡ k *ℤ along w dx dy
-along-times k w dx dy = rw (mul_assoc k w.u dx, mul_assoc k w.v dy) (sym (mul-add k (w.u *ℤ dx) (w.v *ℤ dy)))
+along_times : (k : ℤ) (w : Wind) (dx dy : ℤ) → along (times k w) dx dy ≡ k *ℤ along w dx dy
+along_times k w dx dy = rw (mul_assoc k w.u dx, mul_assoc k w.v dy) (sym (mul-add k (w.u *ℤ dx) (w.v *ℤ dy)))
 
 module _ (k : ℤ) (some : 0 < nat_abs k) (w : Wind) (dx dy : ℤ) where
   some_square : 0 < square k
   some_square = mul-pos {m = nat_abs k} {n = nat_abs k} some some
 
-  stretched-times : (r2 : ℕ) → stretched r2 (times k w) dx dy ≡ stretched r2 w dx dy
+  stretched_times : (r2 : ℕ) → stretched r2 (times k w) dx dy ≡ stretched r2 w dx dy
   unfolding stretched
-  stretched-times r2 =
-      rw (strength-times k w, along-times k w dx dy, square-times k (along w dx dy))
+  stretched_times r2 =
+      rw (strength_times k w, along_times k w dx dy, square_times k (along w dx dy))
       (let e : r2 * (square k * strength w * squares dx dy + square k * square (along w dx dy))
       ≡ square k * (r2 * (strength w * squares dx dy + square (along w dx dy))) = omega arith in
       let f : square k * strength w * squares dx dy * squares dx dy ≡ square k * (strength w * squares dx dy * squares dx dy) = omega arith in
       rw (e, f) (weight_scaled (square k) _ _ some_square))
 
-  blows-times : (mode : ℕ) → is_no_wind w ≡ false → is_no_wind (times k w) ≡ false → blows mode (times k w) dx dy ≡ blows mode w dx dy
+  blows_times : (mode : ℕ) → is_no_wind w ≡ false → is_no_wind (times k w) ≡ false → blows mode (times k w) dx dy ≡ blows mode w dx dy
   unfolding blows
-  blows-times mode e f =
+  blows_times mode e f =
       rw (e, f)
       (ap (λ (b : Bool). (eqb mode wind_mode && true) && b)
-      (ap (λ (n : ℕ). ltb 0 (n * squares dx dy)) (strength-times k w)
+      (ap (λ (n : ℕ). ltb 0 (n * squares dx dy)) (strength_times k w)
       ∙ ltb_same 0 (square k * strength w * squares dx dy) 0 (strength w * squares dx dy) less (λ h. more h)))
     where
       product : square k * strength w * squares dx dy ≡ square k * (strength w * squares dx dy)
@@ -192,20 +192,20 @@ module _ (k : ℤ) (some : 0 < nat_abs k) (w : Wind) (dx dy : ℤ) where
       more : 0 < strength w * squares dx dy → 0 < square k * strength w * squares dx dy
       more h = omega (arith, product, mul-pos {m = square k} {n = strength w * squares dx dy} some_square h)
 
-  pub stronger_wind-weighs_alike : (mode r2 : ℕ) → Fair w → Fair (times k w) → weight_at mode r2 (times k w) dx dy ≡ weight_at mode r2 w dx dy
+  pub stronger_wind_weighs_alike : (mode r2 : ℕ) → Fair w → Fair (times k w) → weight_at mode r2 (times k w) dx dy ≡ weight_at mode r2 w dx dy
   unfolding weight_at
-  stronger_wind-weighs_alike mode r2 h l =
-      rw (blows-times mode (fair_is_there w h) (fair_is_there (times k w) l), stretched-times r2)
+  stronger_wind_weighs_alike mode r2 h l =
+      rw (blows_times mode (fair_is_there w h) (fair_is_there (times k w) l), stretched_times r2)
 
 minus_one : (z : ℤ) → neg_ℤ z ≡ negsuc 0 *ℤ z
-minus_one z = eq_parts (neg_ℤ z) (negsuc 0 *ℤ z) (omega (arith, neg-up z, neg-dn z, mul_parts (negsuc 0) z))
+minus_one z = eq_parts (neg_ℤ z) (negsuc 0 *ℤ z) (omega (arith, neg_up z, neg_dn z, mul_parts (negsuc 0) z))
 
 pub turned_is : (w : Wind) → turned w ≡ times (negsuc 0) w
 turned_is w = rw (minus_one w.u, minus_one w.v)
 
-pub turned-fair : (w : Wind) → Fair w → Fair (times (negsuc 0) w)
-turned-fair w h = (rw (size_mul (negsuc 0) w.u) (omega (arith, h.0)), rw (size_mul (negsuc 0) w.v) (omega (arith, h.1)))
+pub turned_fair : (w : Wind) → Fair w → Fair (times (negsuc 0) w)
+turned_fair w h = (rw (size_mul (negsuc 0) w.u) (omega (arith, h.0)), rw (size_mul (negsuc 0) w.v) (omega (arith, h.1)))
 
-pub turned-wind-weighs_alike : (mode r2 : ℕ) (w : Wind) (dx dy : ℤ) → Fair w → weight_at mode r2 (turned w) dx dy ≡ weight_at mode r2 w dx dy
-turned-wind-weighs_alike mode r2 w dx dy h =
-    rw (turned_is w) (stronger_wind-weighs_alike (negsuc 0) (omega arith) w dx dy mode r2 h (turned-fair w h))
+pub turned_wind_weighs_alike : (mode r2 : ℕ) (w : Wind) (dx dy : ℤ) → Fair w → weight_at mode r2 (turned w) dx dy ≡ weight_at mode r2 w dx dy
+turned_wind_weighs_alike mode r2 w dx dy h =
+    rw (turned_is w) (stronger_wind_weighs_alike (negsuc 0) (omega arith) w dx dy mode r2 h (turned_fair w h))

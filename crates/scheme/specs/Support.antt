@@ -18,7 +18,7 @@ use Rattle.scheme.specs.Units.{Station, R, Request, guess}
 use Rattle.scheme.specs.Verdicts.{is_accepted}
 use Rattle.scheme.specs.Difference.{Row}
 use Rattle.scheme.specs.Correction.{Sums, share, correction, backed_by}
-use Rattle.scheme.specs.Gifts.{sums, weight_there, accepted_weight, rejected_gives-nothing}
+use Rattle.scheme.specs.Gifts.{sums, weight_there, accepted_weight, rejected_gives_nothing}
 use Rattle.scheme.specs.Scan.{differences, start, all_judged, rows_judged, sums_at, corrected, scan, after_within, after}
 
 -- bit k of a number
@@ -96,7 +96,7 @@ module _ (mode radius : ℕ) (D : Station → ℤ) (i j : ℕ) where
     where
       go : (is_accepted r.verdict ≡ true) ⊎ (is_accepted r.verdict ≡ false) → Weighs mode radius i j r
       go (inl e) = (e, rw (← accepted_weight mode radius D i j r e) h)
-      go (inr e) = absurd (let l : weight_of r ≡ 0 = rw (rejected_gives-nothing mode radius D i j r e, weight_of) in omega arith)
+      go (inr e) = absurd (let l : weight_of r ≡ 0 = rw (rejected_gives_nothing mode radius D i j r e, weight_of) in omega arith)
 
   weighed : (r : Row) → Weighs mode radius i j r → 0 < weight_of r
   weighed r w = rw (accepted_weight mode radius D i j r w.0) w.1
@@ -107,9 +107,9 @@ module _ (mode radius : ℕ) (D : Station → ℤ) (i j : ℕ) where
   weights_total (r ∷ rows) = ap (λ (t : ℕ). weight_of r + t) (weights_total rows)
 
 -- bit k, of a scan that has been made, is set exactly where some accepted row has a nonzero weight in that scan
-pub supported_exactly_where_a-mast-weighs : (q : Request) (m k i j : ℕ) → k < m
+pub supported_exactly_where_a_mast_weighs : (q : Request) (m k i j : ℕ) → k < m
     → (bit k ((after q m).support i j) ≡ true) ↔ Some (Weighs q.plan.mode (R q.plan k) i j) (rows_judged q k (after q k))
-supported_exactly_where_a-mast-weighs q m k i j h = (there, back)
+supported_exactly_where_a_mast_weighs q m k i j h = (there, back)
   where
     same : weights_in q i j k ≡ total 0 ◌+◌ (weight_of q.plan.mode (R q.plan k) (differences q (after q k)) i j) (rows_judged q k (after q k))
     same = unfold sums_at in weights_total q.plan.mode (R q.plan k) (differences q (after q k)) i j (rows_judged q k (after q k))
@@ -132,13 +132,13 @@ unfolding correction
 no_correction rule s e = rw (eq-eqb s.weights 0 e)
 
 module _ (q : Request) (rough : q.plan.smooth ≡ false) (i j : ℕ) where
-  pub unsupported_point_keeps_first-guess : (m : ℕ) → (after q m).support i j ≡ 0 → (after q m).field i j ≡ guess q i j
+  pub unsupported_point_keeps_first_guess : (m : ℕ) → (after q m).support i j ≡ 0 → (after q m).field i j ≡ guess q i j
   unfolding after_within start scan
-  unsupported_point_keeps_first-guess zero e = refl
-  unsupported_point_keeps_first-guess (suc m) e =
+  unsupported_point_keeps_first_guess zero e = refl
+  unsupported_point_keeps_first_guess (suc m) e =
       let (old, none) = parts ((after q m).support i j) (ltb 0 (weights_in q i j m)) (sym (support_next q i j m) ∙ e) in
       let w : weights_in q i j m ≡ 0 = zeroth (ltb-false 0 (weights_in q i j m) none) in
-      same_field ∙ unmoved w ∙ unsupported_point_keeps_first-guess m old
+      same_field ∙ unmoved w ∙ unsupported_point_keeps_first_guess m old
     where
       parts : (s : ℕ) (b : Bool) → s + cond b (2 ^ m) 0 ≡ 0 → (s ≡ 0) × (b ≡ false)
       parts s true e = absurd (omega (arith, pow_pos m))

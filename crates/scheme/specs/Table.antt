@@ -16,7 +16,7 @@ use Rattle.scheme.specs.Smoothing.{pattern_row, pattern_sum, inner, smoothed}
 use Rattle.scheme.specs.Scan.{after}
 use Rattle.scheme.specs.Reach.{steps, reach}
 use Rattle.scheme.specs.Readings.{double, is_backed, reading_in, reading}
-use Rattle.scheme.specs.Support.{unsupported_point_keeps_first-guess, no_stations_no_support}
+use Rattle.scheme.specs.Support.{unsupported_point_keeps_first_guess, no_stations_no_support}
 use Rattle.scheme.specs.Text.{answer_text}
 use Rattle.scheme.specs.Example.{once_text, once_answer, example_text}
 
@@ -90,7 +90,7 @@ case_g : (q : Request) → q.stations ≡ [] → q.plan.smooth ≡ false → (m 
     → ((after q m).field i j ≡ guess q i j) × ((after q m).support i j ≡ 0)
 case_g q empty rough m i j =
     let s = no_stations_no_support q empty m i j in
-    (unsupported_point_keeps_first-guess q rough i j m s, s)
+    (unsupported_point_keeps_first_guess q rough i j m s, s)
 
 case_h : reach two_scans ≡ 5
 unfolding reach up_to steps R B

@@ -3,7 +3,7 @@
 use Rattle.std.specs.Prelude.{ℕ, ◌+◌, ◌-◌, ◌*◌, ◌/◌, ◌≤◌, ◌<◌, ◌≡◌, ◌⊎◌, cond, ltb}
 use Rattle.std.proofs.Common.{arith, div-lt_iff_lt-mul, mul-div_cancel, mul-le-mul_left, sym, ap, inl, inr, lt-ltb, le-ltb}
 use Rattle.std.proofs.Math.Nat.{mul-div-mul_left, zero-div}
-use Rattle.integers.specs.Fractions.{whole-part_order}
+use Rattle.integers.specs.Fractions.{whole_part_order}
 use Rattle.lists.specs.Tests.{lt_or_le}
 use Rattle.scheme.specs.Weight.{scale, weight}
 
@@ -12,8 +12,8 @@ pub weight_beyond : (r2 d2 : ℕ) → r2 ≤ d2 → weight r2 d2 ≡ 0
 unfolding weight
 weight_beyond r2 d2 h = let e : r2 - d2 ≡ 0 = omega arith in rw e (zero-div (r2 + d2))
 
-pub weight-most : (r2 d2 : ℕ) → weight r2 d2 ≤ scale
-weight-most r2 d2 = go (lt_or_le d2 (r2))
+pub weight_most : (r2 d2 : ℕ) → weight r2 d2 ≤ scale
+weight_most r2 d2 = go (lt_or_le d2 (r2))
   where
     go : (d2 < r2) ⊎ (r2 ≤ d2) → weight r2 d2 ≤ scale
     go (inr h) = rw (weight_beyond r2 d2 h) (omega arith)
@@ -23,16 +23,16 @@ weight-most r2 d2 = go (lt_or_le d2 (r2))
         unfold weight in omega (arith, (div-lt_iff_lt-mul {k = r2 + d2} some).1 l)
 
 -- what is in the scale, and nothing from the radius on, is at most the whole scale inside and nothing outside
-pub inside-alone : (w r2 d2 : ℕ) → w ≤ scale → (r2 ≤ d2 → w ≡ 0) → w ≤ scale * cond (ltb d2 r2) 1 0
-inside-alone w r2 d2 h none = go (lt_or_le d2 r2)
+pub inside_alone : (w r2 d2 : ℕ) → w ≤ scale → (r2 ≤ d2 → w ≡ 0) → w ≤ scale * cond (ltb d2 r2) 1 0
+inside_alone w r2 d2 h none = go (lt_or_le d2 r2)
   where
     go : (d2 < r2) ⊎ (r2 ≤ d2) → w ≤ scale * cond (ltb d2 r2) 1 0
     go (inl l) = rw (lt-ltb d2 r2 l) (omega arith)
     go (inr l) = rw (le-ltb d2 r2 l) (omega (arith, none l))
 
-pub weight-at_station : (r2 : ℕ) → 0 < r2 → weight r2 0 ≡ scale
+pub weight_at_station : (r2 : ℕ) → 0 < r2 → weight r2 0 ≡ scale
 unfolding weight
-weight-at_station r2 some =
+weight_at_station r2 some =
     let e : r2 - 0 ≡ r2 = omega arith in
     let f : r2 + 0 ≡ r2 = omega arith in
     rw (e, f) (mul-div_cancel scale some)
@@ -41,7 +41,7 @@ weight-at_station r2 some =
 pub weight_grows : (r2 d2 a b : ℕ) → 0 < r2 → 0 < a → d2 ≤ r2 → b ≤ a → r2 * b ≤ a * d2 → weight r2 d2 ≤ weight a b
 unfolding weight
 weight_grows r2 d2 a b some-r some-a near near' h =
-    whole-part_order (scale * (r2 - d2)) (r2 + d2) (scale * (a - b)) (a + b) (omega arith) (omega arith)
+    whole_part_order (scale * (r2 - d2)) (r2 + d2) (scale * (a - b)) (a + b) (omega arith) (omega arith)
     (crosswise (r2 - d2) (a - b) (omega arith) (omega arith))
   where
     crosswise : (x y : ℕ) → x + d2 ≡ r2 → y + b ≡ a → scale * x * (a + b) ≤ scale * y * (r2 + d2)

@@ -21,7 +21,7 @@ use Rattle.scheme.specs.Laws.{States, Run}
 use Rattle.scheme.specs.Near.{Side, cut_along, Spot, spot_on}
 use Rattle.scheme.specs.Gathered.{Near, Twin}
 use Rattle.scheme.specs.Locality.{agree_inside, Runs, Alike, run_alike, twin_row, stations_stay}
-use Rattle.scheme.specs.Cut.{across, down, row_in_cut, window-row, cut_sound, cut_accepted}
+use Rattle.scheme.specs.Cut.{across, down, row_in_cut, window_row, cut_sound, cut_accepted}
 use Rattle.scheme.specs.Cressman.{cressman, states, run, span_on, cressman_laws}
 
 -- ---- what it says
@@ -41,7 +41,7 @@ pub record Agrees (q : Request) (w : Window) : Type 0 where
   -- the cut is itself an accepted request, with two columns and rows at least
   pub accepts : Accepts (cut q w)
   pub two_columns : 2 ≤ (cut q w).nx
-  pub two-rows : 2 ≤ (cut q w).ny
+  pub two_rows : 2 ≤ (cut q w).ny
   -- each point of the window stands in the two lists of the cut's analysis, and has there the whole grid's value and support
   pub inside : (i j : ℕ) → OfWindow w i j
       → (place_in_cut q w i j < length (analysis (cut q w)).grid) × (place_in_cut q w i j < length (analysis (cut q w)).support)
@@ -96,9 +96,9 @@ module _ (q : Request) (w : Window) (sound : Sound q) (on : OnGrid q.nx q.ny w) 
   cut_runs : Run (cressman q) (len (cut_along wide)) (len (cut_along tall)) (guess (cut q w)) (cut q w).stations part
   cut_runs = unfold cut in run (cut q w)
 
-  same-guess : (i j : ℕ) → i < len (cut_along wide) → j < len (cut_along tall)
+  same_guess : (i j : ℕ) → i < len (cut_along wide) → j < len (cut_along tall)
       → guess q (i + off (cut_along wide)) (j + off (cut_along tall)) ≡ guess (cut q w) i j
-  same-guess i j hi hj =
+  same_guess i j hi hj =
       unfold guess cut window_of in
       sym (field_stored (points_along (cut_of q w).columns) (points_along (cut_of q w).rows) (pos 0)
       (λ i j. guess q (i + (cut_of q w).columns.first) (j + (cut_of q w).rows.first)) i j hi hj)
@@ -109,7 +109,7 @@ module _ (q : Request) (w : Window) (sound : Sound q) (on : OnGrid q.nx q.ny w) 
         law = cressman_laws q;
         guess = guess q;
         guess' = guess (cut q w);
-        same-guess = same-guess;
+        same_guess = same_guess;
         stations = q.stations;
         whole = states q;
         whole_runs = run q;
@@ -122,9 +122,9 @@ module _ (q : Request) (w : Window) (sound : Sound q) (on : OnGrid q.nx q.ny w) 
       run_alike (cressman q) wide tall both (steps q.plan) (steps_enough q.plan) q.plan.scans 0
       (unfold reach in omega arith) (unfold reach in omega arith)
 
-  pub window-value : (i j : ℕ) → OfWindow w i j
+  pub window_value : (i j : ℕ) → OfWindow w i j
       → (after (cut q w) q.plan.scans).field (i - (cut_of q w).columns.first) (j - (cut_of q w).rows.first) ≡ (after q q.plan.scans).field i j
-  window-value i j h =
+  window_value i j h =
       agree_inside wide tall (after q q.plan.scans).field (after (cut q w) q.plan.scans).field alike.fields i j
       (record { low = h.left; high = h.right }) (record { low = h.top; high = h.bottom })
 
@@ -143,8 +143,8 @@ module _ (q : Request) (w : Window) (sound : Sound q) (on : OnGrid q.nx q.ny w) 
   on_whole : (i j : ℕ) → OfWindow w i j → (i < q.nx) × (j < q.ny)
   on_whole i j h = (omega (arith, h.right, on.right), omega (arith, h.bottom, on.bottom))
 
-  stored-inside : {A : Type 0} (f : Field A) (i j : ℕ) → OfWindow w i j → place_in_cut q w i j < length (stored (cut q w).nx (cut q w).ny f)
-  stored-inside f i j h =
+  stored_inside : {A : Type 0} (f : Field A) (i j : ℕ) → OfWindow w i j → place_in_cut q w i j < length (stored (cut q w).nx (cut q w).ny f)
+  stored_inside f i j h =
       let (x, y) = on_cut i j h in
       rw (length-stored (cut q w).nx (cut q w).ny f) (place_in (cut q w).nx (cut q w).ny (i - (cut_of q w).columns.first) (j - (cut_of q w).rows.first) x y)
 
@@ -165,9 +165,9 @@ module _ (q : Request) (w : Window) (sound : Sound q) (on : OnGrid q.nx q.ny w) 
       let (x, y) = and_true _ _ e in
       rw (span_keeps wide s.x x, span_keeps tall s.y y)
 
-  window-verdict : (k : ℕ) (o : Station) → k < length q.stations → on_window q.nx q.ny w (get_or q.stations k o) ≡ true
+  window_verdict : (k : ℕ) (o : Station) → k < length q.stations → on_window q.nx q.ny w (get_or q.stations k o) ≡ true
       → get_or (analysis (cut q w)).verdict (row_in_cut q w k) 0 ≡ get_or (analysis q).verdict k 0
-  window-verdict k o l e =
+  window_verdict k o l e =
       unfold analysis cut in
       (get_or-map (λ (r : Row). r.verdict) (after (cut q w) q.plan.scans).rows (row_in_cut q w k) past
       ∙ sym (twin.verdicts near)
@@ -188,7 +188,7 @@ module _ (q : Request) (w : Window) (sound : Sound q) (on : OnGrid q.nx q.ny w) 
       here = rw station_is e
 
       near : Near (cressman q) wide tall (step * 0) (get_or (after q q.plan.scans).rows k past).station
-      near = let (x, y) = and_true _ _ here in record { along-x = span_spot wide _ x; along-y = span_spot tall _ y }
+      near = let (x, y) = and_true _ _ here in record { along_x = span_spot wide _ x; along_y = span_spot tall _ y }
 
       twin : Twin (cressman q) wide tall (step * 0) (get_or (after q q.plan.scans).rows k past) (get_or (after (cut q w) q.plan.scans).rows (row_in_cut q w k) past)
       twin =
@@ -204,15 +204,15 @@ agrees q w sound on =
     record {
       accepts = cut_accepted q w sound on;
       two_columns = (cut_sound q w sound on).shape.two_columns;
-      two-rows = (cut_sound q w sound on).shape.two-rows;
-      inside = λ i j h. (stored-inside q w sound on _ i j h, stored-inside q w sound on _ i j h);
-      values = λ i j h. unfold cut in stored_agrees q w sound on (pos 0) _ _ i j h (window-value q w sound on i j h);
+      two_rows = (cut_sound q w sound on).shape.two_rows;
+      inside = λ i j h. (stored_inside q w sound on _ i j h, stored_inside q w sound on _ i j h);
+      values = λ i j h. unfold cut in stored_agrees q w sound on (pos 0) _ _ i j h (window_value q w sound on i j h);
       supports = λ i j h. unfold cut in stored_agrees q w sound on 0 _ _ i j h (window_support q w sound on i j h);
       keeps = window_keeps q w sound on;
-      rows = window-row q w;
+      rows = window_row q w;
       verdicts = λ k o l e. (
-        rw (verdict_long (cut q w)) (window-row q w k o l (window_keeps q w sound on (get_or q.stations k o) e)).0,
-        window-verdict q w sound on k o l e,
+        rw (verdict_long (cut q w)) (window_row q w k o l (window_keeps q w sound on (get_or q.stations k o) e)).0,
+        window_verdict q w sound on k o l e,
       );
     }
 

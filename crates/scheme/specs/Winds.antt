@@ -5,9 +5,9 @@ use Rattle.std.proofs.Common.{arith, sym, ◌∙◌, inl, inr}
 use Rattle.std.proofs.Math.Path.{refl, ap, fun_ext}
 use Rattle.std.proofs.Math.Bool.{cond}
 use Rattle.std.proofs.Math.IntN.{pos}
-use Rattle.lists.specs.Sums.{total, total-map}
+use Rattle.lists.specs.Sums.{total, total_map}
 use Rattle.lists.specs.Parted.{each}
-use Rattle.lists.specs.Each.{each-turned}
+use Rattle.lists.specs.Each.{each_turned}
 use Rattle.lists.specs.Tests.{true_or_false}
 use Rattle.lists.specs.Members.{All, none, more, all_map, all_also, all_of, all_get_d}
 use Rattle.scheme.specs.Units.{Field, step, Wind, no_wind, is_no_wind, Station, most_beyond, round_mode, R, E, B, L, Request, Call, asked, guess}
@@ -23,7 +23,7 @@ use Rattle.scheme.specs.Scan.{begins, start, differences, all_tested, all_judged
 use Rattle.scheme.specs.Reach.{whole_at}
 use Rattle.scheme.specs.Accepted.{Sound, no_station, analysis_sound}
 use Rattle.scheme.specs.Judging.{all-judged, judged_station}
-use Rattle.scheme.specs.Streaks.{round_if_still, still_in_mode_0, still_if_missing, times, turned, Fair, stronger_wind-weighs_alike, turned_is, turned-fair}
+use Rattle.scheme.specs.Streaks.{round_if_still, still_in_mode_0, still_if_missing, times, turned, Fair, stronger_wind_weighs_alike, turned_is, turned_fair}
 
 -- ---- the same request with other winds, and with another mode
 
@@ -78,9 +78,9 @@ module _ (q : Request) (mode : ℕ) (f : Wind → Wind) where
     rows : (after other m).rows ≡ map row_with (after q m).rows
     alike : All AlikeRow (after q m).rows
 
-  same-begins : (s : Station) → begins most_beyond q.nx q.ny q.T q.A (with_wind f s) ≡ row_with (begins most_beyond q.nx q.ny q.T q.A s)
+  same_begins : (s : Station) → begins most_beyond q.nx q.ny q.T q.A (with_wind f s) ≡ row_with (begins most_beyond q.nx q.ny q.T q.A s)
   unfolding before_scans serves out_of_service off_grid
-  same-begins s = refl
+  same_begins s = refl
 
   same_start : All Alike q.stations → Same 0
   unfolding after_within start guess
@@ -88,7 +88,7 @@ module _ (q : Request) (mode : ℕ) (f : Wind → Wind) where
       record {
         field = refl;
         support = refl;
-        rows = maps_agree _ (with_wind f) row_with _ same-begins q.stations;
+        rows = maps_agree _ (with_wind f) row_with _ same_begins q.stations;
         alike = all_map Alike AlikeRow (begins most_beyond q.nx q.ny q.T q.A) (λ s a. a) h;
       }
 
@@ -97,77 +97,77 @@ module _ (q : Request) (mode : ℕ) (f : Wind → Wind) where
     D = differences q (after q m)
 
     -- no wind is read for a difference
-    same-D : (s : Station) → differences other (after other m) (with_wind f s) ≡ D s
+    same_D : (s : Station) → differences other (after other m) (with_wind f s) ≡ D s
     unfolding difference value_at guess
-    same-D s = rw h.field
+    same_D s = rw h.field
 
     abbrev D' : Station → ℤ
     D' = differences other (after other m)
 
     -- nor for the E test
-    same-tested : (r : Row) → tested (m + 1) (E other.plan m) D' (row_with r) ≡ row_with (tested (m + 1) (E q.plan m) D r)
+    same_tested : (r : Row) → tested (m + 1) (E other.plan m) D' (row_with r) ≡ row_with (tested (m + 1) (E q.plan m) D r)
     unfolding tested E
-    same-tested r = rw (same-D r.station)
+    same_tested r = rw (same_D r.station)
 
     -- nor among buddies
-    same-said : (s : Station) (o : Row) → says (B q.plan) D' (with_wind f s) (row_with o) ≡ says (B q.plan) D s o
+    same_said : (s : Station) (o : Row) → says (B q.plan) D' (with_wind f s) (row_with o) ≡ says (B q.plan) D s o
     unfolding says
-    same-said s o = rw (same-D o.station)
+    same_said s o = rw (same_D o.station)
 
-    same-heard : (s : Station) (others : List Row) → heard (B q.plan) D' (with_wind f s) (map row_with others) ≡ heard (B q.plan) D s others
+    same_heard : (s : Station) (others : List Row) → heard (B q.plan) D' (with_wind f s) (map row_with others) ≡ heard (B q.plan) D s others
     unfolding heard
-    same-heard s others =
-        total-map silence both (says (B q.plan) D' (with_wind f s)) row_with others
-        ∙ ap (λ (g : Row → Heard). total silence both g others) (fun_ext (same-said s))
+    same_heard s others =
+        total_map silence both (says (B q.plan) D' (with_wind f s)) row_with others
+        ∙ ap (λ (g : Row → Heard). total silence both g others) (fun_ext (same_said s))
 
     same_beside : (r : Row) (others : List Row) → beside_others (m + 1) (B other.plan) (L other.plan) D' (row_with r) (map row_with others)
         ≡ row_with (beside_others (m + 1) (B q.plan) (L q.plan) D r others)
     unfolding beside_others B L
-    same_beside r others = rw (same-D r.station, same-heard r.station others)
+    same_beside r others = rw (same_D r.station, same_heard r.station others)
 
     judged_rows : rows_judged other m (after other m) ≡ map row_with (rows_judged q m (after q m))
     unfolding rows_judged all_judged
     judged_rows =
         ap (all_judged other.plan m D') h.rows
-        ∙ ap (each (beside_others (m + 1) (B other.plan) (L other.plan) D')) (maps_agree (tested (m + 1) (E other.plan m) D') row_with row_with (tested (m + 1) (E q.plan m) D) same-tested (after q m).rows)
-        ∙ each-turned row_with (beside_others (m + 1) (B q.plan) (L q.plan) D) (beside_others (m + 1) (B other.plan) (L other.plan) D') same_beside (all_tested q.plan m D (after q m).rows)
+        ∙ ap (each (beside_others (m + 1) (B other.plan) (L other.plan) D')) (maps_agree (tested (m + 1) (E other.plan m) D') row_with row_with (tested (m + 1) (E q.plan m) D) same_tested (after q m).rows)
+        ∙ each_turned row_with (beside_others (m + 1) (B q.plan) (L q.plan) D) (beside_others (m + 1) (B other.plan) (L other.plan) D') same_beside (all_tested q.plan m D (after q m).rows)
 
     judged_alike : All AlikeRow (rows_judged q m (after q m))
     unfolding rows_judged
     judged_alike = all-judged q.plan m D AlikeRow AlikeRow (λ r survivors a. rw (judged_station q.plan m D r survivors) a) h.alike
 
-    same-share : (i j : ℕ) (r : Row) → AlikeRow r
+    same_share : (i j : ℕ) (r : Row) → AlikeRow r
         → share mode (R q.plan m) (differences other (after other m)) i j (row_with r) ≡ share q.plan.mode (R q.plan m) D i j r
     unfolding share gift
-    same-share i j r a = rw (same-D r.station, a (R q.plan m * R q.plan m) (r.station.x -ℤ pos (step * i)) (r.station.y -ℤ pos (step * j)))
+    same_share i j r a = rw (same_D r.station, a (R q.plan m * R q.plan m) (r.station.x -ℤ pos (step * i)) (r.station.y -ℤ pos (step * j)))
 
-    same-sums-at : (i j : ℕ) → sums_at other m (after other m) i j ≡ sums_at q m (after q m) i j
+    same_sums_at : (i j : ℕ) → sums_at other m (after other m) i j ≡ sums_at q m (after q m) i j
     unfolding sums_at R
-    same-sums-at i j =
+    same_sums_at i j =
         let there : Row → Sums = share mode (R q.plan m) (differences other (after other m)) i j in
         let here : Row → Sums = share q.plan.mode (R q.plan m) D i j in
         ap (total nothing plus there) judged_rows
-        ∙ totals_agree row_with there here (all_also AlikeRow (λ r. there (row_with r) ≡ here r) (same-share i j) judged_alike)
+        ∙ totals_agree row_with there here (all_also AlikeRow (λ r. there (row_with r) ≡ here r) (same_share i j) judged_alike)
 
-    same-sums : sums_at other m (after other m) ≡ sums_at q m (after q m)
-    same-sums = fun_ext (λ i. fun_ext (same-sums-at i))
+    same_sums : sums_at other m (after other m) ≡ sums_at q m (after q m)
+    same_sums = fun_ext (λ i. fun_ext (same_sums_at i))
 
     same_next : Same (suc m)
     unfolding after_within scan
     same_next =
         record {
-          field = ap (λ (z : Field ℤ). cond q.plan.smooth (smoothed q.nx q.ny z) z) same-corrected;
+          field = ap (λ (z : Field ℤ). cond q.plan.smooth (smoothed q.nx q.ny z) z) same_corrected;
           support =
-              ap (λ (g : Field Sums). λ i j. backed_by m (g i j) ((after other m).support i j)) same-sums
+              ap (λ (g : Field Sums). λ i j. backed_by m (g i j) ((after other m).support i j)) same_sums
               ∙ ap (λ (g : Field ℕ). λ i j. backed_by m (sums_at q m (after q m) i j) (g i j)) h.support;
           rows = judged_rows;
           alike = judged_alike;
         }
       where
-        same-corrected : corrected other m (after other m) ≡ corrected q m (after q m)
-        same-corrected =
+        same_corrected : corrected other m (after other m) ≡ corrected q m (after q m)
+        same_corrected =
             unfold corrected in
-            (ap (λ (g : Field Sums). λ i j. (after other m).field i j +ℤ correction q.plan.rule (g i j)) same-sums
+            (ap (λ (g : Field Sums). λ i j. (after other m).field i j +ℤ correction q.plan.rule (g i j)) same_sums
             ∙ ap (λ (z : Field ℤ). λ i j. z i j +ℤ correction q.plan.rule (sums_at q m (after q m) i j)) h.field)
 
   module _ (alike : All Alike q.stations) where
@@ -251,13 +251,13 @@ stronger_winds_change_no_answer q k some fair =
       where
         go : (is_no_wind w ≡ true) ⊎ (is_no_wind w ≡ false) → weight_at q.plan.mode r2 (strengthened k w) dx dy ≡ weight_at q.plan.mode r2 w dx dy
         go (inl e) = rw e
-        go (inr e) = rw e (stronger_wind-weighs_alike k some w dx dy q.plan.mode r2 (h e).0 (h e).1)
+        go (inr e) = rw e (stronger_wind_weighs_alike k some w dx dy q.plan.mode r2 (h e).0 (h e).1)
 
 sound_turned : (q : Request) → Sound q → analysis (with_winds q.plan.mode turned_about q) ≡ analysis q
 sound_turned q sound =
     rw (fun_ext same)
     (stronger_winds_change_no_answer q (negsuc 0) (omega arith)
-    (all_get_d (FairBoth (negsuc 0)) no_station q.stations (λ k h e. let f = (sound.stations k h).wind e in (f, turned-fair (get_or q.stations k no_station).wind f))))
+    (all_get_d (FairBoth (negsuc 0)) no_station q.stations (λ k h e. let f = (sound.stations k h).wind e in (f, turned_fair (get_or q.stations k no_station).wind f))))
   where
     same : (w : Wind) → turned_about w ≡ strengthened (negsuc 0) w
     same w = rw (turned_is w)

@@ -19,8 +19,8 @@ use Rattle.scheme.specs.Promises.{Settles, put_first, Stands}
 use Rattle.scheme.specs.OneOutcome.{both}
 use Rattle.scheme.specs.Accepted.{in_count, from_six, Formed, formed_sound, Fits}
 use Rattle.scheme.specs.Calls.{call_for, asks, refused_as_asked, equal_columns}
-use Rattle.scheme.specs.Places.{Tells, analysis_tells_refusal_and-place}
-use Rattle.scheme.specs.Decimals.{decimal-length}
+use Rattle.scheme.specs.Places.{Tells, analysis_tells_refusal_and_place}
+use Rattle.scheme.specs.Decimals.{decimal_length}
 use Rattle.scheme.specs.AnswerSize.{sound_answer_is_short}
 use Rattle.text_print.specs.Written.{Written}
 use Rattle.text_print.specs.Rows.{keyed_one}
@@ -38,9 +38,9 @@ pub record Tellable (refused nx ny : ℕ) (a : Analysis) (room : ℕ) : Type 0 w
   pub support : ny * nx ≡ length a.support
   pub all : refused ≡ 0 → length (analysis_text nx ny a) ≤ room
 
-pub told-all : (r nx ny : ℕ) (a : Analysis) → r ≡ 0 → told_text r nx ny a ≡ analysis_text nx ny a
-told-all zero nx ny a e = refl
-told-all (suc r) nx ny a e = absurd (omega arith)
+pub told_all : (r nx ny : ℕ) (a : Analysis) → r ≡ 0 → told_text r nx ny a ≡ analysis_text nx ny a
+told_all zero nx ny a e = refl
+told_all (suc r) nx ny a e = absurd (omega arith)
 
 pub told_refused : (r nx ny : ℕ) (a : Analysis) → (r ≡ 0 → ⊥) → told_text r nx ny a ≡ first_two (r / 65536) (r % 65536)
 told_refused zero nx ny a some = absurd (some refl)
@@ -48,8 +48,8 @@ told_refused (suc r) nx ny a some = refl
 
 -- ---- a text that was put at the start
 
-pub at-start : {n room : ℕ} → n ≤ room → 0 + n ≤ room
-at-start h = omega arith
+pub at_start : {n room : ℕ} → n ≤ room → 0 + n ≤ room
+at_start h = omega arith
 
 module _ (l : List ℕ) {t l' : List ℕ} {n : ℕ} where
   pub stands : length t ≤ length l → Written l 0 t l' n → Stands t l n l'
@@ -64,7 +64,7 @@ module _ (l : List ℕ) {t l' : List ℕ} {n : ℕ} where
 -- the first two lines are short
 line_short : (key : List ℕ) (n : ℕ) → n < 2 ^ 32 → length (keyed key decimal (n ∷ [])) ≤ length key + 11
 line_short key n h =
-    omega (arith, ap length (keyed_one decimal key n), length-append key (decimal n ++ (10 ∷ [])), length-append (decimal n) (10 ∷ []), decimal-length 9 n (omega arith))
+    omega (arith, ap length (keyed_one decimal key n), length-append key (decimal n ++ (10 ∷ [])), length-append (decimal n) (10 ∷ []), decimal_length 9 n (omega arith))
 
 pub two_short : (number place : ℕ) → number < 2 ^ 32 → place < 2 ^ 32 → length (first_two number place) ≤ 36
 unfolding first_two
@@ -130,7 +130,7 @@ module _ (q : Request) (formed : Formed q) where
       (sym (length-map q.stations (λ (s : Station). s.x)))
       ∙ ap (λ (p : Request). in_order (from_five p)) (asks q)
       ∙ five_accepts)
-      (analysis_tells_refusal_and-place (call_for q) (q.nx * q.ny) (q.nx * q.ny) (length q.stations))
+      (analysis_tells_refusal_and_place (call_for q) (q.nx * q.ny) (q.nx * q.ny) (length q.stations))
 
   module _ (found left : Analysis) (r : ℕ) (fits : Fits q (length found.grid) (length found.support) (length found.verdict))
       (p : Settles f (analysis q) found r left) where
@@ -161,7 +161,7 @@ module _ (q : Request) (formed : Formed q) where
     reply_told = go r refl
       where
         go : (m : ℕ) → r ≡ m → reply_text q ≡ told_text r q.nx q.ny left
-        go zero e = accepted_reply e ∙ sym (told-all r q.nx q.ny left e)
+        go zero e = accepted_reply e ∙ sym (told_all r q.nx q.ny left e)
         go (suc m) e = let some : r ≡ 0 → ⊥ = λ z. omega arith in refused_reply some ∙ sym (told_refused r q.nx q.ny left some)
 
     pub tellable : (room : ℕ) → room ≡ most_bytes → length left.grid ≡ length found.grid → length left.support ≡ length found.support → Tellable r q.nx q.ny left room

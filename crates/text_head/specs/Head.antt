@@ -32,7 +32,7 @@ head_then next = do
 pub record Limits (h : Head) : Type 0 where
   pub two_columns : least_side ≤ h.nx
   pub few_columns : h.nx ≤ most_side
-  pub two-rows : least_side ≤ h.ny
+  pub two_rows : least_side ≤ h.ny
   pub few_rows : h.ny ≤ most_side
   pub scans_some : 1 ≤ h.scans
   pub scans_few : h.scans ≤ most_scans

@@ -16,7 +16,7 @@ pub record SizeIs (s : List ℕ) (p : Parsed Size) (nx ny next : ℕ) : Type 0 w
   pub said : p ≡ reads (record { nx = nx; ny = ny }) (drop next s)
   pub two_columns : least_side ≤ nx
   pub few_columns : nx ≤ most_side
-  pub two-rows : least_side ≤ ny
+  pub two_rows : least_side ≤ ny
   pub few_rows : ny ≤ most_side
 
 abbrev pub Sizes : List ℕ → Parsed Size → SizeRead → Type 0

@@ -3,7 +3,7 @@ use Rattle.std.specs.Prelude.{ℕ, zero, suc, ◌+◌, ◌-◌, ◌≤◌, ◌<�
 use Rattle.std.proofs.Common.{arith, add-one, sym, ap, ◌∙◌, append_assoc, append-nil, take-suc-set, take_all}
 use Rattle.scheme.specs.Text.Reader.{fails, reads, onward, gives, ◌before◌}
 use Rattle.scheme.specs.Text.Pieces.{Piece, word, signed, mark, values}
-use Rattle.text_pieces.specs.Told.{Parsed, follows, before-told}
+use Rattle.text_pieces.specs.Told.{Parsed, follows, before_told}
 
 -- a value that has so many after it
 abbrev pub cell : ℕ → Piece ℤ
@@ -14,17 +14,17 @@ some_left zero h = absurd (h refl)
 some_left (suc more) h = refl
 
 -- such a value, as code reads it
-pub cell-told : {m r v : Parsed ℤ} (more b : ℕ) (bs : List ℕ) → b ≡ mark more → signed bs ≡ m → follows m (word (b ∷ [])) ≡ r → r ≡ v → cell more bs ≡ v
-cell-told more b bs e f g h = ap (λ (x : ℕ). (signed before word (x ∷ [])) bs) (sym e) ∙ before-told (word (b ∷ [])) f g h
+pub cell_told : {m r v : Parsed ℤ} (more b : ℕ) (bs : List ℕ) → b ≡ mark more → signed bs ≡ m → follows m (word (b ∷ [])) ≡ r → r ≡ v → cell more bs ≡ v
+cell_told more b bs e f g h = ap (λ (x : ℕ). (signed before word (x ∷ [])) bs) (sym e) ∙ before_told (word (b ∷ [])) f g h
 
 -- values that were read before others
 abbrev pub prefixed : List ℤ → Parsed (List ℤ) → Parsed (List ℤ)
 prefixed l (fails none) = fails none
 prefixed l (reads vs rest) = reads (l ++ vs) rest
 
-prefixed-twice : (l m : List ℤ) (p : Parsed (List ℤ)) → prefixed l (prefixed m p) ≡ prefixed (l ++ m) p
-prefixed-twice l m (fails none) = refl
-prefixed-twice l m (reads vs rest) = ap (λ (k : List ℤ). reads k rest) (sym (append_assoc l m vs))
+prefixed_twice : (l m : List ℤ) (p : Parsed (List ℤ)) → prefixed l (prefixed m p) ≡ prefixed (l ++ m) p
+prefixed_twice l m (fails none) = refl
+prefixed_twice l m (reads vs rest) = ap (λ (k : List ℤ). reads k rest) (sym (append_assoc l m vs))
 
 values_more : (more : ℕ) (bs rest : List ℕ) (v : ℤ) → cell more bs ≡ reads v rest → values (suc more) bs ≡ prefixed (v ∷ []) (values more rest)
 unfolding values
@@ -55,11 +55,11 @@ module _ (s whole : List ℕ) (n i p : ℕ) (z : List ℤ) (long : length z ≡ 
   values_turn q v e =
       next_value
       ∙ ap (prefixed (take i z)) (values_more (n - (i + 1)) (drop p s) (drop q s) v (cell-of ∙ e))
-      ∙ prefixed-twice (take i z) (v ∷ []) (values (n - (i + 1)) (drop q s))
+      ∙ prefixed_twice (take i z) (v ∷ []) (values (n - (i + 1)) (drop q s))
       ∙ ap (λ (l : List ℤ). prefixed l (values (n - (i + 1)) (drop q s))) (sym (ap (λ (j : ℕ). take j (set z i v)) (add-one i) ∙ take-suc-set z i v h))
 
-  pub values-off : cell (length z - 1 - i) (drop p s) ≡ fails tt → values n whole ≡ fails tt
-  values-off e = next_value ∙ ap (prefixed (take i z)) (values_stop (n - (i + 1)) (drop p s) (cell-of ∙ e))
+  pub values_off : cell (length z - 1 - i) (drop p s) ≡ fails tt → values n whole ≡ fails tt
+  values_off e = next_value ∙ ap (prefixed (take i z)) (values_stop (n - (i + 1)) (drop p s) (cell-of ∙ e))
 
 pub values_begin : (n : ℕ) (whole : List ℕ) (z : List ℤ) → values n whole ≡ prefixed (take 0 z) (values (n - 0) whole)
 values_begin n whole z = let e : n ≡ n - 0 = omega arith in ap (λ (k : ℕ). values k whole) e ∙ go (values (n - 0) whole)

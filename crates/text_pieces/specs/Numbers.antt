@@ -29,9 +29,9 @@ least : (a : ℕ) → a ≤ most → (rest : List ℕ) → capped (reads a rest)
 least a h rest = let e : min a most ≡ a = omega arith in ap (λ (n : ℕ). reads n rest) e
 
 module _ (s : List ℕ) (i : ℕ) where
-  pub digits-end : (a : ℕ) → a ≤ most → length s ≤ i → capped (digits a (drop i s)) ≡ reads a (drop i s)
+  pub digits_end : (a : ℕ) → a ≤ most → length s ≤ i → capped (digits a (drop i s)) ≡ reads a (drop i s)
   unfolding digits
-  digits-end a f h = rw (drop_of_length-le s h) (least a f [])
+  digits_end a f h = rw (drop_of_length-le s h) (least a f [])
 
   pub digits_stop : (a : ℕ) → a ≤ most → i < length s → is_digit (get_or s i 0) ≡ false → capped (digits a (drop i s)) ≡ reads a (drop i s)
   unfolding digits
@@ -42,10 +42,10 @@ module _ (s : List ℕ) (i : ℕ) where
   digits_next a h e = rw (add-one i, drop-cons s i 0 h, e, digits)
 
 -- numbers that are not told apart stay so, whatever digits follow
-digits-capped : (a b : ℕ) (bs : List ℕ) → min a most ≡ min b most → capped (digits a bs) ≡ capped (digits b bs)
+digits_capped : (a b : ℕ) (bs : List ℕ) → min a most ≡ min b most → capped (digits a bs) ≡ capped (digits b bs)
 unfolding digits
-digits-capped a b [] e = ap (λ (n : ℕ). reads n []) e
-digits-capped a b (x ∷ bs) e = go (is_digit x) (digits-capped (10 * a + (x - 48)) (10 * b + (x - 48)) bs (omega arith))
+digits_capped a b [] e = ap (λ (n : ℕ). reads n []) e
+digits_capped a b (x ∷ bs) e = go (is_digit x) (digits_capped (10 * a + (x - 48)) (10 * b + (x - 48)) bs (omega arith))
   where
     go : (t : Bool) → capped (digits (10 * a + (x - 48)) bs) ≡ capped (digits (10 * b + (x - 48)) bs)
         → capped (elim t [ true ↦ digits (10 * a + (x - 48)) bs | false ↦ reads a (x ∷ bs) ]) ≡ capped (elim t [ true ↦ digits (10 * b + (x - 48)) bs | false ↦ reads b (x ∷ bs) ])
@@ -56,7 +56,7 @@ digits-capped a b (x ∷ bs) e = go (is_digit x) (digits-capped (10 * a + (x - 4
 pub digits_more : (s : List ℕ) (i a v : ℕ) → i < length s → is_digit (get_or s i 0) ≡ true → v ≡ min (10 * a + (get_or s i 0 - 48)) most
     → capped (digits v (drop (i + 1) s)) ≡ capped (digits a (drop i s))
 digits_more s i a v h e w =
-    digits-capped v (10 * a + (get_or s i 0 - 48)) (drop (i + 1) s) (omega arith) ∙ ap capped (sym (digits_next s i a h e))
+    digits_capped v (10 * a + (get_or s i 0 - 48)) (drop (i + 1) s) (omega arith) ∙ ap capped (sym (digits_next s i a h e))
 
 -- ---- a number of any length
 
@@ -81,13 +81,13 @@ module _ (s : List ℕ) (at : ℕ) where
   unfolding positive natural word
   natural_none h = rw (drop_of_length-le s h)
 
-  pub natural-zero : at < length s → get_or s at 0 ≡ 48 → natural (drop at s) ≡ reads 0 (drop (at + 1) s)
+  pub natural_zero : at < length s → get_or s at 0 ≡ 48 → natural (drop at s) ≡ reads 0 (drop (at + 1) s)
   unfolding positive natural word
-  natural-zero h e = rw (add-one at, drop-cons s at 0 h, e)
+  natural_zero h e = rw (add-one at, drop-cons s at 0 h, e)
 
-  pub natural-other : at < length s → (get_or s at 0 ≡ 48 → ⊥) → natural (drop at s) ≡ positive (drop at s)
+  pub natural_other : at < length s → (get_or s at 0 ≡ 48 → ⊥) → natural (drop at s) ≡ positive (drop at s)
   unfolding natural
-  natural-other h n = rw (byte_other 48 s at h n, ◌or◌)
+  natural_other h n = rw (byte_other 48 s at h n, ◌or◌)
 
 -- ---- its range
 
@@ -100,10 +100,10 @@ unfolding between
 between_over low high n rest h = rw (lt-leb n high h, and-false (leb low n), between)
 
 -- a number that is not told apart from 2^32 lies in no range of a u32
-pub between-capped : (low high : ℕ) (p : Parsed ℕ) → high < most → onward p (between low high) ≡ onward (capped p) (between low high)
+pub between_capped : (low high : ℕ) (p : Parsed ℕ) → high < most → onward p (between low high) ≡ onward (capped p) (between low high)
 unfolding between
-between-capped low high (fails none) h = refl
-between-capped low high (reads n rest) h = go (lt_or_le high n)
+between_capped low high (fails none) h = refl
+between_capped low high (reads n rest) h = go (lt_or_le high n)
   where
     go : (high < n) ⊎ (n ≤ high) → between low high n rest ≡ between low high (min n most) rest
     go (inl k) = between_over low high n rest k ∙ sym (between_over low high (min n most) rest (omega arith))
@@ -127,7 +127,7 @@ lies_nowhere e = record { said = λ s. rw e; within = tt }
 -- a number of any length, and then its range
 module _ {low high : ℕ} {n : NaturalRead} {r : UnsignedRead} (l : Lies n low high r) (h : high < most) where
   pub ranged : (s : List ℕ) (p : Parsed ℕ) → capped p ≡ natural_told s n → onward p (between low high) ≡ unsigned_told s r
-  ranged s p e = between-capped low high p h ∙ ap (λ (x : Parsed ℕ). onward x (between low high)) e ∙ l.said s
+  ranged s p e = between_capped low high p h ∙ ap (λ (x : Parsed ℕ). onward x (between low high)) e ∙ l.said s
 
 -- ---- an i32
 
@@ -140,17 +140,17 @@ module _ (s : List ℕ) (at : ℕ) where
   unfolding signed count between natural positive word
   signed_minus h e = rw (add-one at, drop-cons s at 0 h, e)
 
-  pub signed-count : {n : ℕ} {rest : List ℕ} → count 0 (2 ^ 31 - 1) (drop at s) ≡ reads n rest → signed (drop at s) ≡ reads (pos n) rest
+  pub signed_count : {n : ℕ} {rest : List ℕ} → count 0 (2 ^ 31 - 1) (drop at s) ≡ reads n rest → signed (drop at s) ≡ reads (pos n) rest
   unfolding signed
-  signed-count e = rw (e, ◌or◌)
+  signed_count e = rw (e, ◌or◌)
 
-  pub signed-other : at < length s → (get_or s at 0 ≡ 45 → ⊥) → count 0 (2 ^ 31 - 1) (drop at s) ≡ fails tt → signed (drop at s) ≡ fails tt
+  pub signed_other : at < length s → (get_or s at 0 ≡ 45 → ⊥) → count 0 (2 ^ 31 - 1) (drop at s) ≡ fails tt → signed (drop at s) ≡ fails tt
   unfolding signed
-  signed-other h n e = rw (e, ◌or◌, byte_other 45 s at h n)
+  signed_other h n e = rw (e, ◌or◌, byte_other 45 s at h n)
 
-  pub negative-count : {n : ℕ} {rest : List ℕ} → onward (positive (drop at s)) (between 0 (2 ^ 31)) ≡ reads n rest → negative (drop at s) ≡ reads (neg_ℤ (pos n)) rest
+  pub negative_count : {n : ℕ} {rest : List ℕ} → onward (positive (drop at s)) (between 0 (2 ^ 31)) ≡ reads n rest → negative (drop at s) ≡ reads (neg_ℤ (pos n)) rest
   unfolding negative
-  negative-count e = rw e
+  negative_count e = rw e
 
   pub negative_none : onward (positive (drop at s)) (between 0 (2 ^ 31)) ≡ fails tt → negative (drop at s) ≡ fails tt
   unfolding negative
@@ -165,11 +165,11 @@ module _ (v : ℕ) (h : v ≤ 2 ^ 31) where
   less : pos 0 -ℤ to_z w64 v ≡ neg_ℤ (pos v)
   less = let k : v < 2 ^ 63 = omega arith in rw (to_z_pos w64 k) (+ℤ_idl (neg_ℤ (pos v)))
 
-  pub neg-wide : SFits w64 (pos 0 -ℤ to_z w64 v)
-  neg-wide = rw less (neg_fits w64 v (omega arith))
+  pub neg_wide : SFits w64 (pos 0 -ℤ to_z w64 v)
+  neg_wide = rw less (neg_fits w64 v (omega arith))
 
   back : to_z w64 (of_z w64 (pos 0 -ℤ to_z w64 v)) ≡ neg_ℤ (pos v)
-  back = to_z-of_z neg-wide ∙ less
+  back = to_z-of_z neg_wide ∙ less
 
   pub neg_narrow : SFits w32 (to_z w64 (of_z w64 (pos 0 -ℤ to_z w64 v)))
   neg_narrow = rw back (neg_fits w32 v h)

@@ -56,5 +56,5 @@ pub record Lies (n : NaturalRead) (low high : ℕ) (r : UnsignedRead) : Type 0 w
 -- ---- laws
 
 -- a piece that was read, and then what must follow it, as code reads them
-pub before-told : {A B : Type 0} {p m r v : Parsed A} (q : Piece B) → p ≡ m → follows m q ≡ r → r ≡ v → follows p q ≡ v
-before-told {A = A} q e f g = ap (λ (x : Parsed A). follows x q) e ∙ f ∙ g
+pub before_told : {A B : Type 0} {p m r v : Parsed A} (q : Piece B) → p ≡ m → follows m q ≡ r → r ≡ v → follows p q ≡ v
+before_told {A = A} q e f g = ap (λ (x : Parsed A). follows x q) e ∙ f ∙ g

@@ -16,9 +16,9 @@ module _ (key s : List ℕ) (i p : ℕ) where
   unfolding word
   word_short h k = rw (drop_of_length-le s k, drop-cons key i 0 h)
 
-  pub word-other : i < length key → p < length s → (get_or s p 0 ≡ get_or key i 0 → ⊥) → word (drop i key) (drop p s) ≡ fails tt
+  pub word_other : i < length key → p < length s → (get_or s p 0 ≡ get_or key i 0 → ⊥) → word (drop i key) (drop p s) ≡ fails tt
   unfolding word
-  word-other h k n = rw (drop-cons s p 0 k, drop-cons key i 0 h, ne_eqb _ _ n, word)
+  word_other h k n = rw (drop-cons s p 0 k, drop-cons key i 0 h, ne_eqb _ _ n, word)
 
   pub word_more : i < length key → p < length s → get_or s p 0 ≡ get_or key i 0 → word (drop (i + 1) key) (drop (p + 1) s) ≡ word (drop i key) (drop p s)
   unfolding word

@@ -49,10 +49,10 @@ module _ {A : Type 0} (shown : A → List ℕ) where
   cells_done zs i h = rw (drop_of_length-le zs h)
 
   -- a line with values is its key and their row
-  pub keyed-cells : (key : List ℕ) (zs : List A) → 0 < length zs → keyed key shown zs ≡ key ++ cells shown zs
+  pub keyed_cells : (key : List ℕ) (zs : List A) → 0 < length zs → keyed key shown zs ≡ key ++ cells shown zs
   unfolding keyed
-  keyed-cells key [] h = absurd (omega arith)
-  keyed-cells key (z ∷ zs) h = refl
+  keyed_cells key [] h = absurd (omega arith)
+  keyed_cells key (z ∷ zs) h = refl
 
   pub keyed_none : (key : List ℕ) (zs : List A) → length zs ≡ 0 → keyed key shown zs ≡ key ++ (10 ∷ [])
   unfolding keyed

@@ -13,10 +13,10 @@ module _ (z : ℤ) (f : SFits w32 z) where
   wide : (y : ℤ) → SFits w32 y → SFits w64 y
   wide y g = record { sfits = omega (arith, g.sfits) }
 
-  neg-wide : (y : ℤ) → SFits w32 y → SFits w64 (neg_ℤ y)
-  neg-wide (pos zero) g = record { sfits = lit< tt }
-  neg-wide (pos (suc n)) g = record { sfits = omega (arith, g.sfits) }
-  neg-wide (negsuc n) g = record { sfits = omega (arith, g.sfits) }
+  neg_wide : (y : ℤ) → SFits w32 y → SFits w64 (neg_ℤ y)
+  neg_wide (pos zero) g = record { sfits = lit< tt }
+  neg_wide (pos (suc n)) g = record { sfits = omega (arith, g.sfits) }
+  neg_wide (negsuc n) g = record { sfits = omega (arith, g.sfits) }
 
   pub kept : SFits w64 (to_z w32 (of_z w32 z))
   kept = rw (to_z-of_z f) (wide z f)
@@ -25,7 +25,7 @@ module _ (z : ℤ) (f : SFits w32 z) where
   less = ap (λ (y : ℤ). pos 0 -ℤ y) (to_z-of_z kept ∙ to_z-of_z f) ∙ +ℤ_idl (neg_ℤ z)
 
   pub less_fits : SFits w64 (pos 0 -ℤ to_z w64 (of_z w64 (to_z w32 (of_z w32 z))))
-  less_fits = rw less (neg-wide z f)
+  less_fits = rw less (neg_wide z f)
 
   pub negated : to_z w64 (of_z w64 (pos 0 -ℤ to_z w64 (of_z w64 (to_z w32 (of_z w32 z))))) ≡ neg_ℤ z
   negated = to_z-of_z less_fits ∙ less

@@ -7,7 +7,7 @@ use Rattle.scheme.specs.Text.{most_bytes, request_lines, first_two, reply_text, 
 use Rattle.scheme.specs.Most.{most_points}
 use Rattle.scheme.specs.Accepted.{Formed}
 use Rattle.request.specs.Tables.{station_in, request_in}
-use Rattle.request.specs.Loaded.{Held, same_refusal, same-analysis}
+use Rattle.request.specs.Loaded.{Held, same_refusal, same_analysis}
 use Rattle.text_head.specs.declared.Head.{Head}
 use Rattle.text_head.specs.declared.Buddy.{Buddy}
 use Rattle.text_head.specs.Head.{Limits, terms_read}
@@ -66,7 +66,7 @@ module _ (guess radius limit : List ℤ) (numbers : List (List ℤ)) (minutes : 
               record {
                 two_columns = limits.two_columns;
                 few_columns = limits.few_columns;
-                two-rows = limits.two-rows;
+                two_rows = limits.two_rows;
                 few_rows = limits.few_rows;
                 whole = length-take-le (h.ny * h.nx) guess (inside h guess limits points) ∙ mul_comm h.ny h.nx;
               };
@@ -100,7 +100,7 @@ module _ (guess radius limit : List ℤ) (numbers : List (List ℤ)) (minutes : 
           five_accepts (request_read guess radius limit numbers minutes h b n) formed_read,
           five_accepts (request_in (terms_read h b n radius limit) front numbers minutes) formed,
           same_refusal held,
-          same-analysis held,
+          same_analysis held,
         )
 
     pub in-form : (read : RequestRead) → read ≡ Value h b n

@@ -15,9 +15,9 @@ led_none : {A : Type 0} (r : Read (List A)) → r ≡ led [] r
 led_none (fails k) = refl
 led_none (reads vs left) = refl
 
-led-twice : {A : Type 0} (l m : List A) (r : Read (List A)) → led l (led m r) ≡ led (l ++ m) r
-led-twice l m (fails k) = refl
-led-twice {A = A} l m (reads vs left) = ap (λ (w : List A). reads w left) (sym (append_assoc l m vs))
+led_twice : {A : Type 0} (l m : List A) (r : Read (List A)) → led l (led m r) ≡ led (l ++ m) r
+led_twice l m (fails k) = refl
+led_twice {A = A} l m (reads vs left) = ap (λ (w : List A). reads w left) (sym (append_assoc l m vs))
 
 module _ {A : Type 0} (F : ℕ → Text (List A)) (s whole : List ℕ) (n first : ℕ) where
   -- i lines read, which said l, up to place p
@@ -42,7 +42,7 @@ module _ {A : Type 0} (F : ℕ → Text (List A)) (s whole : List ℕ) (n first 
         let k : suc (first + i) ≡ first + (i + 1) = omega arith in
         next
         ∙ ap (led l) (more (n - (i + 1)) (first + i))
-        ∙ led-twice l vs (F (n - (i + 1)) (suc (first + i), drop q s))
+        ∙ led_twice l vs (F (n - (i + 1)) (suc (first + i), drop q s))
         ∙ ap (λ (w : List A). led w (F (n - (i + 1)) (suc (first + i), drop q s))) (sym e)
         ∙ ap (λ (j : ℕ). led l' (F (n - (i + 1)) (j, drop q s))) k
 

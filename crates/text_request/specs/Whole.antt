@@ -119,13 +119,13 @@ pub record RequestIs (s : List ℕ) (guess radius limit : List ℤ) (numbers : L
 
 -- ---- a part after another
 
-told-onward : {A B : Type 0} (s : List ℕ) (l : LinesRead) (k : ℕ) (a : A) (next : A → Text B) → onward (lines_told s a k l) next ≡ lines_after s l k (next a)
-told-onward s (Next p) k a next = refl
-told-onward s (NotLines j) k a next = refl
+told_onward : {A B : Type 0} (s : List ℕ) (l : LinesRead) (k : ℕ) (a : A) (next : A → Text B) → onward (lines_told s a k l) next ≡ lines_after s l k (next a)
+told_onward s (Next p) k a next = refl
+told_onward s (NotLines j) k a next = refl
 
 part : {A B : Type 0} (s : List ℕ) (l : LinesRead) (p k j : ℕ) (t : Text A) (a : A) (next : A → Text B) → t (k, drop p s) ≡ lines_told s a j l
     → (t >>= next) (k, drop p s) ≡ lines_after s l j (next a)
-part {A = A} s l p k j t a next e = ap (λ (r : Read A). onward r next) e ∙ told-onward s l j a next
+part {A = A} s l p k j t a next e = ap (λ (r : Read A). onward r next) e ∙ told_onward s l j a next
 
 -- ---- the stations
 

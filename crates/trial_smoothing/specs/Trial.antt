@@ -8,7 +8,7 @@ use mathlib.Core.List.{List, [], ◌∷◌}
 use Rattle.std.proofs.lemmas.Bool.{not-true, not-false}
 use Rattle.lists.specs.Tests.{and_true}
 use Rattle.lists.specs.First.{Good}
-use Rattle.lists.specs.Members.{every, every-at}
+use Rattle.lists.specs.Members.{every, every_at}
 use Rattle.scheme.specs.Units.{among_ℤ, stored, field_of}
 use Rattle.scheme.specs.Smoothing.{smoothed}
 use Rattle.scheme.specs.Most.{most_field}
@@ -34,10 +34,10 @@ module _ {A : Type 0} (p : A → Bool) (o : A) where
   abbrev pub bad_at : List A → ℕ → Bool
   bad_at l k = not (p (get_or l k o))
 
-  pub every-good : (l : List A) → Good (length l) (bad_at l) → every p l ≡ true
+  pub every_good : (l : List A) → Good (length l) (bad_at l) → every p l ≡ true
   unfolding every
-  every-good [] h = refl
-  every-good (a ∷ l) h = rw (not-false (p a) (h 0 (omega arith)), every-good l (λ k e. h (suc k) (omega arith)))
+  every_good [] h = refl
+  every_good (a ∷ l) h = rw (not-false (p a) (h 0 (omega arith)), every_good l (λ k e. h (suc k) (omega arith)))
 
   pub every_bad : (l : List A) (k : ℕ) → k < length l → bad_at l k ≡ true → every p l ≡ false
   unfolding every
@@ -53,8 +53,8 @@ fair_small : (v : ℤ) → fair v ≡ true → nat_abs v ≤ most_field
 fair_small (pos n) e = leb-true n most_field e
 fair_small (negsuc n) e = let h : n ≤ most_field - 1 = leb-true n (most_field - 1) (and_true (leb n (most_field - 1)) true e).0 in omega arith
 
-pub all-fair_small : (l : List ℤ) → every fair l ≡ true → Small l
-all-fair_small l e k = fair_small (get_or l k (pos 0)) (every-at fair (pos 0) refl l e k)
+pub all_fair_small : (l : List ℤ) → every fair l ≡ true → Small l
+all_fair_small l e k = fair_small (get_or l k (pos 0)) (every_at fair (pos 0) refl l e k)
 
 -- ---- the three outcomes
 

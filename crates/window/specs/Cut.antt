@@ -9,7 +9,7 @@ use Rattle.scheme.specs.Reach.{reach, widened, cut_of, window_of, cut, whole_at}
 use Rattle.scheme.specs.Accepted.{same_shape, Stationed, no_station, Sound, FitsWindow, OnGrid}
 use Rattle.scheme.specs.Stored.{stored_same}
 use Rattle.scheme.specs.Cut.{cut_sound}
-use Rattle.scheme.specs.Windows.{OfWindow, window-value, window_support}
+use Rattle.scheme.specs.Windows.{OfWindow, window_value, window_support}
 use Rattle.request.specs.declared.Terms.{Terms}
 use Rattle.request.specs.Tables.{station_of, station_in, request_in}
 use Rattle.window_spans.specs.Spans.{Placed}
@@ -57,9 +57,9 @@ module _ {q : Request} (sound : Sound q) {w : Window} (on : OnGrid q.nx q.ny w) 
         bottom = omega (arith, down.inside, sound.shape.few_rows);
       }
 
-  pub guess-part : (m : ℕ) → m ≡ points_along here.columns * points_along here.rows
+  pub guess_part : (m : ℕ) → m ≡ points_along here.columns * points_along here.rows
       → PartReady m (length q.first_guess) q.nx here.columns.first here.rows.first (points_along here.columns) (points_along here.rows)
-  guess-part m long =
+  guess_part m long =
       part_ready sound.shape (omega (arith, across.first, across.ordered, across.last, across.inside))
       (omega (arith, down.first, down.ordered, down.last, down.inside)) m long
 
@@ -87,10 +87,10 @@ module _ (q : Request) (w : Window) (sound : Sound q) (on : OnGrid q.nx q.ny w) 
           (record { left = omega arith; right = omega (arith, on.across); top = omega arith; bottom = omega (arith, on.down) }))
 
   -- DEMAND 3: the analysis of the cut gives the window the numbers of the whole grid
-  pub cut-whole : whole_at (cut q w) (moved_on (cut_of q w) w) ≡ whole_at q w
+  pub cut_whole : whole_at (cut q w) (moved_on (cut_of q w) w) ≡ whole_at q w
   unfolding whole_at
-  cut-whole =
-      let v = window_same (at_end (cut q w)).field (at_end q).field (unfold cut in window-value q w sound on) in
+  cut_whole =
+      let v = window_same (at_end (cut q w)).field (at_end q).field (unfold cut in window_value q w sound on) in
       let b = window_same (at_end (cut q w)).support (at_end q).support (unfold cut in window_support q w sound on) in
       cc
 
@@ -160,4 +160,4 @@ module _ (t : Terms) (guessed : List ℤ) (numbers : List (List ℤ)) (minutes :
           )
 
       pub cut_answers : whole_at (request_in t' part kept times) w' ≡ whole_at whole w
-      cut_answers = ap₂ whole_at is_cut (window ∙ ap (λ (v : Window). moved_on v w) e) ∙ cut-whole whole w sound on
+      cut_answers = ap₂ whole_at is_cut (window ∙ ap (λ (v : Window). moved_on v w) e) ∙ cut_whole whole w sound on

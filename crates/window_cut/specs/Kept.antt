@@ -5,7 +5,7 @@ use Rattle.std.proofs.Math.Path.{refl, ap}
 use Rattle.std.proofs.Math.Bool.{true, false}
 use mathlib.Core.List.{List, [], ◌∷◌, ◌++◌, map}
 use Rattle.std.proofs.Math.Seq.{get_or-set_same}
-use Rattle.lists.specs.Tab.{tab, tab-same, tab_more}
+use Rattle.lists.specs.Tab.{tab, tab_same, tab_more}
 use Rattle.lists.specs.Keep.{keep}
 use Rattle.scheme.specs.Units.{most_side, most_stations, Station}
 use Rattle.scheme.specs.Refusals.{Window}
@@ -80,7 +80,7 @@ module _ (t : Terms) (w : Window) (numbers : List (List ℤ)) (minutes : List (L
         rw (get_or-set_same kept m row [] (omega (arith, p.kept_long)), get_or-set_same times m stamps [] (omega (arith, p.times_long)), e)
 
     before : tab m (station_in kept' times') ≡ map (counted w) (keep (on_window t.nx t.ny w) (tab k (station_in numbers minutes)))
-    before = tab-same m (station_in kept' times') (station_in kept times) put_other ∙ p.stations
+    before = tab_same m (station_in kept' times') (station_in kept times) put_other ∙ p.stations
 
     next : (b : Bool) → on_window t.nx t.ny w here ≡ b → Kept t w numbers minutes kept' times' (k + 1) (m + cond b 1 0)
     next true q =

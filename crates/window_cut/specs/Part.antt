@@ -104,8 +104,8 @@ module _ {A : Type 0} (past : A) (across column row wide high : ℕ) (from : Lis
           let s : (row + j) * across + column + i ≡ (j + row) * across + (i + column) = omega (arith, ap (λ (n : ℕ). n * across) (add_comm row j)) in
           rw (a, b) (ap (λ (n : ℕ). get_or from n past) s)
 
-  pub part-all : (to₀ to : List A) → length to₀ ≡ wide * high → Filled past part_at 0 (high * wide) to₀ to → to ≡ stored wide high (part_of past across column row from)
+  pub part_all : (to₀ to : List A) → length to₀ ≡ wide * high → Filled past part_at 0 (high * wide) to₀ to → to ≡ stored wide high (part_of past across column row from)
   unfolding stored
-  part-all to₀ to e p =
+  part_all to₀ to e p =
       let h = rw (mul_comm high wide) at p in
       filled_all past part_at (wide * high) to₀ to e h

@@ -26,9 +26,9 @@ module _ (p : Plan) where
   reach_next m t s et es = rw (et, es) (sym (up_to_next 0 ◌+◌ m _))
 
   -- all scans
-  pub reach-all : (m t : ℕ) → m ≡ p.scans → t ≡ up_to 0 ◌+◌ m (steps p) → t ≡ reach p
+  pub reach_all : (m t : ℕ) → m ≡ p.scans → t ≡ up_to 0 ◌+◌ m (steps p) → t ≡ reach p
   unfolding reach
-  reach-all m t e h = h ∙ ap (λ (n : ℕ). up_to 0 ◌+◌ n (steps p)) e
+  reach_all m t e h = h ∙ ap (λ (n : ℕ). up_to 0 ◌+◌ n (steps p)) e
 
 -- what smoothing adds
 pub one_most : (b : Bool) → cond b 1 0 ≤ 1

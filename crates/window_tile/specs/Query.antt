@@ -44,9 +44,9 @@ tile_long nx values bits w =
     }
 
 -- a slice of the grid has it
-pub window-part : {nx ny n : ℕ} → Shaped nx ny n → (w : Window) → OnGrid nx ny w → (m : ℕ) → m ≡ points_of w
+pub window_part : {nx ny n : ℕ} → Shaped nx ny n → (w : Window) → OnGrid nx ny w → (m : ℕ) → m ≡ points_of w
     → PartReady m n nx w.columns.first w.rows.first (points_along w.columns) (points_along w.rows)
-window-part s w on m e = part_ready s (omega (arith, on.across, on.right)) (omega (arith, on.down, on.bottom)) m e
+window_part s w on m e = part_ready s (omega (arith, on.across, on.right)) (omega (arith, on.down, on.bottom)) m e
 
 module _ (q : Request) (w : Window) (on : OnGrid q.nx q.ny w) where
   window-of : {A : Type 0} (past : A) (f : Field A) (l : List A) → l ≡ stored q.nx q.ny f

@@ -3,7 +3,7 @@ use Rattle.std.specs.Prelude.{ℕ, ◌+◌, ◌*◌, ◌≤◌, ◌<◌, ◌≡�
 use Rattle.std.proofs.Common.{arith, le_trans, mul-le-mul_right, sym, ap, ap₂, ◌∙◌, append-nil, length-drop, length-take-le}
 use Rattle.lists.specs.Tab.{tab}
 use Rattle.lists.specs.Sums.{total, up_to, up_to_next}
-use Rattle.lists.specs.Turns.{sum_to, join_to, sum-tab, join_tab, sum-most, sum_room, Written, written_none, written_more, written_all}
+use Rattle.lists.specs.Turns.{sum_to, join_to, sum_tab, join_tab, sum_most, sum_room, Written, written_none, written_more, written_all}
 use Rattle.scheme.specs.Units.{Request}
 use Rattle.scheme.specs.Refusals.{Window, most_windows, points_along, points_of, points_of_all}
 use Rattle.scheme.specs.Reach.{window_of, Tile, whole_at, in_turn}
@@ -21,8 +21,8 @@ points_before s k = sum_to k (λ m. points_of (window_no s m))
 -- of windows on a grid they are few, all together
 pub all_few : {nx ny len : ℕ} → Shaped nx ny len → (s : Screen) → OnScreen nx ny s → points_of_all (windows_in s) ≤ most_windows * most_points
 all_few shape s on =
-    rw (sum-tab points_of s.count (window_no s))
-    (le_trans (sum-most most_points s.count _ (λ k h. few_points (on.on k h) shape.few_columns shape.few_rows)) (mul-le-mul_right most_points on.few))
+    rw (sum_tab points_of s.count (window_no s))
+    (le_trans (sum_most most_points s.count _ (λ k h. few_points (on.on k h) shape.few_columns shape.few_rows)) (mul-le-mul_right most_points on.few))
 
 -- a screen of one window
 module _ (s : Screen) {w : Window} (one : (s.count ≡ 1) × (window_no s 0 ≡ w)) where
@@ -70,12 +70,12 @@ module _ (has : Window → Tile) (long : (w : Window) → FitsWindow w (length (
   turned_none grid support = record { at_is = refl; grid_so = written_none grid; support_so = written_none support }
 
   module _ {g u : ℕ} (fits : FitsScreen (windows_in s) g u) where
-    all-points : points_of_all (windows_in s) ≡ points_before s s.count
-    all-points = sum-tab points_of s.count (window_no s)
+    all_points : points_of_all (windows_in s) ≡ points_before s s.count
+    all_points = sum_tab points_of s.count (window_no s)
 
     -- the next window has room
     pub room : (k : ℕ) → k < s.count → points_before s k + points_of (window_no s k) ≤ points_of_all (windows_in s)
-    room k h = rw all-points (sum_room s.count k (λ m. points_of (window_no s m)) h)
+    room k h = rw all_points (sum_room s.count k (λ m. points_of (window_no s m)) h)
 
     module _ {k at m : ℕ} {grid : List ℤ} {support : List ℕ} (t : Turned g u k at grid support) (h : k < s.count) (points : m ≡ points_of (window_no s k)) where
       -- its points are the m from `at` on
@@ -110,10 +110,10 @@ module _ (has : Window → Tile) (long : (w : Window) → FitsWindow w (length (
           }
 
     -- all windows
-    pub turned-all : {k at : ℕ} {grid : List ℤ} {support : List ℕ} → Turned g u k at grid support → k ≡ s.count
+    pub turned_all : {k at : ℕ} {grid : List ℤ} {support : List ℕ} → Turned g u k at grid support → k ≡ s.count
         → tile grid support ≡ in_turn has (windows_in s)
-    turned-all {k} {at} {grid} {support} t e =
-        let end : at ≡ points_of_all (windows_in s) = t.at_is ∙ ap (points_before s) e ∙ sym all-points in
+    turned_all {k} {at} {grid} {support} t e =
+        let end : at ≡ points_of_all (windows_in s) = t.at_is ∙ ap (points_before s) e ∙ sym all_points in
         let a = written_all t.grid_so (end ∙ sym fits.grid_long) ∙ ap grid_to e ∙ sym (join_tab (λ w. (has w).grid) s.count (window_no s)) in
         let b = written_all t.support_so (end ∙ sym fits.support_long) ∙ ap support_to e ∙ sym (join_tab (λ w. (has w).support) s.count (window_no s)) in
         cc

@@ -4,7 +4,7 @@ use native.Mathlib.Nat.{mul-le-mul}
 use borrow.Author.Rules.{rules}
 use mathlib.Core.Path.{sym, ◌∙◌}
 use Rattle.scheme.specs.Accepted.{shaped}
-use Rattle.refusal.specs.Coded.{refused_here, not-here}
+use Rattle.refusal.specs.Coded.{refused_here, not_here}
 use Rattle.refusal.proofs.of_lengths.Goals as goal
 
 pub returns-then-shape_bad : goal.returns-then-shape_bad
@@ -20,12 +20,12 @@ pub returns-then-lengths_bad : goal.returns-then-lengths_bad
 returns-then-lengths_bad c =
     let three = c.before.before in
     let one = three.before.before in
-    not-here 1 _ _ one.before.shape_bad.ensures one.if-shape_bad.false
+    not_here 1 _ _ one.before.shape_bad.ensures one.if-shape_bad.false
     (refused_here 3 _ _ three.lengths_bad.ensures (omega arith) c.before.if-lengths_bad.true c.coded-then-lengths_bad.ensures)
 
 pub returns : goal.returns
 returns c =
     let three = c.before.before in
     let one = three.before.before in
-    not-here 1 _ _ one.before.shape_bad.ensures one.if-shape_bad.false
-    (not-here 3 _ _ three.lengths_bad.ensures c.before.if-lengths_bad.false c.four_and_five.ensures)
+    not_here 1 _ _ one.before.shape_bad.ensures one.if-shape_bad.false
+    (not_here 3 _ _ three.lengths_bad.ensures c.before.if-lengths_bad.false c.four_and_five.ensures)

@@ -7,7 +7,7 @@ use Rattle.lists.specs.Tab.{length-tab}
 use Rattle.scheme.specs.Units.{most_stations}
 use Rattle.request.specs.Tables.{station_in}
 use Rattle.refusal_checks.specs.Tested.{few_points}
-use Rattle.refusal.specs.Coded.{refused_here, not-here, refused_there, not_there, none_left}
+use Rattle.refusal.specs.Coded.{refused_here, not_here, refused_there, not_there, none_left}
 use Rattle.refusal.proofs.of_request.Goals as goal
 use Rattle.refusal.proofs.of_request.Goals.{Start}
 
@@ -34,7 +34,7 @@ returns-then-k-guess c =
     let b = seven.before.before in
     let six = b.before in
     not_there 6 _ six.before.before.first_bad_scan-m.ensures six.if-m-t.false
-    (not-here 6 6 _ b.buddies_bad.ensures seven.before.if-buddies_bad.false
+    (not_here 6 6 _ b.buddies_bad.ensures seven.before.if-buddies_bad.false
     (refused_there 7 _ seven.first_bad_guess-k.ensures (omega arith) c.before.if-k-guess.true c.coded-then-k-guess.ensures))
 
 pub first_bad_station-row-requires : goal.first_bad_station-row-requires
@@ -51,7 +51,7 @@ returns-then-row-t c =
     let b = seven.before.before.before in
     let six = b.before in
     not_there 6 _ six.before.before.first_bad_scan-m.ensures six.if-m-t.false
-    (not-here 6 6 _ b.buddies_bad.ensures seven.before.before.if-buddies_bad.false
+    (not_here 6 6 _ b.buddies_bad.ensures seven.before.before.if-buddies_bad.false
     (not_there 7 _ seven.before.first_bad_guess-k.ensures seven.if-k-guess.false
     (refused_there 8 _ eight.before.first_bad_station-row.ensures (omega arith) c.before.if-row-t.true c.coded-then-row-t.ensures)))
 
@@ -62,6 +62,6 @@ returns c =
     let b = seven.before.before.before in
     let six = b.before in
     not_there 6 _ six.before.before.first_bad_scan-m.ensures six.if-m-t.false
-    (not-here 6 6 _ b.buddies_bad.ensures seven.before.before.if-buddies_bad.false
+    (not_here 6 6 _ b.buddies_bad.ensures seven.before.before.if-buddies_bad.false
     (not_there 7 _ seven.before.first_bad_guess-k.ensures seven.if-k-guess.false
     (not_there 8 _ eight.before.first_bad_station-row.ensures c.if-row-t.false none_left)))

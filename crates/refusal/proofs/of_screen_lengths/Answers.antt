@@ -5,7 +5,7 @@ use borrow.Author.Rules.{rules}
 use mathlib.Core.Path.{◌≡◌, ap, ◌∙◌}
 use Rattle.scheme.specs.Refusals.{points_of_all, bad_lengths}
 use Rattle.request.specs.Tables.{windows_in}
-use Rattle.refusal.specs.Coded.{refused_here, not-here, refused_there, not_there}
+use Rattle.refusal.specs.Coded.{refused_here, not_here, refused_there, not_there}
 use Rattle.refusal.specs.Lengths.{on_screen}
 use Rattle.refusal.proofs.of_screen_lengths.Goals as goal
 use Rattle.refusal.proofs.of_screen_lengths.Goals.{After-window_lengths_bad}
@@ -36,4 +36,4 @@ returns c =
     let three = c.before.before in
     let two = three.before.before in
     not_there 2 _ two.before.before.first_bad_window-k.ensures two.if-k-screen.false
-    (not-here 3 _ _ (measured three) c.before.if-window_lengths_bad.false c.four_and_five.ensures)
+    (not_here 3 _ _ (measured three) c.before.if-window_lengths_bad.false c.four_and_five.ensures)

@@ -6,7 +6,7 @@ use mathlib.Core.Path.{◌≡◌, sym, ap, ◌∙◌}
 use Rattle.scheme.specs.Refusals.{points_of, bad_lengths}
 use Rattle.scheme.specs.Accepted.{shaped, on-grid, wider}
 use Rattle.request.specs.Tables.{window_in}
-use Rattle.refusal.specs.Coded.{refused_here, not-here}
+use Rattle.refusal.specs.Coded.{refused_here, not_here}
 use Rattle.refusal.proofs.of_window_lengths.Goals as goal
 use Rattle.refusal.proofs.of_window_lengths.Goals.{After-window_lengths_bad}
 
@@ -23,7 +23,7 @@ pub returns-then-window_bad : goal.returns-then-window_bad
 returns-then-window_bad c =
     let two = c.before.before in
     let one = two.before in
-    not-here 1 _ _ one.before.shape_bad.ensures one.if-shape_bad.false
+    not_here 1 _ _ one.before.shape_bad.ensures one.if-shape_bad.false
     (refused_here 2 _ _ two.window_bad.ensures (omega arith) c.before.if-window_bad.true c.coded-then-window_bad.ensures)
 
 pub points_of-requires : goal.points_of-requires
@@ -41,8 +41,8 @@ returns-then-window_lengths_bad c =
     let three = c.before.before in
     let two = three.before.before in
     let one = two.before.before in
-    not-here 1 _ _ one.before.shape_bad.ensures one.if-shape_bad.false
-    (not-here 2 _ _ two.before.window_bad.ensures two.if-window_bad.false
+    not_here 1 _ _ one.before.shape_bad.ensures one.if-shape_bad.false
+    (not_here 2 _ _ two.before.window_bad.ensures two.if-window_bad.false
     (refused_here 3 _ _ (measured three) (omega arith) c.before.if-window_lengths_bad.true c.coded-then-window_lengths_bad.ensures))
 
 pub returns : goal.returns
@@ -50,6 +50,6 @@ returns c =
     let three = c.before.before in
     let two = three.before.before in
     let one = two.before.before in
-    not-here 1 _ _ one.before.shape_bad.ensures one.if-shape_bad.false
-    (not-here 2 _ _ two.before.window_bad.ensures two.if-window_bad.false
-    (not-here 3 _ _ (measured three) c.before.if-window_lengths_bad.false c.four_and_five.ensures))
+    not_here 1 _ _ one.before.shape_bad.ensures one.if-shape_bad.false
+    (not_here 2 _ _ two.before.window_bad.ensures two.if-window_bad.false
+    (not_here 3 _ _ (measured three) c.before.if-window_lengths_bad.false c.four_and_five.ensures))

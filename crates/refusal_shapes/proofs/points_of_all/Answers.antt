@@ -3,7 +3,7 @@ use Prim.Native.Nat.{ℕ, ◌+◌, ◌-◌, ◌≤◌}
 use native.Mathlib.Omega.{arith}
 use mathlib.Core.Path.{◌≡◌, refl, sym, ap, ap₂, ◌∙◌}
 use Rattle.lists.specs.Sums.{up_to, up_to_next}
-use Rattle.lists.specs.Turns.{sum_to, sum-tab, sum-most}
+use Rattle.lists.specs.Turns.{sum_to, sum_tab, sum_most}
 use Rattle.scheme.specs.Refusals.{points_of}
 use Rattle.scheme.specs.Most.{most_points}
 use Rattle.scheme.specs.Accepted.{few_points}
@@ -21,7 +21,7 @@ overflow_add-points c =
     let pre = t.before.before.requires in
     let l = t.before.loop-k in
     let here = few_points (pre.on l.k t.loop-k-test.true) (omega arith) (omega arith) in
-    let before = sum-most most_points l.k (λ m. points_of (window_no a.screen m)) (λ m h. few_points (pre.on m (omega arith)) (omega arith) (omega arith)) in
+    let before = sum_most most_points l.k (λ m. points_of (window_no a.screen m)) (λ m h. few_points (pre.on m (omega arith)) (omega arith) (omega arith)) in
     record { fits = omega (arith, c.points_of-points.ensures, l.invariant.1, here, before, pre.few) }
 
 pub loop-k-preserved : goal.loop-k-preserved
@@ -36,4 +36,4 @@ returns c =
     let l = c.before.loop-k in
     let s = c.before.before.args.screen in
     let e : l.k ≡ s.count = omega arith in
-    l.invariant.1 ∙ ap (λ (n : ℕ). sum_to n (λ m. points_of (window_no s m))) e ∙ sym (sum-tab points_of s.count (window_no s))
+    l.invariant.1 ∙ ap (λ (n : ℕ). sum_to n (λ m. points_of (window_no s m))) e ∙ sym (sum_tab points_of s.count (window_no s))

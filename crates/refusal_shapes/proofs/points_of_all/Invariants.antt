@@ -2,7 +2,7 @@ use Prim.Native.Nat.{ℕ, ◌+◌, ◌-◌, ◌≤◌}
 use native.Mathlib.Omega.{arith}
 use mathlib.Core.Path.{◌≡◌, refl, sym, ap, ap₂, ◌∙◌}
 use Rattle.lists.specs.Sums.{up_to, up_to_next}
-use Rattle.lists.specs.Turns.{sum_to, sum-tab, sum-most}
+use Rattle.lists.specs.Turns.{sum_to, sum_tab, sum_most}
 use Rattle.scheme.specs.Refusals.{points_of}
 use Rattle.scheme.specs.Most.{most_points}
 use Rattle.scheme.specs.Accepted.{few_points}

@@ -10,7 +10,7 @@ use mir.Facts.{to_z_pos}
 use Rattle.integers.specs.Words.{fits_size, bits_back}
 use Rattle.lists.specs.Sums.{up_to, up_to_next}
 use Rattle.scheme.specs.Smoothing.{pattern_at}
-use Rattle.scan_smoothing.specs.Pattern.{SmallFrom, term, row_at, pattern-most, term_size, row_size}
+use Rattle.scan_smoothing.specs.Pattern.{SmallFrom, term, row_at, pattern_most, term_size, row_size}
 use Rattle.scan_smoothing.proofs.row_sum.Given as goal
 
 abbrev pub invariant-loop-a : goal.invariant-loop-a

@@ -8,7 +8,7 @@ use lib.ListN.{length, get_or, replicate}
 use lib.IntN.{ℤ, pos}
 use Rattle.lists.specs.Filled.{Filled}
 use Rattle.scheme.specs.Units.{most_side}
-use Rattle.scan_smoothing.specs.Pass.{RowsIn, rows_in, Room, Kept, NewTo, blank_room, keeps, kept_small, first-row, row_next, last_row}
+use Rattle.scan_smoothing.specs.Pass.{RowsIn, rows_in, Room, Kept, NewTo, blank_room, keeps, kept_small, first_row, row_next, last_row}
 use Rattle.scan_smoothing.proofs.smooth.Goals as goal
 use Rattle.scan_smoothing.proofs.smooth.Goals.{At-loop-j}
 
@@ -34,8 +34,8 @@ pub loop-j-init : goal.loop-j-init
 loop-j-init c =
     let s = c.before.before.before in
     let a = s.args in (
-      s.requires.0.two-rows,
-      first-row a.z-1.now a.nx a.ny,
+      s.requires.0.two_rows,
+      first_row a.z-1.now a.nx a.ny,
       keeps a.z-1.now a.z-1.now a.nx 0 0 (replicate most_side (pos 0)) c.keep_row.new.0 (omega arith) (λ k h. refl) (blank_room a.nx) c.keep_row.ensures,
       blank_room a.nx,
     )

@@ -6,7 +6,7 @@ use lib.ListN.{length, get_or, replicate}
 use lib.IntN.{ℤ, pos}
 use Rattle.lists.specs.Filled.{Filled}
 use Rattle.scheme.specs.Units.{most_side}
-use Rattle.scan_smoothing.specs.Pass.{RowsIn, rows_in, Room, Kept, NewTo, blank_room, keeps, kept_small, first-row, row_next, last_row}
+use Rattle.scan_smoothing.specs.Pass.{RowsIn, rows_in, Room, Kept, NewTo, blank_room, keeps, kept_small, first_row, row_next, last_row}
 use Rattle.scan_smoothing.proofs.smooth.Given as goal
 
 abbrev pub invariant-loop-j : goal.invariant-loop-j

@@ -12,7 +12,7 @@ use Rattle.integers.specs.Sizes.{size_add}
 use Rattle.integers.specs.Words.{fits_size, bits_back}
 use Rattle.lists.specs.Filled.{Filled, filled_none}
 use Rattle.scheme.specs.Most.{most_field}
-use Rattle.scan_smoothing.specs.Pattern.{SmallFrom, row_at, nine, new_at, row-whole}
+use Rattle.scan_smoothing.specs.Pattern.{SmallFrom, row_at, nine, new_at, row_whole}
 use Rattle.scan_smoothing.specs.Pass.{column_next}
 use Rattle.scan_smoothing.proofs.smooth_row.Goals as goal
 use Rattle.scan_smoothing.proofs.smooth_row.Goals.{After-row_sum-in-loop-i, After-row_sum-in-loop-i-2, At-loop-i}
@@ -66,12 +66,12 @@ module _ (t : After-row_sum-in-loop-i (row-sum-reads.Asked, row-sum-reads.Learnt
   size₀ : nat_abs t.before.before.row_sum.result ≤ 12 * most_field
   size₀ =
       let o = t.before.before.before.before.before in
-      rw t.before.before.row_sum.ensures (row-whole o.before.args.above.now o.loop-i.i (λ k h. o.before.requires.6 k) 0)
+      rw t.before.before.row_sum.ensures (row_whole o.before.args.above.now o.loop-i.i (λ k h. o.before.requires.6 k) 0)
 
   size₁ : nat_abs t.row_sum-in-loop-i.result ≤ 12 * most_field
   size₁ =
       let o = t.before.before.before.before.before in
-      rw t.row_sum-in-loop-i.ensures (row-whole o.before.args.here.now o.loop-i.i (λ k h. o.before.requires.8 k) 1)
+      rw t.row_sum-in-loop-i.ensures (row_whole o.before.args.here.now o.loop-i.i (λ k h. o.before.requires.8 k) 1)
 
 -- the row below is as it was
 still-small : (o : At-loop-i (row-sum-reads.Asked, row-sum-reads.Learnt, sixteenth-reads.Asked, sixteenth-reads.Learnt) reads.Pre reads.Post invariant-loop decreases-loop)
@@ -94,7 +94,7 @@ module _ (t : After-row_sum-in-loop-i-2 (row-sum-reads.Asked, row-sum-reads.Lear
       let o = t.before.before.before.before.before.before.before in
       let a = o.before.args in
       added first second (size₀ t.before.before) (size₁ t.before.before) third
-      (rw t.row_sum-in-loop-i-2.ensures (row-whole o.loop-i.z (a.base + a.nx + o.loop-i.i) (still-small o) 2))
+      (rw t.row_sum-in-loop-i-2.ensures (row_whole o.loop-i.z (a.base + a.nx + o.loop-i.i) (still-small o) 2))
 
 pub overflow_add-n : goal.overflow_add-n
 overflow_add-n c = two_fits c.before.before.row_sum.result c.row_sum-in-loop-i.result (size₀ c) (size₁ c)

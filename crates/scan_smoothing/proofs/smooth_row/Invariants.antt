@@ -10,7 +10,7 @@ use Rattle.integers.specs.Sizes.{size_add}
 use Rattle.integers.specs.Words.{fits_size, bits_back}
 use Rattle.lists.specs.Filled.{Filled, filled_none}
 use Rattle.scheme.specs.Most.{most_field}
-use Rattle.scan_smoothing.specs.Pattern.{SmallFrom, row_at, nine, new_at, row-whole}
+use Rattle.scan_smoothing.specs.Pattern.{SmallFrom, row_at, nine, new_at, row_whole}
 use Rattle.scan_smoothing.specs.Pass.{column_next}
 use Rattle.scan_smoothing.proofs.smooth_row.Given as goal
 

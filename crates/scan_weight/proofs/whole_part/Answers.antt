@@ -5,8 +5,8 @@ use native.Mathlib.Nat.{mod-lt}
 use borrow.Author.Rules.{rules}
 use mathlib.Core.Path.{◌≡◌, refl, sym}
 use Rattle.scheme.specs.Weight.{scale, weight}
-use Rattle.scheme.specs.Weights.{weight-most}
-use Rattle.scan_weight.specs.Along.{in_two-steps}
+use Rattle.scheme.specs.Weights.{weight_most}
+use Rattle.scan_weight.specs.Along.{in_two_steps}
 use Rattle.scan_weight.proofs.whole_part.Goals as goal
 use Rattle.scan_weight.proofs.whole_part.Goals.{Start}
 
@@ -25,10 +25,10 @@ module _ (s : Start) where
   weight_is = refl
 
   most : scale * upper / lower ≤ scale
-  most = rw weight_is (weight-most s.args.p s.args.q)
+  most = rw weight_is (weight_most s.args.p s.args.q)
 
   steps : scale * upper / lower ≡ 100 * (100 * upper / lower) + 100 * (100 * upper % lower) / lower
-  steps = in_two-steps upper lower some
+  steps = in_two_steps upper lower some
 
   left_over : 100 * upper % lower < lower
   left_over = mod-lt (100 * upper) some

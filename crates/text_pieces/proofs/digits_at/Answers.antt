@@ -7,7 +7,7 @@ use borrow.Author.Tests.{not-true, not-false}
 use lib.ListN.{length, drop, get_or}
 use Rattle.scheme.specs.Text.Pieces.{digits}
 use Rattle.text_pieces.specs.Told.{most, capped}
-use Rattle.text_pieces.specs.Numbers.{digit_of, digits-end, digits_stop, digits_more}
+use Rattle.text_pieces.specs.Numbers.{digit_of, digits_end, digits_stop, digits_more}
 use Rattle.text_pieces.proofs.digits_at.Goals as goal
 
 pub returns-then-not-is_digit : goal.returns-then-not-is_digit
@@ -24,4 +24,4 @@ loop-i-preserved c =
 pub returns : goal.returns
 returns c =
     let l = c.before in
-    sym l.loop-i.invariant.1 ∙ digits-end l.before.before.args.s.now l.loop-i.i l.loop-i.v l.loop-i.invariant.0 (omega arith)
+    sym l.loop-i.invariant.1 ∙ digits_end l.before.before.args.s.now l.loop-i.i l.loop-i.v l.loop-i.invariant.0 (omega arith)

@@ -5,7 +5,7 @@ use mathlib.Core.Path.{ap, subst, ◌∙◌}
 use mir.Syntax.{w32}
 use mir.Facts.{to_z_pos}
 use Rattle.text_pieces.specs.Told.{unsigned_told, Within}
-use Rattle.text_pieces.specs.Numbers.{signed_none, signed_minus, signed-count, signed-other}
+use Rattle.text_pieces.specs.Numbers.{signed_none, signed_minus, signed_count, signed_other}
 use Rattle.text_pieces.proofs.signed_at.Goals as goal
 
 pub returns-then-s-at : goal.returns-then-s-at
@@ -23,9 +23,9 @@ returns-in-Value c =
     let a = c.before.before.before.before.before.before.before.before.args in
     let w = subst (Within 0 2147483647) v.1 r.1 in
     rw (to_z_pos w32 {n = v.0.0} (omega (arith, w)))
-    (signed-count a.s.now a.at (r.0 ∙ ap (unsigned_told a.s.now) v.1))
+    (signed_count a.s.now a.at (r.0 ∙ ap (unsigned_told a.s.now) v.1))
 
 pub returns-in-NotInForm : goal.returns-in-NotInForm
 returns-in-NotInForm c =
     let a = c.before.before.before.before.before.before.before.args in
-    signed-other a.s.now a.at (omega arith) c.before.before.before.if-s-at-eq45.false (c.before.before.count_at.ensures.0 ∙ ap (unsigned_told a.s.now) c.enum_told-1.given.1)
+    signed_other a.s.now a.at (omega arith) c.before.before.before.if-s-at-eq45.false (c.before.before.count_at.ensures.0 ∙ ap (unsigned_told a.s.now) c.enum_told-1.given.1)

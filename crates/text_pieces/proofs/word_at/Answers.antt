@@ -5,7 +5,7 @@ use native.Mathlib.Omega.{arith}
 use mathlib.Core.Path.{◌≡◌, refl, sym, ◌∙◌}
 use lib.ListN.{length, drop}
 use Rattle.scheme.specs.Text.Pieces.{word}
-use Rattle.text_pieces.specs.Words.{word_end, word_short, word-other, word_more}
+use Rattle.text_pieces.specs.Words.{word_end, word_short, word_other, word_more}
 use Rattle.text_pieces.proofs.word_at.Goals as goal
 
 pub returns-then-s-p : goal.returns-then-s-p
@@ -18,7 +18,7 @@ pub returns-then-s-p-2 : goal.returns-then-s-p-2
 returns-then-s-p-2 c =
     let l = c.before.before.before.before.before in
     let a = l.before.args in
-    sym l.loop-i.invariant.1 ∙ word-other a.key.now a.s.now l.loop-i.i l.loop-i.p (omega arith) (omega arith) c.if-s-p-2.true
+    sym l.loop-i.invariant.1 ∙ word_other a.key.now a.s.now l.loop-i.i l.loop-i.p (omega arith) (omega arith) c.if-s-p-2.true
 
 pub loop-i-preserved : goal.loop-i-preserved
 loop-i-preserved c =

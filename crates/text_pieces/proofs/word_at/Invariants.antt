@@ -4,7 +4,7 @@ use native.Mathlib.Omega.{arith}
 use mathlib.Core.Path.{◌≡◌, refl, sym, ◌∙◌}
 use lib.ListN.{length, drop}
 use Rattle.scheme.specs.Text.Pieces.{word}
-use Rattle.text_pieces.specs.Words.{word_end, word_short, word-other, word_more}
+use Rattle.text_pieces.specs.Words.{word_end, word_short, word_other, word_more}
 use Rattle.text_pieces.proofs.word_at.Given as goal
 
 abbrev pub invariant-loop-i : goal.invariant-loop-i
