@@ -8,7 +8,8 @@ use Rattle.scheme.specs.declared.Units.{Units}
 use Rattle.scheme.specs.Units.{parts_of_unit}
 use Rattle.scheme.specs.Refusals.{refused_with, bad_shape, summary_refusal}
 use Rattle.scheme.specs.Readings.{double, lowest, highest, units_of, zeros, summary}
-use Rattle.scheme.specs.Exact.{lesser, greater, of_lesser, of_greater}
+use Rattle.scheme.specs.Exact.{lesser, greater}
+use Rattle.scheme.proofs.Exact.{of_lesser, of_greater}
 
 -- the ends of the first k values: with what is left after them they make the ends of all
 pub record EndsTo (field : List ℤ) (k : ℕ) (low high : ℤ) : Type 0 where

@@ -5,7 +5,7 @@ use Rattle.scheme.specs.Units.{most_side, field_of, step}
 use Rattle.scheme.specs.Value.{cell, corners, sum_at}
 use Rattle.scheme.specs.Most.{most_points}
 use Rattle.scheme.specs.Accepted.{Shaped}
-use Rattle.scheme.specs.Cells.{cell_inside, cell_low, cell_high}
+use Rattle.scheme.proofs.Cells.{cell_inside, cell_low, cell_high}
 
 unfoldable pub blend : (a b : ℕ) → (p q r s : ℤ) → ℤ
 blend a b p q r s =

@@ -6,7 +6,7 @@ use mathlib.Core.List.{List, [], ◌∷◌, ◌++◌}
 use Rattle.lists.specs.First.{Found, nowhere, at, ended}
 use Rattle.scheme.specs.Refusals.{Refusal, accepted, refused, as_one, unless_refused, in_order, refused_with, refused_at}
 use Rattle.scheme.specs.Promises.{Settles}
-use Rattle.scheme.specs.OneOutcome.{both}
+use Rattle.scheme.proofs.OneOutcome.{both}
 
 -- the number says the refusal, and 0 says that there is none
 pub record Coded (r : ℕ) (f : Refusal) : Type 0 where

@@ -8,7 +8,8 @@ use Rattle.lists.specs.First.{first_in, ended, Good, first_good, in_table}
 use Rattle.lists.specs.Members.{All, none, more}
 use Rattle.scheme.specs.Units.{most_side, most_scans, wind_mode, Call, asked}
 use Rattle.scheme.specs.Refusals.{Refusal, accepted, in_order, refused_if, refused_with, refused_at, bad_shape, Window, bad_window, most_windows, Screen, window_on, windows_of, bad_screen, points_of, points_of_all, bad_lengths, bad_columns, bad_scans, from_five, analysis_refusal, window_refusal, screen_refusal}
-use Rattle.scheme.specs.Accepted.{all_accepted, not_refused, nowhere_refused, Shaped, shaped, Equal, equal, Ruled, scans_fit, from_six, FitsWindow, FitsScreen, long, OnGrid, on-grid, wider, EqualScreen, equal_screen}
+use Rattle.scheme.specs.Accepted.{Shaped, Equal, Ruled, from_six, FitsWindow, FitsScreen, OnGrid, EqualScreen}
+use Rattle.scheme.proofs.Accepted.{all_accepted, not_refused, nowhere_refused, shaped, equal, scans_fit, long, on-grid, wider, equal_screen}
 use Rattle.request.specs.declared.Screen.{Screen as Windows}
 use Rattle.request.specs.Tables.{window_no, windows_in, OnScreen}
 use Rattle.refusal_shapes.specs.declared.Lengths.{Lengths}

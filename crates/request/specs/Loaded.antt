@@ -9,7 +9,8 @@ use Rattle.scheme.specs.Scan.{analysis}
 use Rattle.scheme.specs.Reach.{whole_at, whole_at_each}
 use Rattle.scheme.specs.Promises.{eight_columns, four_columns}
 use Rattle.scheme.specs.Accepted.{Shaped, Equal, Ruled, from_six, Formed}
-use Rattle.scheme.specs.Entries.{with_plan, UpToCount, entries_past_the_count_change_no_analysis, entries_past_the_count_change_no_window, same_from_six}
+use Rattle.scheme.specs.Entries.{with_plan, UpToCount}
+use Rattle.scheme.proofs.Entries.{entries_past_the_count_change_no_analysis, entries_past_the_count_change_no_window, same_from_six}
 use Rattle.request.specs.declared.Terms.{Terms}
 use Rattle.request.specs.declared.Window.{Window as Ends}
 use Rattle.request.specs.declared.Screen.{Screen}

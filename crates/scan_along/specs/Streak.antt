@@ -12,9 +12,10 @@ use Rattle.scheme.specs.Units.{step, Wind, most_wind, most_stations, wind_mode}
 use Rattle.scheme.specs.Weight.{square, strength, inside, weight_at}
 use Rattle.scheme.specs.Correction.{Sums}
 use Rattle.scheme.specs.Most.{most_square}
-use Rattle.scheme.specs.Weights.{inside_alone}
+use Rattle.scheme.proofs.Weights.{inside_alone}
 use Rattle.scheme.specs.Streaks.{Fair}
-use Rattle.scheme.specs.Gifts.{weighed, gift_weighed}
+use Rattle.scheme.specs.Gifts.{weighed}
+use Rattle.scheme.proofs.Gifts.{gift_weighed}
 use Rattle.scan_weight.specs.Along.{calmed, calmed_fair, weight_by, beyond, weight_by_most, by_wind, most_strength, strength_small, most_part, part_small}
 use Rattle.scan_lone.specs.Inside.{inside_in}
 use Rattle.scan_point.specs.Near.{Stations, wind_in, x_at, y_at, wind_at, verdict_at, d_at, share_at, Slight, weighed_slight, row_gap, Inside, Ready, Near, near_is_accepted, near_gathered, accepted_shares}

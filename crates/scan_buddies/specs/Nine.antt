@@ -10,7 +10,7 @@ use Rattle.lists.specs.Sums.{up_to, up_to_next, up_to_same, up_to_both}
 use Rattle.scheme.specs.Verdicts.{is_accepted}
 use Rattle.scheme.specs.Weight.{squares, inside}
 use Rattle.scheme.specs.Buddies.{Heard, silence, both}
-use Rattle.scheme.specs.Adding.{silence_both, both_silence, both_assoc}
+use Rattle.scheme.proofs.Adding.{silence_both, both_silence, both_assoc}
 use Rattle.scan_buddies.specs.Aside.{x_of, y_of, said, heard_at, OnAxis, Standing, AllStanding}
 use Rattle.scan_buddies.specs.Voices.{told, both_comm, OfAtMost, of_none, of_one, sum_of_most, between, from_cells, among_them, below_them, beyond_them}
 use Rattle.scan_buddies.specs.Cells.{across, cells, kinds, side_of, cell_along, cell_of, cell_for, cell_at, Survivors, side_least, side_wide, InRow, along_in_row, along_near, inside_axes}

@@ -10,7 +10,7 @@ use Rattle.lists.specs.Sums.{up_to, up_to_same, up_to_both}
 use Rattle.lists.specs.Chains.{sum_of, Walked}
 use Rattle.scheme.specs.Units.{most_limit}
 use Rattle.scheme.specs.Buddies.{Heard, silence, both}
-use Rattle.scheme.specs.Adding.{silence_both, both_silence, both_assoc}
+use Rattle.scheme.proofs.Adding.{silence_both, both_silence, both_assoc}
 
 -- from a count and a sum
 abbrev pub told : ℕ → ℤ → Heard

@@ -4,7 +4,7 @@ use Rattle.std.proofs.Common.{arith, ap, ◌∙◌}
 use Rattle.lists.specs.Chains.{last, sum_of, Walked, last_most, walk_start, walk_turn, walk_end}
 use Rattle.scheme.specs.Units.{most_stations}
 use Rattle.scheme.specs.Buddies.{Heard, silence, both}
-use Rattle.scheme.specs.Adding.{both_silence, both_assoc}
+use Rattle.scheme.proofs.Adding.{both_silence, both_assoc}
 use Rattle.scan_buddies.specs.Aside.{Standing}
 use Rattle.scan_buddies.specs.Voices.{both_comm, OfAtMost, of_more, of_both, from_cells, from_one, from_few, walked_few}
 use Rattle.scan_buddies.specs.Cells.{cells, kinds, cell_at, Survivors}

@@ -16,8 +16,9 @@ use Rattle.scheme.specs.Weight.{scale, square}
 use Rattle.scheme.specs.Correction.{Sums, nothing, plus, gift}
 use Rattle.scheme.specs.Most.{most_along}
 use Rattle.scheme.specs.Streaks.{Fair}
-use Rattle.scheme.specs.Gifts.{weighed, Modest, modest_nothing, modest_plus, modest_weighed, gift_outside, gift_modest}
-use Rattle.scheme.specs.Adding.{plus_nothing}
+use Rattle.scheme.specs.Gifts.{weighed, Modest}
+use Rattle.scheme.proofs.Gifts.{modest_nothing, modest_plus, modest_weighed, gift_outside, gift_modest}
+use Rattle.scheme.proofs.Adding.{plus_nothing}
 
 -- ---- from all the stations: what the one of row k gives to point (i, j)
 

@@ -15,7 +15,8 @@ use Rattle.scheme.specs.Rounding.{rounded}
 use Rattle.scheme.specs.Weight.{scale}
 use Rattle.scheme.specs.Correction.{Sums, nothing, plus, divisor, correction}
 use Rattle.scheme.specs.Most.{most_points, most_square, most_weights, most_field}
-use Rattle.scheme.specs.Accepted.{Shaped, same_shape}
+use Rattle.scheme.specs.Accepted.{Shaped}
+use Rattle.scheme.proofs.Accepted.{same_shape}
 use Rattle.scan_lone.specs.Divides.{Divides}
 use Rattle.scan_point.specs.Near.{Slight, weights_few, near_small, Stations, sums_over, Ready, Near}
 

@@ -11,9 +11,10 @@ use Rattle.scheme.specs.Units.{step, most_stations, most_limit, round_mode}
 use Rattle.scheme.specs.Weight.{weight, square, inside, weight_at}
 use Rattle.scheme.specs.Correction.{Sums}
 use Rattle.scheme.specs.Most.{most_along, most_square}
-use Rattle.scheme.specs.Weights.{weight_beyond, weight_most, inside_alone}
-use Rattle.scheme.specs.Streaks.{round_if_still, still_in_mode_0}
-use Rattle.scheme.specs.Gifts.{weighed, gift_weighed}
+use Rattle.scheme.proofs.Weights.{weight_beyond, weight_most, inside_alone}
+use Rattle.scheme.proofs.Streaks.{round_if_still, still_in_mode_0}
+use Rattle.scheme.specs.Gifts.{weighed}
+use Rattle.scheme.proofs.Gifts.{gift_weighed}
 use Rattle.scan_lone.specs.Inside.{inside_in, Placed}
 use Rattle.scan_point.specs.Near.{Stations, x_at, y_at, wind_at, verdict_at, d_at, share_at, Slight, weighed_slight, row_gap, Ready, Near, near_is_accepted, near_step, accepted_shares}
 

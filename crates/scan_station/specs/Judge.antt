@@ -10,10 +10,10 @@ use Rattle.scheme.specs.Value.{sum_at, value_at}
 use Rattle.scheme.specs.Difference.{difference, after_test}
 use Rattle.scheme.specs.Most.{most_along, most_field}
 use Rattle.scheme.specs.Accepted.{Shaped}
-use Rattle.scheme.specs.Nearest.{rounded_size}
+use Rattle.scheme.proofs.Nearest.{rounded_size}
 use Rattle.scheme.specs.Bounds.{Small}
-use Rattle.scheme.specs.Exact.{sum_size}
-use Rattle.scheme.specs.Axes.{place_most}
+use Rattle.scheme.proofs.Exact.{sum_size}
+use Rattle.scheme.proofs.Axes.{place_most}
 use Rattle.request.specs.declared.Terms.{Terms}
 use Rattle.request.specs.Tables.{station_of}
 

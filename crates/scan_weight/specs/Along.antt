@@ -11,8 +11,9 @@ use Rattle.lists.specs.Tests.{lt_or_le, true_or_false, cond_both}
 use Rattle.scheme.specs.Units.{most_radius, Wind, most_wind, is_no_wind, wind_mode}
 use Rattle.scheme.specs.Weight.{scale, weight, square, squares, along, strength, stretched, blows, weight_at}
 use Rattle.scheme.specs.Most.{most_square}
-use Rattle.scheme.specs.Weights.{weight_beyond, weight_most}
-use Rattle.scheme.specs.Streaks.{no_weight_outside, weight_inside, round_if_still, still_if_missing, Fair}
+use Rattle.scheme.proofs.Weights.{weight_beyond, weight_most}
+use Rattle.scheme.specs.Streaks.{Fair}
+use Rattle.scheme.proofs.Streaks.{no_weight_outside, weight_inside, round_if_still, still_if_missing}
 
 -- a missing wind gives the round weight, as a calm one does
 unfoldable pub calmed : Wind → Wind

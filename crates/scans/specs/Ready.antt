@@ -22,14 +22,17 @@ use Rattle.scheme.specs.Weight.{squares}
 use Rattle.scheme.specs.Buddies.{silence, both, is_odd, after_buddies}
 use Rattle.scheme.specs.Correction.{correction}
 use Rattle.scheme.specs.Smoothing.{smoothed}
-use Rattle.scheme.specs.Accepted.{Shaped, same_shape}
+use Rattle.scheme.specs.Accepted.{Shaped}
+use Rattle.scheme.proofs.Accepted.{same_shape}
 use Rattle.scheme.specs.Accepted as accepted
 use Rattle.scheme.specs.Streaks.{Fair}
 use Rattle.scheme.specs.Most.{most_field, most_along}
-use Rattle.scheme.specs.Adding.{silence_both}
-use Rattle.scheme.specs.Judging.{passed, was_accepted, was_survivor}
-use Rattle.scheme.specs.Bounds.{Small, correction_size}
-use Rattle.scheme.specs.Stored.{Same, length-stored, field_stored, stored_same, smoothed_same, stored_all}
+use Rattle.scheme.proofs.Adding.{silence_both}
+use Rattle.scheme.proofs.Judging.{passed, was_accepted, was_survivor}
+use Rattle.scheme.specs.Bounds.{Small}
+use Rattle.scheme.proofs.Bounds.{correction_size}
+use Rattle.scheme.specs.Stored.{Same}
+use Rattle.scheme.proofs.Stored.{length-stored, field_stored, stored_same, smoothed_same, stored_all}
 use Rattle.request.specs.declared.Terms.{Terms}
 use Rattle.request.specs.Tables.{plan_in}
 use Rattle.scan_buddies.specs.Aside.{x_of, y_of, said, heard_at, aside_at, OnAxis, AllStanding}

@@ -10,11 +10,12 @@ use Rattle.scheme.specs.Units.{is_no_wind, most_stations, most_scans, Request}
 use Rattle.scheme.specs.Difference.{Row}
 use Rattle.scheme.specs.Scan.{after_within, after, at_end, analysis}
 use Rattle.scheme.specs.Promises.{slices}
-use Rattle.scheme.specs.Accepted.{same_shape, no_station, Stationed}
-use Rattle.scheme.specs.Bounds.{first_guess_small, after-within}
+use Rattle.scheme.specs.Accepted.{no_station, Stationed}
+use Rattle.scheme.proofs.Accepted.{same_shape}
+use Rattle.scheme.proofs.Bounds.{first_guess_small, after-within}
 use Rattle.scheme.specs.Streaks.{Fair}
-use Rattle.scheme.specs.Support.{support_small}
-use Rattle.scheme.specs.Stored.{length-stored, stored_all}
+use Rattle.scheme.proofs.Support.{support_small}
+use Rattle.scheme.proofs.Stored.{length-stored, stored_all}
 use Rattle.request.specs.declared.Terms.{Terms}
 use Rattle.request.specs.Tables.{station_of, station_in, request_in}
 use Rattle.scan_point.specs.Near.{wind_in}

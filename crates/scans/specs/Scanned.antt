@@ -17,14 +17,16 @@ use Rattle.scheme.specs.Rounding.{rounded}
 use Rattle.scheme.specs.Value.{value_at}
 use Rattle.scheme.specs.Difference.{difference, after_test, tested}
 use Rattle.scheme.specs.Buddies.{Heard, silence, both, says, heard, after_buddies, beside_others}
-use Rattle.scheme.specs.Adding.{nothing_plus, plus_nothing, plus_assoc, silence_both, both_silence, both_assoc}
+use Rattle.scheme.proofs.Adding.{nothing_plus, plus_nothing, plus_assoc, silence_both, both_silence, both_assoc}
 use Rattle.scheme.specs.Correction.{nothing, plus, share, backed_by}
 use Rattle.scheme.specs.Smoothing.{smoothed}
 use Rattle.scheme.specs.Scan.{State, differences, all_tested, all_judged, rows_judged, sums_at, scan}
 use Rattle.scheme.specs.Scan as paper
 use Rattle.scheme.specs.Accepted.{Shaped}
-use Rattle.scheme.specs.Judging.{no_row, was_accepted, was_survivor}
-use Rattle.scheme.specs.Stored.{Same, field_stored, stored_same, sum_same}
+use Rattle.scheme.specs.Judging.{no_row}
+use Rattle.scheme.proofs.Judging.{was_accepted, was_survivor}
+use Rattle.scheme.specs.Stored.{Same}
+use Rattle.scheme.proofs.Stored.{field_stored, stored_same, sum_same}
 use Rattle.request.specs.declared.Terms.{Terms}
 use Rattle.request.specs.Tables.{station_of, station_in, plan_in, request_in}
 use Rattle.scan_start.specs.Reached.{row_in, Holds}

@@ -1,108 +1,97 @@
 -- A line for each refusal of each call with its place, each verdict, each kind of reading, and the edges of age, service, radius, size and line: what the
 -- theorems leave open is fixed here, by computation.
-use Rattle.std.specs.Prelude.{ℕ, ◌+◌, ◌<◌, ◌≡◌, refl, Bool, true, false, length, ℤ, pos, negsuc}
-use mathlib.Core.List.{List, [], ◌∷◌, ◌++◌, flatten}
-use Rattle.std.proofs.Common.{lt-ltb, le-ltb, eq-eqb, arith}
-use Rattle.std.proofs.lemmas.List.{length-map}
+use Rattle.std.specs.Prelude.{ℕ, ◌+◌, ◌<◌, ◌≡◌, Bool, true, false, length, ℤ, pos, negsuc}
+use mathlib.Core.List.{List, [], ◌∷◌, ◌++◌}
 use Rattle.lists.specs.Tab.{tab}
-use Rattle.lists.specs.Sums.{total}
-use Rattle.lists.specs.Parted.{each_from, each}
-use Rattle.lists.specs.First.{first, first_from, or_next}
+use Rattle.lists.specs.Parted.{each}
+use Rattle.lists.specs.First.{first}
 use Rattle.scheme.specs.declared.Reading.TheVariants.{Backed, FirstGuess, OffGrid, Refused}
-use Rattle.scheme.specs.Units.{is_missing, missing_mark, Field, stored, field_of, most_stations, Wind, no_wind, is_no_wind, Station, no_end, Columns, station_at, stations_of, most_beyond, round_mode, wind_mode, equation_rule, listing_rule, no_buddies, R, E, B, L, Request, Call, guess, asking}
-use Rattle.scheme.specs.Refusals.{Refusal, accepted, refused, as_one, in_order, refused_with, refused_at, bad_shape, Span, Window, bad_window, window_at, Screen, windows_of, bad_screen, bad_lengths, bad_columns, bad_scans, rising, bad_scan, bad_buddies, bad_guess, bad_wind, bad_station, from_five, analysis_refusal, window_refusal, screen_refusal, summary_refusal, reading_refusal}
-use Rattle.scheme.specs.Verdicts.{serves, out_of_service, near_axis, off_grid, first_that_fits, before_scans}
-use Rattle.scheme.specs.Rounding.{rounded}
-use Rattle.scheme.specs.Value.{place, cell, corners, sum_at, value_at}
-use Rattle.scheme.specs.Difference.{difference, after_test, tested}
-use Rattle.scheme.specs.Buddies.{says, heard, is_odd, after_buddies, beside_others}
-use Rattle.scheme.specs.Weight.{weight, stretched, blows, weight_at}
-use Rattle.scheme.specs.Correction.{gift, share, divisor, correction, backed_by}
-use Rattle.scheme.specs.Smoothing.{inner, smoothed}
-use Rattle.scheme.specs.Scan.{start, all_judged, rows_judged, sums_at, corrected, scan, after_within, Analysis, analysis}
+use Rattle.scheme.specs.Units.{missing_mark, Field, field_of, Wind, no_wind, Station, no_end, Columns, most_beyond, round_mode, wind_mode, equation_rule, listing_rule, no_buddies, R, E, B, L, Request, Call, guess, asking}
+use Rattle.scheme.specs.Refusals.{Refusal, accepted, refused, as_one, Span, Window, window_at, Screen, bad_columns, analysis_refusal, window_refusal, screen_refusal}
+use Rattle.scheme.specs.Verdicts.{before_scans}
+use Rattle.scheme.specs.Value.{place, corners}
+use Rattle.scheme.specs.Difference.{difference, after_test}
+use Rattle.scheme.specs.Weight.{weight, weight_at}
+use Rattle.scheme.specs.Correction.{share}
+use Rattle.scheme.specs.Smoothing.{smoothed}
+use Rattle.scheme.specs.Scan.{scan, Analysis, analysis}
 use Rattle.scheme.specs.Reach.{on_span}
-use Rattle.scheme.specs.Readings.{double, positive_zero, is_backed, reading_in, reading, numbers_of, lowest, highest, units_of, summary}
-use Rattle.scheme.specs.Text.{request_lines, first_two, analysis_text, reply_text, in_form, answer_text}
-use Rattle.scheme.specs.Text.Pieces.{ascii, word, digits, positive, natural, between, count, unsigned, negative, signed, values}
-use Rattle.scheme.specs.Text.Lines.{number, grid_line, entry_line, row_line, observation, end, station_line}
-use Rattle.scheme.specs.Text.Order.{lines, rows, nothing_after}
-use Rattle.scheme.specs.Text.Printed.{spelled, decimal, integer, cells, keyed, grid_lines}
-use Rattle.scheme.specs.Accepted.{columns_good}
-use Rattle.scheme.specs.Calls.{columns_of, equal_columns}
+use Rattle.scheme.specs.Readings.{double, positive_zero, reading, numbers_of, lowest, highest, summary}
+use Rattle.scheme.specs.Text.{request_lines, in_form, answer_text}
+use Rattle.scheme.specs.Text.Pieces.{ascii, digits, count}
+use Rattle.scheme.specs.Text.Lines.{number}
+use Rattle.scheme.specs.Text.Order.{rows}
+use Rattle.scheme.specs.Calls.{columns_of}
 use Rattle.scheme.specs.Promises.{four_columns}
 use Rattle.scheme.specs.Most.{most_field, most_difference, most_weights, most_pulls, most_reach}
 
--- ---- a call on a grid of two by two, to be damaged
-
-abbrev mast : (x y value : ℤ) (observed from until : ℕ) → Station
+abbrev pub mast : (x y value : ℤ) (observed from until : ℕ) → Station
 mast x y value observed from until = record { x = x; y = y; value = value; observed = observed; from = from; until = until; wind = no_wind }
 
 -- a mast with a wind
-abbrev blowing : (u v : ℤ) → Station
+abbrev pub blowing : (u v : ℤ) → Station
 blowing u v = record { x = pos 0; y = pos 0; value = pos 0; observed = 1000; from = 0; until = no_end; wind = record { u = u; v = v } }
 
-abbrev good : Station
+abbrev pub good : Station
 good = mast (pos 0) (pos 0) (pos 0) 1000 0 no_end
 
-abbrev two : Station → Columns
+abbrev pub two : Station → Columns
 two s = columns_of (good ∷ s ∷ [])
 
-abbrev level : List ℤ
+abbrev pub level : List ℤ
 level = pos 0 ∷ pos 0 ∷ pos 0 ∷ pos 0 ∷ []
 
-abbrev at64 : List ℤ
+abbrev pub at64 : List ℤ
 at64 = pos 64 ∷ pos 64 ∷ []
 
-abbrev at0 : List ℤ
+abbrev pub at0 : List ℤ
 at0 = pos 0 ∷ pos 0 ∷ []
 
 -- of that shape and first guess, with these stations, and with this plan
-abbrev shaped_so : (nx ny : ℕ) → List ℤ → Call
+abbrev pub shaped_so : (nx ny : ℕ) → List ℤ → Call
 shaped_so nx ny z = asking nx ny z (two good) 2 at64 at0 false round_mode equation_rule no_buddies 1000 60
 
-abbrev stationed_in : (mode : ℕ) → Columns → Call
+abbrev pub stationed_in : (mode : ℕ) → Columns → Call
 stationed_in mode c = asking 2 2 level c 2 at64 at0 false mode equation_rule no_buddies 1000 60
 
-abbrev stationed : Columns → Call
+abbrev pub stationed : Columns → Call
 stationed = stationed_in round_mode
 
-abbrev ruled_by : (rule : ℕ) → Columns → (radius : List ℤ) → Call
+abbrev pub ruled_by : (rule : ℕ) → Columns → (radius : List ℤ) → Call
 ruled_by rule c radius = asking 2 2 level c 2 radius at0 false round_mode rule no_buddies 1000 60
 
-abbrev planned : ℕ → (radius limit : List ℤ) → Call
+abbrev pub planned : ℕ → (radius limit : List ℤ) → Call
 planned scans radius limit = asking 2 2 level (two good) scans radius limit false round_mode equation_rule no_buddies 1000 60
 
 -- with that buddy check, in a plan of those radii on that first guess
-abbrev checked : (on : Bool) (radius limit : ℤ) (radii : List ℤ) → List ℤ → Call
+abbrev pub checked : (on : Bool) (radius limit : ℤ) (radii : List ℤ) → List ℤ → Call
 checked on radius limit radii z = asking 2 2 z (two good) 2 radii at0 false round_mode equation_rule (record { on = on; radius = radius; limit = limit }) 1000 60
 
-abbrev checked_by : (on : Bool) (radius limit : ℤ) → Call
+abbrev pub checked_by : (on : Bool) (radius limit : ℤ) → Call
 checked_by on radius limit = checked on radius limit at64 level
 
 -- the whole window
-abbrev all : Window
+abbrev pub all : Window
 all = window_at 0 1 0 1
 
 -- a screen of that window twice, and one of none
-abbrev all_twice : Screen
+abbrev pub all_twice : Screen
 all_twice = four_columns (0 ∷ 0 ∷ []) (1 ∷ 1 ∷ []) (0 ∷ 0 ∷ []) (1 ∷ 1 ∷ [])
 
-abbrev no_windows : Screen
+abbrev pub no_windows : Screen
 no_windows = four_columns [] [] [] []
 
 -- a screen of so many points, the first of all
-abbrev points : ℕ → Screen
+abbrev pub points : ℕ → Screen
 points n = four_columns (tab n (λ k. 0)) (tab n (λ k. 0)) (tab n (λ k. 0)) (tab n (λ k. 0))
 
 -- each call refuses it so, with results of the right length
-abbrev EachRefuses : Call → Refusal → Type 0
+abbrev pub EachRefuses : Call → Refusal → Type 0
 EachRefuses c r = (analysis_refusal c 4 4 2 ≡ r) × (window_refusal c all 4 4 ≡ r) × (screen_refusal c all_twice 8 8 ≡ r) × (screen_refusal c no_windows 0 0 ≡ r)
 
 -- a screen of right shape else
-abbrev Screened : Screen → (grid support : ℕ) → Refusal → Type 0
+abbrev pub Screened : Screen → (grid support : ℕ) → Refusal → Type 0
 Screened s grid support r = screen_refusal (shaped_so 2 2 level) s grid support ≡ r
-
--- ---- what the calls refuse, and what they do not
 
 pub record Refusals : Type 0 where
   pub not_refused : EachRefuses (shaped_so 2 2 level) accepted
@@ -205,127 +194,17 @@ pub record Refusals : Type 0 where
   pub both_missing : EachRefuses (stationed_in wind_mode (two good)) accepted
   pub strongest_wind : EachRefuses (stationed_in wind_mode (two (blowing (negsuc 99) (pos 100)))) accepted
 
--- more rows than 512, in equal columns
-too_many : (ss : List Station) → most_stations < length ss → bad_columns (columns_of ss) ≡ true
-unfolding bad_columns
-too_many ss h =
-    rw (
-      length-map ss (λ (s : Station). s.x),
-      length-map ss (λ (s : Station). s.y),
-      length-map ss (λ (s : Station). s.value),
-      length-map ss (λ (s : Station). s.observed),
-      length-map ss (λ (s : Station). s.from),
-      length-map ss (λ (s : Station). s.until),
-      length-map ss (λ (s : Station). s.wind.u),
-      length-map ss (λ (s : Station). s.wind.v),
-      eq-eqb (length ss) (length ss) refl,
-      lt-ltb most_stations (length ss) h,
-    )
-
-refusals : Refusals
-unfolding analysis_refusal window_refusal screen_refusal from_five in_order refused_with refused_at first first_from or_next bad_shape bad_window windows_of bad_screen total bad_lengths bad_columns bad_scans bad_scan rising bad_buddies bad_guess bad_station bad_wind is_no_wind stations_of station_at is_missing tab
-refusals =
-    record {
-      not_refused = (refl, refl, refl, refl);
-      as_one = refl;
-      one_column = (refl, refl, refl, refl);
-      one_row = (refl, refl, refl, refl);
-      many_columns = (refl, refl, refl, refl);
-      many_rows = (refl, refl, refl, refl);
-      long_guess = (refl, refl, refl, refl);
-      left_past_right = refl;
-      top_past_bottom = refl;
-      past_the_right = refl;
-      past_the_bottom = refl;
-      last_point = refl;
-      short_right = refl;
-      short_top = refl;
-      long_bottom = refl;
-      seventeen_windows = refl;
-      sixteen_windows = refl;
-      unequal_before_bad = refl;
-      bad_window_by_index = refl;
-      first_of_two_windows = refl;
-      bad_window_before_lengths = refl;
-      together = refl;
-      last_window_alone = refl;
-      long_screen_support = refl;
-      no_windows_no_points = refl;
-      short_grid = refl;
-      short_support = refl;
-      short_verdicts = refl;
-      short_tile = refl;
-      short_tile_support = refl;
-      unequal = (refl, refl, refl, refl);
-      short_winds = (refl, refl, refl, refl);
-      long_winds = (refl, refl, refl, refl);
-      many = λ ss e. too_many ss (omega arith);
-      most = λ ss e. columns_good (columns_of ss) (equal_columns ss (omega arith));
-      no_scans = (refl, refl, refl, refl);
-      seven_scans = (refl, refl, refl, refl);
-      six_scans = (refl, refl, refl, refl);
-      short_radii = (refl, refl, refl, refl);
-      short_limits = (refl, refl, refl, refl);
-      third_mode = (refl, refl, refl, refl);
-      mode_before_radius = (refl, refl, refl, refl);
-      mode_before_wind = (refl, refl, refl, refl);
-      columns_before_mode = (refl, refl, refl, refl);
-      second_rule = (refl, refl, refl, refl);
-      rule_0 = (refl, refl, refl, refl);
-      third_rule = (refl, refl, refl, refl);
-      rule_before_radius = (refl, refl, refl, refl);
-      columns_before_rule = (refl, refl, refl, refl);
-      no_radius = (refl, refl, refl, refl);
-      wide_radius = (refl, refl, refl, refl);
-      widest_radius = (refl, refl, refl, refl);
-      first_of_two_scans = (refl, refl, refl, refl);
-      rises = (refl, refl, refl, refl);
-      negative_limit = (refl, refl, refl, refl);
-      large_limit = (refl, refl, refl, refl);
-      largest_limit = (refl, refl, refl, refl);
-      no_B = (refl, refl, refl, refl);
-      least_B = (refl, refl, refl, refl);
-      most_B = (refl, refl, refl, refl);
-      past_B = (refl, refl, refl, refl);
-      negative_L = (refl, refl, refl, refl);
-      past_L = (refl, refl, refl, refl);
-      off_unread = (refl, refl, refl, refl);
-      scan_before_check = (refl, refl, refl, refl);
-      check_before_guess = (refl, refl, refl, refl);
-      high_guess = (refl, refl, refl, refl);
-      low_guess = (refl, refl, refl, refl);
-      edge_guess = (refl, refl, refl, refl);
-      first_of_two_guesses = (refl, refl, refl, refl);
-      missing_guess = (refl, refl, refl, refl);
-      high_value = (refl, refl, refl, refl);
-      missing_value = (refl, refl, refl, refl);
-      next_to_the_mark = (refl, refl, refl, refl);
-      far_x = (refl, refl, refl, refl);
-      far_y = (refl, refl, refl, refl);
-      edge_place = (refl, refl, refl, refl);
-      no_service = (refl, refl, refl, refl);
-      first_of_two_rows = (refl, refl, refl, refl);
-      u_past_100 = (refl, refl, refl, refl);
-      v_past_100 = (refl, refl, refl, refl);
-      u_missing = (refl, refl, refl, refl);
-      v_missing = (refl, refl, refl, refl);
-      both_missing = (refl, refl, refl, refl);
-      strongest_wind = (refl, refl, refl, refl);
-    }
-
--- ---- verdicts before the first scan, on a grid of two by two at minute 1000, with readings of up to 60 minutes
-
-abbrev verdict : Station → ℕ
+abbrev pub verdict : Station → ℕ
 verdict s = before_scans most_beyond 2 2 1000 60 s
 
 -- a good reading of another minute, of a mast with another service, and at another place
-abbrev observed_at : ℕ → Station
+abbrev pub observed_at : ℕ → Station
 observed_at minute = mast (pos 0) (pos 0) (pos 0) minute 0 no_end
 
-abbrev serving : (observed from until : ℕ) → Station
+abbrev pub serving : (observed from until : ℕ) → Station
 serving observed from until = mast (pos 0) (pos 0) (pos 0) observed from until
 
-abbrev standing : (x y : ℤ) → Station
+abbrev pub standing : (x y : ℤ) → Station
 standing x y = mast x y (pos 0) 1000 0 no_end
 
 pub record Verdicts : Type 0 where
@@ -360,45 +239,11 @@ pub record Verdicts : Type 0 where
   pub at_no_limit : after_test 1 0 (pos 0) 0 ≡ 0
   pub rejected_before : after_test 2 200 (pos 0) 11 ≡ 11
 
-verdicts : Verdicts
-unfolding before_scans first_that_fits is_missing out_of_service serves off_grid near_axis after_test
-verdicts =
-    record {
-      fine = refl;
-      missing = refl;
-      a_proper_value = refl;
-      read_before_service = refl;
-      read_when_put_up = refl;
-      taken_down_by_T = refl;
-      taken_down_after_T = refl;
-      put_up_after_T = refl;
-      read_when_taken_down = refl;
-      no_end = refl;
-      two_before_three = refl;
-      read_at_T = refl;
-      read_after_T = refl;
-      of_the_greatest_age = refl;
-      too_old = refl;
-      any_age = refl;
-      far_corner = refl;
-      posts_at_corners = (refl, refl);
-      past_columns = refl;
-      past_rows = refl;
-      before_columns = refl;
-      before_rows = refl;
-      rejected_in_the_first = refl;
-      rejected_in_the_last = refl;
-      at_no_limit = refl;
-      rejected_before = refl;
-    }
-
--- ---- readings and summaries
-
 -- 64 units in its second point, and a support byte there and in the first
-abbrev ramp : List ℤ
+abbrev pub ramp : List ℤ
 ramp = pos 0 ∷ pos 4096 ∷ pos 0 ∷ negsuc 63 ∷ []
 
-abbrev upper : List ℕ
+abbrev pub upper : List ℕ
 upper = 1 ∷ 32 ∷ 0 ∷ 0 ∷ []
 
 pub record Readings : Type 0 where
@@ -420,44 +265,23 @@ pub record Readings : Type 0 where
       ≡ record { refusal = 0; place = 0; units = record { lowest = double (negsuc 63) 64; highest = double (pos 4096) 64; span = double (pos 4160) 64 } }
   pub summary_refused : summary 4 1 ramp ≡ record { refusal = 1; place = 0; units = record { lowest = positive_zero; highest = positive_zero; span = positive_zero } }
 
-readings : Readings
-unfolding reading reading_refusal summary_refusal refused_with bad_shape reading_in near_axis place is_backed cell sum_at corners field_of numbers_of summary units_of lowest highest
-readings =
-    record {
-      backed = refl;
-      first_guess = refl;
-      far_corner = refl;
-      off-grid = refl;
-      before_grid = refl;
-      refused = refl;
-      refused_shape = refl;
-      kind_of_off_grid = refl;
-      kind_of_first_guess = refl;
-      kind_of_backed = refl;
-      kind_of_refused = refl;
-      summarised = refl;
-      summary_refused = refl;
-    }
-
--- ---- texts
-
 -- a request on a grid of two by two, up to its plan, from it to the stations, and the stations
-abbrev opening : List ℕ
+abbrev pub opening : List ℕ
 opening = ascii "grid=2,2\ntime=1000\n"
 
-abbrev guessed : List ℕ
+abbrev pub guessed : List ℕ
 guessed = ascii "row=0,0\nrow=0,0\n"
 
-abbrev stationless : List ℕ
+abbrev pub stationless : List ℕ
 stationless = opening ++ ascii "smooth=0\nscans=1\nscan=1,0\n" ++ guessed ++ ascii "stations=0\n"
 
 -- one mast, and those bytes where the line of the rule stands
-abbrev lone_text : List ℕ → List ℕ
+abbrev pub lone_text : List ℕ → List ℕ
 lone_text rule =
     opening ++ ascii "smooth=0\n" ++ rule ++ ascii "scans=1\nscan=73,64\nrow=640,640\nrow=640,640\nstations=1\nst=20,0,704,1000,0,open\n"
 
 -- three masts near the first point, the last of them warm, and those bytes where the line of the check stands
-abbrev courtyard_text : List ℕ → List ℕ
+abbrev pub courtyard_text : List ℕ → List ℕ
 courtyard_text check =
     opening ++ ascii "smooth=0\nscans=1\nscan=40,64\n" ++ check ++ ascii "row=640,640\nrow=640,640\nstations=3\nst=0,0,640,1000,0,open\nst=10,0,640,1000,0,open\nst=0,10,680,1000,0,open\n"
 
@@ -512,68 +336,15 @@ pub record Texts : Type 0 where
   pub buddies_on : answer_text (courtyard_text (ascii "buddy=30,39\n")) ≡ ascii "refusal=0\nplace=0\nrow=640,640\nrow=640,640\nsup=1,0\nsup=0,0\nver=0,0,21\n"
   pub buddies_off : answer_text (courtyard_text []) ≡ ascii "refusal=0\nplace=0\nrow=653,640\nrow=640,640\nsup=1,0\nsup=0,0\nver=0,0,0\n"
 
-texts : Texts
-unfolding answer_text reply_text request_lines lines rows flatten nothing_after grid_line entry_line row_line station_line number observation end word digits positive natural between count unsigned negative signed values from_five in_order refused_with refused_at first first_from or_next bad_scans bad_scan rising bad_buddies bad_guess bad_station bad_wind is_no_wind is_missing analysis_text first_two grid_lines keyed cells integer decimal spelled analysis stored tab after_within scan start rows_judged all_judged each each_from beside_others heard says is_odd after_buddies B L sums_at corrected guess field_of R E before_scans first_that_fits out_of_service serves off_grid near_axis tested after_test difference value_at place sum_at cell corners rounded total share gift weight_at blows weight divisor correction backed_by
-texts =
-    record {
-      longest = λ text e. rw (le-ltb 65536 (length text) (omega arith));
-      too_long = λ text e. rw (lt-ltb 65536 (length text) (omega arith));
-      empty = refl;
-      absent = refl;
-      unended = refl;
-      surplus = refl;
-      doubled = refl;
-      no_age = refl;
-      narrow = refl;
-      wide = refl;
-      no_scans = refl;
-      seven_scans = refl;
-      leading_zero = refl;
-      past_u32 = refl;
-      missing_in_a_row = refl;
-      many_stations = refl;
-      rule_0 = refl;
-      third_rule = refl;
-      rule_before_smooth = refl;
-      rule_twice = refl;
-      rule_after_scans = refl;
-      buddy_before_scans = refl;
-      buddy_among_scans = refl;
-      buddy_twice = refl;
-      buddy_after_a_row = refl;
-      buddy_of_one = refl;
-      buddy_past_i32 = refl;
-      no_radius = refl;
-      past_B = refl;
-      past_L = refl;
-      high_guess = refl;
-      no_service = refl;
-      no_stations = refl;
-      age_left_out = refl;
-      rule_1 = refl;
-      rule_2 = refl;
-      rule_left_out = refl;
-      buddies_on = refl;
-      buddies_off = refl;
-    }
-
--- ---- the border of a smoothed grid of three by three keeps its values
-
 pub record Borders : Type 0 where
   pub border_keeps : (z : Field ℤ) → (smoothed 3 3 z 0 1 ≡ z 0 1) × (smoothed 3 3 z 2 1 ≡ z 2 1) × (smoothed 3 3 z 1 0 ≡ z 1 0) × (smoothed 3 3 z 1 2 ≡ z 1 2)
 
-borders : Borders
-unfolding smoothed inner
-borders = record { border_keeps = λ z. (refl, refl, refl, refl) }
-
--- ---- posts beyond the border
-
 -- a grid of two by two, level at 640, so many scans of one radius and limit 64, and one mast, at (x, y), that reads 704
-abbrev asks_of : (scans radius : ℕ) (x y : ℤ) → Request
+abbrev pub asks_of : (scans radius : ℕ) (x y : ℤ) → Request
 asks_of scans radius x y =
     asking 2 2 (tab 4 (λ p. pos 640)) (mast x y (pos 704) 1000 0 no_end ∷ []) scans (tab scans (λ m. pos radius)) (tab scans (λ m. pos 64)) false round_mode equation_rule no_buddies 1000 60
 
-abbrev from_to : ℕ → ℕ → Span
+abbrev pub from_to : ℕ → ℕ → Span
 from_to first last = record { first = first; last = last }
 
 pub record Posts : Type 0 where
@@ -592,22 +363,6 @@ pub record Posts : Type 0 where
   pub not_beside_the_edge : (on_span 3 (from_to 0 1) (pos 65) ≡ false) × (on_span 3 (from_to 1 2) (pos 63) ≡ false)
   pub not_past_the_other_border : (on_span 3 (from_to 0 1) (pos 384) ≡ false) × (on_span 3 (from_to 1 2) (negsuc 255) ≡ false)
 
-posts : Posts
-unfolding analysis stored tab after_within scan start rows_judged all_judged each each_from beside_others heard says is_odd after_buddies B L sums_at corrected guess field_of R E before_scans first_that_fits is_missing out_of_service serves off_grid near_axis tested after_test difference value_at place sum_at cell corners rounded total share gift weight_at blows weight divisor correction backed_by on_span
-posts =
-    record {
-      west_of_the_grid = refl;
-      on_the_border = refl;
-      nearest_place = λ z. refl;
-      field_as_found = λ guess. refl;
-      kept_at_the_border = (refl, refl);
-      kept_on_the_edge = (refl, refl);
-      not_beside_the_edge = (refl, refl);
-      not_past_the_other_border = (refl, refl);
-    }
-
--- ---- the rim of a radius
-
 pub record Rims : Type 0 where
   -- 63 and 9 off (0, 0), so d2 = 4,050 and R² = 4,096: hundredths would give that point no support
   pub weighed_by_ten_thousandths : analysis (asks_of 1 64 (pos 63) (pos 9))
@@ -616,28 +371,22 @@ pub record Rims : Type 0 where
   pub inside_without_weight : analysis (asks_of 1 73 (pos 12) (pos 72))
       ≡ record { grid = pos 640 ∷ pos 640 ∷ pos 704 ∷ pos 704 ∷ []; support = 0 ∷ 0 ∷ 1 ∷ 1 ∷ []; verdict = 0 ∷ [] }
 
-rims : Rims
-unfolding analysis stored tab after_within scan start rows_judged all_judged each each_from beside_others heard says is_odd after_buddies B L sums_at corrected guess field_of R E before_scans first_that_fits is_missing out_of_service serves off_grid near_axis tested after_test difference value_at place sum_at cell corners rounded total share gift weight_at blows weight divisor correction backed_by
-rims = record { weighed_by_ten_thousandths = refl; inside_without_weight = refl }
-
--- ---- streaks along the wind
-
-abbrev wind : (u v : ℤ) → Wind
+abbrev pub wind : (u v : ℤ) → Wind
 wind u v = record { u = u; v = v }
 
 -- a mast of that wind
-abbrev wind_mast : Wind → (x y value : ℤ) → Station
+abbrev pub wind_mast : Wind → (x y value : ℤ) → Station
 wind_mast w x y value = record { x = x; y = y; value = value; observed = 1000; from = 0; until = no_end; wind = w }
 
 -- a grid of two by two, level at 640, one scan, limit 64
-abbrev breezy : (mode radius : ℕ) → List Station → Request
+abbrev pub breezy : (mode radius : ℕ) → List Station → Request
 breezy mode radius masts = asking 2 2 (tab 4 (λ p. pos 640)) masts 1 (pos radius ∷ []) (pos 64 ∷ []) false mode equation_rule no_buddies 1000 60
 
 -- two masts, on the first point and on the last, in a wind along the rows
-abbrev two_masts : List Station
+abbrev pub two_masts : List Station
 two_masts = wind_mast (wind (pos 10) (pos 0)) (pos 0) (pos 0) (pos 704) ∷ wind_mast (wind (pos 10) (pos 0)) (pos 64) (pos 64) (pos 576) ∷ []
 
-abbrev levelled : List ℤ → List ℕ → (verdict : List ℕ) → Analysis
+abbrev pub levelled : List ℤ → List ℕ → (verdict : List ℕ) → Analysis
 levelled grid support verdict = record { grid = grid; support = support; verdict = verdict }
 
 pub record Streaks : Type 0 where
@@ -658,32 +407,19 @@ pub record Streaks : Type 0 where
   pub rim_along_the_wind : analysis (breezy wind_mode 73 (wind_mast (wind (pos 1) (pos 6)) (pos 12) (pos 72) (pos 704) ∷ []))
       ≡ levelled (pos 704 ∷ pos 640 ∷ pos 704 ∷ pos 704 ∷ []) (1 ∷ 0 ∷ 1 ∷ 1 ∷ []) (0 ∷ [])
 
-streaks : Streaks
-unfolding analysis stored tab after_within scan start rows_judged all_judged each each_from beside_others heard says is_odd after_buddies B L sums_at corrected guess field_of R E before_scans first_that_fits is_missing is_no_wind out_of_service serves off_grid near_axis tested after_test difference value_at place sum_at cell corners rounded total share gift weight_at blows stretched weight divisor correction backed_by
-streaks =
-    record {
-      along_the_rows = (refl, refl, refl, refl, refl, refl);
-      round_elsewhere = (refl, refl, refl, refl);
-      past_64_bits = (refl, refl, refl);
-      two-masts = (refl, refl);
-      rim_along_the_wind = refl;
-    }
-
--- ---- a lone station, by both rules
-
 -- a grid of two by two, level at 640, one scan, limit 64
-abbrev ruled : (mode rule radius : ℕ) → List Station → Request
+abbrev pub ruled : (mode rule radius : ℕ) → List Station → Request
 ruled mode rule radius masts = asking 2 2 (tab 4 (λ p. pos 640)) masts 1 (pos radius ∷ []) (pos 64 ∷ []) false mode rule no_buddies 1000 60
 
 -- on the first point, and 20 off it
-abbrev on_point : Station
+abbrev pub on_point : Station
 on_point = mast (pos 0) (pos 0) (pos 704) 1000 0 no_end
 
-abbrev beside : (value : ℤ) → Station
+abbrev pub beside : (value : ℤ) → Station
 beside value = mast (pos 20) (pos 0) value 1000 0 no_end
 
 -- 12 and 72 off the first point: inside R = 73 there, and without weight
-abbrev at_the_rim : Station
+abbrev pub at_the_rim : Station
 at_the_rim = mast (pos 12) (pos 72) (pos 704) 1000 0 no_end
 
 pub record LoneStations : Type 0 where
@@ -705,80 +441,18 @@ pub record LoneStations : Type 0 where
   pub along_the_wind : analysis (ruled wind_mode listing_rule 73 (wind_mast (wind (pos 1) (pos 6)) (pos 12) (pos 72) (pos 704) ∷ []))
       ≡ levelled (pos 661 ∷ pos 640 ∷ pos 701 ∷ pos 660 ∷ []) (1 ∷ 0 ∷ 1 ∷ 1 ∷ []) (0 ∷ [])
 
-lone_stations : LoneStations
-unfolding analysis stored tab after_within scan start rows_judged all_judged each each_from beside_others heard says is_odd after_buddies B L sums_at corrected guess field_of R E before_scans first_that_fits is_missing is_no_wind out_of_service serves off_grid near_axis tested after_test difference value_at place sum_at cell corners rounded total share gift weight_at blows stretched weight divisor correction backed_by
-lone_stations =
-    record {
-      by_both_rules = (refl, refl);
-      below_the_guess = refl;
-      lone_without_weight = refl;
-      beside_one_without_weight = refl;
-      beside_one_rejected = refl;
-      beside_one_dead = refl;
-      along_the_wind = refl;
-    }
-
--- ---- clusters of buddies
-
 -- a grid of two by two, level at 640, one scan of radius 96 and limit 64, that B and L
-abbrev clustered : (rule radius limit : ℕ) → List Station → Request
+abbrev pub clustered : (rule radius limit : ℕ) → List Station → Request
 clustered rule radius limit masts =
     asking 2 2 (tab 4 (λ p. pos 640)) masts 1 (pos 96 ∷ []) (pos 64 ∷ []) false round_mode rule (record { on = true; radius = pos radius; limit = pos limit }) 1000 60
 
 -- a mast there, whose D is so much
-abbrev odd : (x y : ℤ) (D : ℕ) → Station
+abbrev pub odd : (x y : ℤ) (D : ℕ) → Station
 odd x y D = mast x y (pos (640 + D)) 1000 0 no_end
 
 -- two that agree, and one whose D is 40 more
-abbrev three_with : Station → List Station
+abbrev pub three_with : Station → List Station
 three_with third = odd (pos 0) (pos 0) 0 ∷ odd (pos 10) (pos 0) 0 ∷ third ∷ []
-
-pub record Clusters : Type 0 where
-  -- n·L met exactly, exceeded by the least, and by so much that the two are set aside with the third
-  pub met : (analysis (clustered equation_rule 30 40 (three_with (odd (pos 0) (pos 10) 40)))).verdict ≡ 0 ∷ 0 ∷ 0 ∷ []
-  pub by_one_more : (analysis (clustered equation_rule 30 39 (three_with (odd (pos 0) (pos 10) 40)))).verdict ≡ 0 ∷ 0 ∷ 21 ∷ []
-  pub all_three : (analysis (clustered equation_rule 30 19 (three_with (odd (pos 0) (pos 10) 40)))).verdict ≡ 21 ∷ 21 ∷ 21 ∷ []
-  -- one neighbour is not enough
-  pub one_neighbour : (analysis (clustered equation_rule 30 0 (odd (pos 0) (pos 0) 0 ∷ odd (pos 10) (pos 0) 60 ∷ []))).verdict ≡ 0 ∷ 0 ∷ []
-  -- a third at distance B is none, and one unit nearer is
-  pub at_B : (analysis (clustered equation_rule 100 0 (odd (pos 0) (pos 0) 0 ∷ odd (pos 0) (pos 0) 0 ∷ odd (pos 60) (pos 80) 40 ∷ []))).verdict ≡ 0 ∷ 0 ∷ 0 ∷ []
-  pub nearer : (analysis (clustered equation_rule 100 0 (odd (pos 0) (pos 0) 0 ∷ odd (pos 0) (pos 0) 0 ∷ odd (pos 60) (pos 79) 40 ∷ []))).verdict ≡ 21 ∷ 21 ∷ 21 ∷ []
-  -- all at one place, with B = 1
-  pub one_place : (analysis (clustered equation_rule 1 20 (odd (pos 5) (pos 5) 0 ∷ odd (pos 5) (pos 5) 40 ∷ odd (pos 5) (pos 5) 0 ∷ []))).verdict ≡ 0 ∷ 21 ∷ 0 ∷ []
-  -- one that the E test has rejected in this scan, or that is dead, is no neighbour
-  pub beside_one_rejected : (analysis (clustered equation_rule 30 0 (three_with (odd (pos 0) (pos 10) 65)))).verdict ≡ 0 ∷ 0 ∷ 11 ∷ []
-  pub beside_one_dead : (analysis (clustered equation_rule 30 0 (odd (pos 0) (pos 0) 0 ∷ odd (pos 10) (pos 0) 60 ∷ mast (pos 0) (pos 10) missing_mark 1000 0 no_end ∷ []))).verdict
-      ≡ 0 ∷ 0 ∷ 1 ∷ []
-  -- posts by their true places: 40 apart, with one nearest place on the grid
-  pub posts_apart : (analysis (clustered equation_rule 30 0 (odd (negsuc 39) (pos 0) 0 ∷ odd (pos 0) (pos 0) 40 ∷ odd (pos 0) (pos 0) 40 ∷ []))).verdict ≡ 0 ∷ 0 ∷ 0 ∷ []
-  pub posts_near : (analysis (clustered equation_rule 41 20 (odd (negsuc 39) (pos 0) 0 ∷ odd (pos 0) (pos 0) 40 ∷ odd (pos 0) (pos 0) 40 ∷ []))).verdict ≡ 21 ∷ 0 ∷ 0 ∷ []
-  -- all are judged against the same survivors: no station's verdict changes another's
-  pub two_odd_ones : (analysis (clustered equation_rule 30 24 (odd (pos 0) (pos 0) 0 ∷ odd (pos 0) (pos 0) 0 ∷ odd (pos 0) (pos 0) 0 ∷ odd (pos 0) (pos 0) 40 ∷ odd (pos 0) (pos 0) 40 ∷ []))).verdict
-      ≡ 0 ∷ 0 ∷ 0 ∷ 21 ∷ 21 ∷ []
-  -- who is set aside has no weight: the grid of the two that stay, and under rule 2 the other is a lone one
-  pub without_the_third : analysis (clustered equation_rule 30 39 (three_with (odd (pos 0) (pos 10) 40)))
-      ≡ levelled (pos 640 ∷ pos 640 ∷ pos 640 ∷ pos 640 ∷ []) (1 ∷ 1 ∷ 1 ∷ 1 ∷ []) (0 ∷ 0 ∷ 21 ∷ [])
-
-clusters : Clusters
-unfolding analysis stored tab after_within scan start rows_judged all_judged each each_from beside_others heard says is_odd after_buddies B L sums_at corrected guess field_of R E before_scans first_that_fits is_missing out_of_service serves off_grid near_axis tested after_test difference value_at place sum_at cell corners rounded total share gift weight_at blows weight divisor correction backed_by
-clusters =
-    record {
-      met = refl;
-      by_one_more = refl;
-      all_three = refl;
-      one_neighbour = refl;
-      at_B = refl;
-      nearer = refl;
-      one_place = refl;
-      beside_one_rejected = refl;
-      beside_one_dead = refl;
-      posts_apart = refl;
-      posts_near = refl;
-      two_odd_ones = refl;
-      without_the_third = refl;
-    }
-
--- ---- the numbers that the names of Most stand for
 
 pub record Numbers : Type 0 where
   pub most-field : most_field ≡ 13000000
@@ -786,34 +460,3 @@ pub record Numbers : Type 0 where
   pub most-weights : most_weights ≡ 5120000
   pub most-pulls : most_pulls ≡ 10240000000000
   pub most-reach : most_reach ≡ 150
-
--- ---- the table
-
-pub record Cases : Type 0 where
-  pub refused_so : Refusals
-  pub judged_so : Verdicts
-  pub read_so : Readings
-  pub answered_so : Texts
-  pub smoothed_so : Borders
-  pub heard_so : Posts
-  pub weighed_so : Rims
-  pub streaked_so : Streaks
-  pub alone_so : LoneStations
-  pub set_aside_so : Clusters
-  pub numbers : Numbers
-
-pub cases : Cases
-cases =
-    record {
-      refused_so = refusals;
-      judged_so = verdicts;
-      read_so = readings;
-      answered_so = texts;
-      smoothed_so = borders;
-      heard_so = posts;
-      weighed_so = rims;
-      streaked_so = streaks;
-      alone_so = lone_stations;
-      set_aside_so = clusters;
-      numbers = record { most-field = refl; most-difference = refl; most-weights = refl; most-pulls = refl; most-reach = refl };
-    }

@@ -16,22 +16,17 @@ pub mod Reach
 pub mod Readings
 pub mod Text
 pub mod Promises
--- PROVED: theorems about the definitions above.
+-- What the theorems of proofs/ speak of beside the definitions above, and the examples that they compute.
 pub mod Most
-pub mod OneOutcome
 pub mod Accepted
 pub mod Calls
 pub mod Places
 pub mod Nearest
-pub mod Weights
 pub mod Streaks
 pub mod Gifts
-pub mod Adding
-pub mod Cells
 pub mod Decimals
 pub mod Stored
 pub mod Judging
-pub mod Lengths
 pub mod Bounds
 pub mod Exact
 pub mod Support
@@ -47,9 +42,6 @@ pub mod BuddyCheck
 pub mod Axes
 pub mod Laws
 pub mod Near
-pub mod Gathered
-pub mod Borders
-pub mod Locality
 pub mod Shares
 pub mod Cressman
 pub mod Cut
@@ -59,5 +51,3 @@ pub mod Example
 pub mod Table
 pub mod Cases
 pub mod Cheats
--- STATED: those of them that docs/PROMISES.md names, with their statements in full.
-pub mod Stated

@@ -16,12 +16,15 @@ use Rattle.scheme.specs.Text.{most_bytes, first_two, analysis_text, reply_text}
 use Rattle.scheme.specs.Text.Pieces.{ascii}
 use Rattle.scheme.specs.Text.Printed.{decimal, keyed}
 use Rattle.scheme.specs.Promises.{Settles, put_first, Stands}
-use Rattle.scheme.specs.OneOutcome.{both}
-use Rattle.scheme.specs.Accepted.{in_count, from_six, Formed, formed_sound, Fits}
-use Rattle.scheme.specs.Calls.{call_for, asks, refused_as_asked, equal_columns}
-use Rattle.scheme.specs.Places.{Tells, analysis_tells_refusal_and_place}
-use Rattle.scheme.specs.Decimals.{decimal_length}
-use Rattle.scheme.specs.AnswerSize.{sound_answer_is_short}
+use Rattle.scheme.proofs.OneOutcome.{both}
+use Rattle.scheme.specs.Accepted.{from_six, Formed, Fits}
+use Rattle.scheme.proofs.Accepted.{in_count, formed_sound}
+use Rattle.scheme.specs.Calls.{call_for}
+use Rattle.scheme.proofs.Calls.{asks, refused_as_asked, equal_columns}
+use Rattle.scheme.specs.Places.{Tells}
+use Rattle.scheme.proofs.Places.{analysis_tells_refusal_and_place}
+use Rattle.scheme.proofs.Decimals.{decimal_length}
+use Rattle.scheme.proofs.AnswerSize.{sound_answer_is_short}
 use Rattle.text_print.specs.Written.{Written}
 use Rattle.text_print.specs.Rows.{keyed_one}
 

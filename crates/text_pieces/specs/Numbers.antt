@@ -12,7 +12,8 @@ use Rattle.std.proofs.Math.Facts.{to_z_pos}
 use Rattle.lists.specs.Tests.{lt_or_le, and_true}
 use Rattle.scheme.specs.Text.Reader.{fails, reads, onward, ◌or◌}
 use Rattle.scheme.specs.Text.Pieces.{word, digits, positive, natural, between, count, negative, signed}
-use Rattle.scheme.specs.RoundTrip.{is_digit, between_reads}
+use Rattle.scheme.specs.RoundTrip.{is_digit}
+use Rattle.scheme.proofs.RoundTrip.{between_reads}
 use Rattle.text_pieces.specs.declared.NaturalRead.{NaturalRead}
 use Rattle.text_pieces.specs.declared.NaturalRead.TheVariants.{Value as Natural, NotInForm as NotNatural}
 use Rattle.text_pieces.specs.declared.UnsignedRead.{UnsignedRead}

@@ -5,7 +5,7 @@ use Rattle.std.proofs.Math.IntN.{+ℤ_idl}
 use Rattle.std.specs.Int.Signed.{lt_z, non_neg}
 use Rattle.std.specs.Int.{w32, w64}
 use Rattle.scheme.specs.Text.Printed.{decimal, integer}
-use Rattle.scheme.specs.Decimals.{decimal_one, decimal_more}
+use Rattle.scheme.proofs.Decimals.{decimal_one, decimal_more}
 
 -- ---- the sign
 

@@ -6,10 +6,12 @@ use Rattle.scheme.specs.Units.{most_side, Field, stored, guess, Request}
 use Rattle.scheme.specs.Refusals.{Span, Window, points_along}
 use Rattle.scheme.specs.Scan.{at_end}
 use Rattle.scheme.specs.Reach.{reach, widened, cut_of, window_of, cut, whole_at}
-use Rattle.scheme.specs.Accepted.{same_shape, Stationed, no_station, Sound, FitsWindow, OnGrid}
-use Rattle.scheme.specs.Stored.{stored_same}
-use Rattle.scheme.specs.Cut.{cut_sound}
-use Rattle.scheme.specs.Windows.{OfWindow, window_value, window_support}
+use Rattle.scheme.specs.Accepted.{Stationed, no_station, Sound, FitsWindow, OnGrid}
+use Rattle.scheme.proofs.Accepted.{same_shape}
+use Rattle.scheme.proofs.Stored.{stored_same}
+use Rattle.scheme.proofs.Cut.{cut_sound}
+use Rattle.scheme.specs.Windows.{OfWindow}
+use Rattle.scheme.proofs.Windows.{window_value, window_support}
 use Rattle.request.specs.declared.Terms.{Terms}
 use Rattle.request.specs.Tables.{station_of, station_in, request_in}
 use Rattle.window_spans.specs.Spans.{Placed}

@@ -7,8 +7,8 @@ use Rattle.scheme.specs.Scan.{at_end, analysis}
 use Rattle.scheme.specs.Reach.{window_of, Tile, whole_at}
 use Rattle.scheme.specs.Promises.{slices, tile}
 use Rattle.scheme.specs.Accepted.{Shaped, OnGrid, FitsWindow}
-use Rattle.scheme.specs.Stored.{length-stored, field_stored, stored_same}
-use Rattle.scheme.specs.Lengths.{grid_long, support_long}
+use Rattle.scheme.proofs.Stored.{length-stored, field_stored, stored_same}
+use Rattle.scheme.proofs.Lengths.{grid_long, support_long}
 use Rattle.window_cut.specs.Part.{part_of, PartReady, part_ready}
 
 -- ---- a lent prefix of n elements, and the array with what comes back in its place

@@ -9,8 +9,9 @@ use Rattle.scheme.specs.Refusals.{Window, most_windows, points_along, points_of,
 use Rattle.scheme.specs.Reach.{window_of, Tile, whole_at, in_turn}
 use Rattle.scheme.specs.Promises.{tile}
 use Rattle.scheme.specs.Most.{most_points}
-use Rattle.scheme.specs.Accepted.{Shaped, OnGrid, FitsWindow, FitsScreen, few_points}
-use Rattle.scheme.specs.Stored.{length-stored}
+use Rattle.scheme.specs.Accepted.{Shaped, OnGrid, FitsWindow, FitsScreen}
+use Rattle.scheme.proofs.Accepted.{few_points}
+use Rattle.scheme.proofs.Stored.{length-stored}
 use Rattle.request.specs.declared.Screen.{Screen}
 use Rattle.request.specs.Tables.{window_no, windows_in, OnScreen}
 

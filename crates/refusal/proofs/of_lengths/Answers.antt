@@ -3,7 +3,7 @@ use native.Mathlib.Omega.{arith}
 use native.Mathlib.Nat.{mul-le-mul}
 use borrow.Author.Rules.{rules}
 use mathlib.Core.Path.{sym, ◌∙◌}
-use Rattle.scheme.specs.Accepted.{shaped}
+use Rattle.scheme.proofs.Accepted.{shaped}
 use Rattle.refusal.specs.Coded.{refused_here, not_here}
 use Rattle.refusal.proofs.of_lengths.Goals as goal
 

@@ -4,7 +4,7 @@ use native.Mathlib.Omega.{arith}
 use borrow.Author.Rules.{rules}
 use mathlib.Core.Path.{◌≡◌, sym, ap, ◌∙◌}
 use Rattle.scheme.specs.Refusals.{points_of, bad_lengths}
-use Rattle.scheme.specs.Accepted.{shaped, on-grid, wider}
+use Rattle.scheme.proofs.Accepted.{shaped, on-grid, wider}
 use Rattle.request.specs.Tables.{window_in}
 use Rattle.refusal.specs.Coded.{refused_here, not_here}
 use Rattle.refusal.proofs.of_window_lengths.Goals as goal

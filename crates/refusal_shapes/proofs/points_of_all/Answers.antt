@@ -6,7 +6,7 @@ use Rattle.lists.specs.Sums.{up_to, up_to_next}
 use Rattle.lists.specs.Turns.{sum_to, sum_tab, sum_most}
 use Rattle.scheme.specs.Refusals.{points_of}
 use Rattle.scheme.specs.Most.{most_points}
-use Rattle.scheme.specs.Accepted.{few_points}
+use Rattle.scheme.proofs.Accepted.{few_points}
 use Rattle.request.specs.Tables.{window_no}
 use Rattle.refusal_shapes.proofs.points_of_all.Goals as goal
 

@@ -4,7 +4,7 @@ use native.Mathlib.Nat.{mul-le-mul}
 use Rattle.lists.specs.Tests.{or_false}
 use Rattle.scheme.specs.Units.{least_side, most_side}
 use Rattle.scheme.specs.Refusals.{bad_shape}
-use Rattle.scheme.specs.Accepted.{counted_in}
+use Rattle.scheme.proofs.Accepted.{counted_in}
 use Rattle.refusal_shapes.proofs.shape_bad.Goals as goal
 
 pub returns-then-nx-ny : goal.returns-then-nx-ny

@@ -2,7 +2,7 @@
 use native.Mathlib.Omega.{arith}
 use borrow.Author.Rules.{rules}
 use mathlib.Core.Path.{sym}
-use Rattle.scheme.specs.Weights.{weight_beyond, weight_most}
+use Rattle.scheme.proofs.Weights.{weight_beyond, weight_most}
 use Rattle.scan_weight.specs.Product.{by_product}
 use Rattle.scan_weight.proofs.weight.Goals as goal
 

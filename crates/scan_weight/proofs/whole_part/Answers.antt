@@ -5,7 +5,7 @@ use native.Mathlib.Nat.{mod-lt}
 use borrow.Author.Rules.{rules}
 use mathlib.Core.Path.{◌≡◌, refl, sym}
 use Rattle.scheme.specs.Weight.{scale, weight}
-use Rattle.scheme.specs.Weights.{weight_most}
+use Rattle.scheme.proofs.Weights.{weight_most}
 use Rattle.scan_weight.specs.Along.{in_two_steps}
 use Rattle.scan_weight.proofs.whole_part.Goals as goal
 use Rattle.scan_weight.proofs.whole_part.Goals.{Start}

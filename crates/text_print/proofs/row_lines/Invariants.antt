@@ -3,7 +3,7 @@ use Prim.Native.Nat.{◌+◌, ◌-◌, ◌*◌, ◌≤◌}
 use native.Mathlib.Omega.{arith}
 use mathlib.Core.Path.{◌≡◌}
 use lib.ListN.{length}
-use Rattle.scheme.specs.Stored.{row_in}
+use Rattle.scheme.proofs.Stored.{row_in}
 use Rattle.scheme.specs.Text.Pieces.{ascii}
 use Rattle.scheme.specs.Text.Printed.{integer, keyed, grid_lines}
 use Rattle.text_print.specs.Written.{Left, all_left, none_left, room_next, put_next}

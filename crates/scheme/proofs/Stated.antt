@@ -34,46 +34,51 @@ use Rattle.scheme.specs.Text.Reader.{reads}
 use Rattle.scheme.specs.Text.Pieces.{ascii}
 use Rattle.scheme.specs.Promises.{Analyses, tile, Queries, four_columns, QueriesEach, Reads, ReadsKind, ReadsValue, Summarises, Replies}
 use Rattle.scheme.specs.Accepted.{FitsScreen}
-use Rattle.scheme.specs.Calls.{call_for, asks}
-use Rattle.scheme.specs.OneOutcome as outcomes
-use Rattle.scheme.specs.Places as places
-use Rattle.scheme.specs.Nearest as nearest
+use Rattle.scheme.specs.Calls.{call_for}
+use Rattle.scheme.proofs.Calls.{asks}
+use Rattle.scheme.proofs.OneOutcome as outcomes
+use Rattle.scheme.proofs.Places as places
+use Rattle.scheme.proofs.Nearest as nearest
 use Rattle.scheme.specs.Nearest.{Nearest}
-use Rattle.scheme.specs.Weights as weights
-use Rattle.scheme.specs.Streaks as streaks
-use Rattle.scheme.specs.Finer as fineness
-use Rattle.scheme.specs.Gifts as gifts
-use Rattle.scheme.specs.Bounds as bounds
-use Rattle.scheme.specs.Support as support
+use Rattle.scheme.proofs.Weights as weights
+use Rattle.scheme.proofs.Streaks as streaks
+use Rattle.scheme.proofs.Finer as fineness
+use Rattle.scheme.proofs.Gifts as gifts
+use Rattle.scheme.proofs.Bounds as bounds
+use Rattle.scheme.proofs.Support as support
 use Rattle.scheme.specs.Support.{bit}
-use Rattle.scheme.specs.DeadMasts as dead
+use Rattle.scheme.proofs.DeadMasts as dead
 use Rattle.scheme.specs.Judging.{no_row}
-use Rattle.scheme.specs.Posts as posts
-use Rattle.scheme.specs.Winds as winds
-use Rattle.scheme.specs.Lone as lones
-use Rattle.scheme.specs.BuddyCheck as buddies
-use Rattle.scheme.specs.Entries as entries
+use Rattle.scheme.proofs.Posts as posts
+use Rattle.scheme.proofs.Winds as winds
+use Rattle.scheme.proofs.Lone as lones
+use Rattle.scheme.proofs.BuddyCheck as buddies
+use Rattle.scheme.proofs.Entries as entries
 use Rattle.scheme.specs.Laws.{Scheme}
 use Rattle.scheme.specs.Near.{Side}
-use Rattle.scheme.specs.Gathered.{is_kept, Twin}
-use Rattle.scheme.specs.Locality as locality
-use Rattle.scheme.specs.Locality.{Runs, Alike}
-use Rattle.scheme.specs.Windows as windows
-use Rattle.scheme.specs.Screens as screens
-use Rattle.scheme.specs.Screens.{of_singles}
-use Rattle.scheme.specs.Exact as exactness
-use Rattle.scheme.specs.Exact.{negative, ReadsExactly, ExactUnits, IsZero, ZerosPositive}
-use Rattle.scheme.specs.AnswerSize as size
-use Rattle.scheme.specs.RoundTrip as round
+use Rattle.scheme.proofs.Gathered.{is_kept, Twin}
+use Rattle.scheme.proofs.Locality as locality
+use Rattle.scheme.proofs.Locality.{Runs, Alike}
+use Rattle.scheme.proofs.Windows as windows
+use Rattle.scheme.proofs.Screens as screens
+use Rattle.scheme.specs.BuddyCheck as check
+use Rattle.scheme.specs.Entries.{UpToCount}
+use Rattle.scheme.specs.Windows.{OfWindow}
+use Rattle.scheme.specs.Screens.{Singly, of_singles}
+use Rattle.scheme.proofs.Exact as exactness
+use Rattle.scheme.specs.Exact.{negative, IsZero, ZerosPositive}
+use Rattle.scheme.proofs.Exact.{ReadsExactly, ExactUnits}
+use Rattle.scheme.proofs.AnswerSize as size
+use Rattle.scheme.proofs.RoundTrip as round
 use Rattle.scheme.specs.RoundTrip.{request_text, shorter_text, InRange}
-use Rattle.scheme.specs.Example as examples
+use Rattle.scheme.proofs.Example as examples
 use Rattle.scheme.specs.Example.{level, example, lone, corner, once_text, twice_text, smooth_text, once, twice, smooth, only_smoothed, corner_once, corner_twice, corner_smooth}
-use Rattle.scheme.specs.Cheats as cheats
+use Rattle.scheme.proofs.Cheats as cheats
 use Rattle.scheme.specs.Cheats.{first_two_lines, row_lines, sup_lines, ver_line, shown}
-use Rattle.scheme.specs.Table as tables
+use Rattle.scheme.proofs.Table as tables
 use Rattle.scheme.specs.Table.{Table}
-use Rattle.scheme.specs.Cases as computed
-use Rattle.scheme.specs.Cases.{Cases}
+use Rattle.scheme.proofs.Cases as computed
+use Rattle.scheme.proofs.Cases.{Cases}
 
 -- ---- DEMAND 1: one outcome of each call, and the one number tells refusal and place
 
@@ -212,7 +217,7 @@ module _ (c : Call) (w : Window) (grid support verdict : ℕ) (e : analysis_refu
       let a = windows.windows_agree_with_the_whole c w grid support verdict e on in (
         (asks part, a.accepts),
         λ i j l r t b.
-            let h : windows.OfWindow w i j = record { left = l; right = r; top = t; bottom = b } in
+            let h : OfWindow w i j = record { left = l; right = r; top = t; bottom = b } in
             ((a.inside i j h).0, a.values i j h, (a.inside i j h).1, a.supports i j h),
         λ k o l h. ((a.verdicts k o l h).0, (a.verdicts k o l h).1, (a.rows k o l (a.keeps (get_or q.stations k o) h)).1),
       )
@@ -270,7 +275,7 @@ module _ (c : Call) where
       unfolding of_singles
       screen_answers_as_its_windows =
           let fits : FitsScreen (windows_of s) (length found.grid) (length found.support) = record { grid_long = long.0; support_long = long.1 } in
-          let each : screens.Singly c s =
+          let each : Singly c s =
           record {
             found = found';
             answer = answer';
@@ -466,8 +471,8 @@ unfoldable pub before : Request → ℕ → State
 before q zero = start most_beyond q
 before q (suc m) = scan_before q m (before q m)
 
-same_before : (q : Request) (m : ℕ) → buddies.before q m ≡ before q m
-unfolding before buddies.before scan_before buddies.scan_before
+same_before : (q : Request) (m : ℕ) → check.before q m ≡ before q m
+unfolding before check.before scan_before check.scan_before
 same_before q zero = refl
 same_before q (suc m) = rw (same_before q m)
 
@@ -572,7 +577,7 @@ module _ (q : Request) (p' : Plan) (scans : p'.scans ≡ q.plan.scans) (smooth :
   abbrev other : Request
   other = asking q.nx q.ny q.first_guess q.stations p'.scans p'.radius p'.limit p'.smooth p'.mode p'.rule p'.buddies q.T q.A
 
-  abbrev same : entries.UpToCount q.plan p'
+  abbrev same : UpToCount q.plan p'
   same = record { scans = scans; smooth = smooth; mode = mode; rule = rule; buddies = buddies; radii = radii; limits = limits }
 
   pub entries_past_the_count_change_no_analysis : analysis other ≡ analysis q

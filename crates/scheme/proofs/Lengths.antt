@@ -6,8 +6,8 @@ use Rattle.std.proofs.Math.ListN.{length-map}
 use Rattle.scheme.specs.Units.{most_beyond, Request}
 use Rattle.scheme.specs.Difference.{Row}
 use Rattle.scheme.specs.Scan.{State, begins, start, differences, rows_judged, scan, after_within, after, analysis}
-use Rattle.scheme.specs.Judging.{judged_length}
-use Rattle.scheme.specs.Stored.{length-stored}
+use Rattle.scheme.proofs.Judging.{judged_length}
+use Rattle.scheme.proofs.Stored.{length-stored}
 
 module _ (q : Request) where
   -- a scan leaves a row for each

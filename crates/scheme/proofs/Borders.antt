@@ -6,10 +6,12 @@ use Rattle.lists.specs.Tests.{true_or_false, and_true, ltb_same}
 use Rattle.scheme.specs.Units.{Field}
 use Rattle.scheme.specs.Smoothing.{inner}
 use Rattle.scheme.specs.Reach.{widened}
-use Rattle.scheme.specs.Stored.{inner_in}
+use Rattle.scheme.proofs.Stored.{inner_in}
 use Rattle.scheme.specs.Axes.{off, len}
-use Rattle.scheme.specs.Laws.{Scheme, smoothed_if, Laws}
-use Rattle.scheme.specs.Near.{Side, cut_along, Point, Agree, agree_less}
+use Rattle.scheme.specs.Laws.{Scheme}
+use Rattle.scheme.proofs.Laws.{smoothed_if, Laws}
+use Rattle.scheme.specs.Near.{Side}
+use Rattle.scheme.proofs.Near.{cut_along, Point, Agree, agree_less}
 
 -- a point fewer than `wider` steps off is on the cut's border only where it is on the grid's
 inner_same : (w : Side) (ρ i : ℕ) → ρ < w.wider → Point w ρ i → inner w.n (i + off (cut_along w)) ≡ inner (len (cut_along w)) i

@@ -11,8 +11,10 @@ use Rattle.scheme.specs.Units.{step}
 use Rattle.scheme.specs.Verdicts.{is_accepted}
 use Rattle.scheme.specs.Value.{place}
 use Rattle.scheme.specs.Axes.{off, from_first}
-use Rattle.scheme.specs.Laws.{Influence, Scheme, given, gathered, Placed, Ranged, Laws}
-use Rattle.scheme.specs.Near.{Side, cut_along, Spot, spot_more, near_spot, spot_on}
+use Rattle.scheme.specs.Laws.{Influence, Scheme, Ranged}
+use Rattle.scheme.proofs.Laws.{given, gathered, Placed, Laws}
+use Rattle.scheme.specs.Near.{Side, Spot}
+use Rattle.scheme.proofs.Near.{cut_along, spot_more, near_spot, spot_on}
 
 module _ (S : Scheme) (across down : Side) where
   abbrev pub is_kept : S.Station → Bool

@@ -15,10 +15,12 @@ use Rattle.lists.specs.Parted.{rank, end, kept, gone, rank_map, map_each, each_p
 use Rattle.scheme.specs.Units.{Field, step}
 use Rattle.scheme.specs.Verdicts.{is_accepted}
 use Rattle.scheme.specs.Axes.{Axis, off, len, from_first}
-use Rattle.scheme.specs.Laws.{Scheme, States, Run, gathered, Placed, Laws}
-use Rattle.scheme.specs.Near.{Side, cut_along, Inside, Agree, inside_point, beside_point, point_spot, agree_less}
-use Rattle.scheme.specs.Gathered.{is_kept, in_cut, Near, near_more, Twin, Gone, Rows, rows_less, gathered_same}
-use Rattle.scheme.specs.Borders.{smoothing_agrees}
+use Rattle.scheme.specs.Laws.{Scheme}
+use Rattle.scheme.proofs.Laws.{States, Run, gathered, Placed, Laws}
+use Rattle.scheme.specs.Near.{Side, Inside}
+use Rattle.scheme.proofs.Near.{cut_along, Agree, inside_point, beside_point, point_spot, agree_less}
+use Rattle.scheme.proofs.Gathered.{is_kept, in_cut, Near, near_more, Twin, Gone, Rows, rows_less, gathered_same}
+use Rattle.scheme.proofs.Borders.{smoothing_agrees}
 
 -- what agrees on the window, said of its points
 pub agree_inside : {A : Type 0} (across down : Side) (f g : Field A) → Agree across down 0 f g → (i j : ℕ) → Inside across i → Inside down j
