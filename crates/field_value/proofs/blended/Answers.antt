@@ -16,28 +16,28 @@ use Rattle.field_value.proofs.blended.Goals.{After-struct_told-1, After-struct_t
 back : (t : ℤ) → nat_abs t ≤ 70368744177664 → to_z w64 (of_z w64 t) ≡ t
 back t h = bits_back w64 t (omega arith)
 
-module _ (c : After-struct_told-1 (corner-reads.Asked, corner-reads.Learnt) reads.Pre reads.Post) where
+module _ (c : After-struct_told-1) where
   one-small : nat_abs c.before.corner-t.result.t ≤ 8796093022208
   one-small = omega (arith, c.before.corner-t.ensures.1)
 
   one-is : to_z w64 (of_z w64 c.before.corner-t.result.t) ≡ c.before.corner-t.result.t
   one-is = back c.before.corner-t.result.t (omega (arith, one-small))
 
-module _ (c : After-struct_told-2-1 (corner-reads.Asked, corner-reads.Learnt) reads.Pre reads.Post) where
+module _ (c : After-struct_told-2-1) where
   two-small : nat_abs c.before.corner-t-2.result.t ≤ 17592186044416
   two-small = omega (arith, rw (one-is c.before.before) at c.before.corner-t-2.ensures.1, one-small c.before.before)
 
   two_is : to_z w64 (of_z w64 c.before.corner-t-2.result.t) ≡ c.before.corner-t-2.result.t
   two_is = back c.before.corner-t-2.result.t (omega (arith, two-small))
 
-module _ (c : After-struct_told-3-1 (corner-reads.Asked, corner-reads.Learnt) reads.Pre reads.Post) where
+module _ (c : After-struct_told-3-1) where
   three-small : nat_abs c.before.corner-t-3.result.t ≤ 26388279066624
   three-small = omega (arith, rw (two_is c.before.before) at c.before.corner-t-3.ensures.1, two-small c.before.before)
 
   three-is : to_z w64 (of_z w64 c.before.corner-t-3.result.t) ≡ c.before.corner-t-3.result.t
   three-is = back c.before.corner-t-3.result.t (omega (arith, three-small))
 
-module _ (c : After-struct_told-4-1 (corner-reads.Asked, corner-reads.Learnt) reads.Pre reads.Post) where
+module _ (c : After-struct_told-4-1) where
   four-small : nat_abs c.before.corner-t-4.result.t ≤ 35184372088832
   four-small = omega (arith, rw (three-is c.before.before) at c.before.corner-t-4.ensures.1, three-small c.before.before)
 

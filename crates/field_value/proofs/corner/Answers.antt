@@ -13,7 +13,7 @@ use Rattle.scheme.specs.Units.{step}
 use Rattle.field_value.proofs.corner.Goals as goal
 use Rattle.field_value.proofs.corner.Goals.{Start}
 
-module _ (s : Start (plus-reads.Asked, plus-reads.Learnt) reads.Pre reads.Post) where
+module _ (s : Start) where
   abbrev parts : ℕ
   parts = s.args.a * s.args.b
 

@@ -19,7 +19,7 @@ returns c =
     let a1 = a2.before in
     let k = a1.before in
     let a = k.before.args in
-    let s = k.spot_of_lem in
+    let s = k.spot_of-s in
     let z = a.z.now in
     let p = s.result.corner in
     let e1 = to_z-of_z {w = w32} (sfits_of {z = get_or z p (pos 0)} a1.blended-arg-1.given) in

@@ -38,10 +38,10 @@ returns-then-k-guess c =
     (refused_there 7 _ seven.first_bad_guess-k.ensures (omega arith) c.before.if-k-guess.true c.coded-then-k-guess.ensures))
 
 pub first_bad_station-row-requires : goal.first_bad_station-row-requires
-first_bad_station-row-requires c κs = few_stations c.before.before.before.before.before.before.before
+first_bad_station-row-requires c = few_stations c.before.before.before.before.before.before.before
 
 pub coded-requires-then-row-t : goal.coded-requires-then-row-t
-coded-requires-then-row-t c κs =
+coded-requires-then-row-t c =
     (omega arith, omega (arith, c.if-row-t.true, few_stations c.before.before.before.before.before.before.before.before.before.before))
 
 pub returns-then-row-t : goal.returns-then-row-t

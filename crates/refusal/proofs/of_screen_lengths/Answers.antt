@@ -20,7 +20,7 @@ pub returns-then-k-screen : goal.returns-then-k-screen
 returns-then-k-screen c = let two = c.before.before.before in refused_there 2 _ two.first_bad_window-k.ensures (omega arith) c.before.if-k-screen.true c.coded.ensures
 
 pub points_of_all-requires : goal.points_of_all-requires
-points_of_all-requires c κs =
+points_of_all-requires c =
     let two = c.before.before in
     on_screen two.before.requires.0 _ two.before.requires.1 _ c.if-k-screen.false two.first_bad_window-k.ensures
 

@@ -27,7 +27,7 @@ returns-then-window_bad c =
     (refused_here 2 _ _ two.window_bad.ensures (omega arith) c.before.if-window_bad.true c.coded-then-window_bad.ensures)
 
 pub points_of-requires : goal.points_of-requires
-points_of-requires c κs =
+points_of-requires c =
     let two = c.before in
     let one = two.before in
     let l = one.before.before.args.l in

@@ -13,7 +13,7 @@ use Rattle.scan_smoothing.proofs.smooth.Goals as goal
 use Rattle.scan_smoothing.proofs.smooth.Goals.{At-loop-j}
 
 -- in a turn: the three rows are on the grid, whose rows from j + 1 on are old
-module _ (o : At-loop-j (keep-row-reads.Asked, keep-row-reads.Learnt, smooth-row-reads.Asked, smooth-row-reads.Learnt) reads.Pre reads.Post invariant-loop decreases-loop) where
+module _ (o : At-loop-j) where
   abbrev l : List ℤ
   l = o.before.before.before.before.args.z.now
 
@@ -35,8 +35,8 @@ loop-j-init c =
     let s = c.before.before.before in
     let a = s.args in (
       s.requires.0.two_rows,
-      first_row a.z-1.now a.nx a.ny,
-      keeps a.z-1.now a.z-1.now a.nx 0 0 (replicate most_side (pos 0)) c.keep_row.new.0 (omega arith) (λ k h. refl) (blank_room a.nx) c.keep_row.ensures,
+      first_row a.z.now a.nx a.ny,
+      keeps a.z.now a.z.now a.nx 0 0 (replicate most_side (pos 0)) c.keep_row.new.0 (omega arith) (λ k h. refl) (blank_room a.nx) c.keep_row.ensures,
       blank_room a.nx,
     )
 

@@ -62,7 +62,7 @@ unfolding nine
 nine-of above here z q i r₀ r₁ r₂ e₀ e₁ e₂ = rw (e₀, e₁, e₂)
 
 -- the same in a turn
-module _ (t : After-row_sum-in-loop-i (row-sum-reads.Asked, row-sum-reads.Learnt, sixteenth-reads.Asked, sixteenth-reads.Learnt) reads.Pre reads.Post invariant-loop decreases-loop) where
+module _ (t : After-row_sum-in-loop-i) where
   size₀ : nat_abs t.before.before.row_sum.result ≤ 12 * most_field
   size₀ =
       let o = t.before.before.before.before.before in
@@ -74,11 +74,11 @@ module _ (t : After-row_sum-in-loop-i (row-sum-reads.Asked, row-sum-reads.Learnt
       rw t.row_sum-in-loop-i.ensures (row_whole o.before.args.here.now o.loop-i.i (λ k h. o.before.requires.8 k) 1)
 
 -- the row below is as it was
-still-small : (o : At-loop-i (row-sum-reads.Asked, row-sum-reads.Learnt, sixteenth-reads.Asked, sixteenth-reads.Learnt) reads.Pre reads.Post invariant-loop decreases-loop)
+still-small : (o : At-loop-i)
     → SmallFrom (o.before.args.base + o.before.args.nx + o.loop-i.i) o.loop-i.z
 still-small o k h = rw (o.loop-i.invariant.1.rest k (omega arith)) (o.before.requires.4 k (omega arith))
 
-module _ (t : After-row_sum-in-loop-i-2 (row-sum-reads.Asked, row-sum-reads.Learnt, sixteenth-reads.Asked, sixteenth-reads.Learnt) reads.Pre reads.Post invariant-loop decreases-loop) where
+module _ (t : After-row_sum-in-loop-i-2) where
   -- the results of the three calls, and what they add up to
   abbrev first : ℤ
   first = t.before.before.before.before.row_sum.result
@@ -103,7 +103,7 @@ pub overflow_add-n-in-loop-i : goal.overflow_add-n-in-loop-i
 overflow_add-n-in-loop-i c = (in-turn c).ranges
 
 pub sixteenth-requires : goal.sixteenth-requires
-sixteenth-requires c κs = (in-turn c).fair
+sixteenth-requires c = (in-turn c).fair
 
 pub loop-i-preserved : goal.loop-i-preserved
 loop-i-preserved c =

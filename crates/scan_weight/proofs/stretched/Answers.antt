@@ -39,7 +39,7 @@ returns-then-gust-eq0 c =
     c.whole_part.ensures ∙ sym (calm s.args.r2 s.args.d2 s.args.w2 s.args.q s.requires.1 c.before.if-gust-eq0.true)
 
 pub whole_part-requires-2 : goal.whole_part-requires-2
-whole_part-requires-2 c κs = rw (square-is c) (inside c, some c, (sizes (s c)).both)
+whole_part-requires-2 c = rw (square-is c) (inside c, some c, (sizes (s c)).both)
 
 pub returns : goal.returns
 returns c =
