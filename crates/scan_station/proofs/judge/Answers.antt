@@ -48,7 +48,7 @@ module _ (c : In-loop-k) where
 
 module _ (c : After-difference-dk) where
   abbrev turn : In-loop-k
-  turn = c.before.before.before
+  turn = c.before.before.before.before
 
   result-is : to_z w64 (of_z w64 c.difference-dk.result) ≡ c.difference-dk.result
   result-is = bits_back w64 c.difference-dk.result (omega (arith, c.difference-dk.ensures.1))
@@ -58,7 +58,7 @@ module _ (c : After-difference-dk) where
 
 pub loop-k-preserved : goal.loop-k-preserved
 loop-k-preserved c =
-    let d = c.before.before in
+    let d = (goal.at.loop-k-preserved c).After-difference-dk in
     let t = turn d in
     let s = start t in
     let l = (at t).loop-k in (

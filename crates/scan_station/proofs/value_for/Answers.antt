@@ -34,10 +34,10 @@ module _ (c : After-near_grid) where
   y = get_or s.args.row 1 (pos 0)
 
   x-is : to_z w32 (of_z w32 x) ≡ x
-  x-is = to_z-of_z (sfits_of {z = x} c.before.before.before.before.x-1.given)
+  x-is = to_z-of_z {w = w32} (sfits_of {z = x} c.before.before.before.before.x-1.given)
 
   y-is : to_z w32 (of_z w32 y) ≡ y
-  y-is = to_z-of_z (sfits_of {z = y} c.before.before.before.y-1.given)
+  y-is = to_z-of_z {w = w32} (sfits_of {z = y} c.before.before.before.y-1.given)
 
   px-is : c.before.before.place-px.result ≡ place s.args.nx x
   px-is = rw x-is at c.before.before.place-px.ensures

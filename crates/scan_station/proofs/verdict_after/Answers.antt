@@ -9,8 +9,8 @@ use Rattle.scheme.specs.Difference.{after_test}
 use Rattle.scan_station.proofs.verdict_after.Goals as goal
 use Rattle.scan_station.proofs.verdict_after.Goals.{After-size_of}
 
-size_is : (c : After-size_of) → c.type_size.result ≡ nat_abs c.before.before.args.d
-size_is c = rw (to_z-of_z c.before.before.ranges.d) at c.type_size.ensures
+size_is : (c : After-size_of) → c.size_of.result ≡ nat_abs c.before.before.args.d
+size_is c = rw (to_z-of_z c.before.before.ranges.d) at c.size_of.ensures
 
 pub returns-then-verdict-ne0 : goal.returns-then-verdict-ne0
 unfolding after_test

@@ -50,11 +50,11 @@ unfolding before_scans first_that_fits off_grid station_of
 returns-then-not-near_grid c =
     let f = c.before.before.before.before in
     let e = f.before.before in
-    rw (there e.before.before, serving e, le-ltb _ _ f.before.if-time-observed.false, le-ltb _ _ f.if-age-time.false, sym (near-grid-is c.before) ∙ not-true _ c.if-not-near_grid.true)
+    rw (there e.before.before, serving e, le-ltb _ _ f.before.if-time-observed.false, le-ltb _ _ f.if-age-time.false, sym (near-grid-is c.before) ∙ c.if-not-near_grid.true)
 
 pub returns : goal.returns
 unfolding before_scans first_that_fits off_grid station_of
 returns c =
     let f = c.before.before.before.before in
     let e = f.before.before in
-    rw (there e.before.before, serving e, le-ltb _ _ f.before.if-time-observed.false, le-ltb _ _ f.if-age-time.false, sym (near-grid-is c.before) ∙ not-false _ c.if-not-near_grid.false)
+    rw (there e.before.before, serving e, le-ltb _ _ f.before.if-time-observed.false, le-ltb _ _ f.if-age-time.false, sym (near-grid-is c.before) ∙ c.if-not-near_grid.false)
