@@ -1,5 +1,4 @@
 -- `text_pieces::byte_at` meets its contract. Assumes nothing.
-use borrow.Author.Rules.{rules}
 use native.Mathlib.Omega.{arith}
 use Rattle.text_pieces.specs.Words.{byte_none, byte_other, byte_is}
 use Rattle.text_pieces.proofs.byte_at.Goals as goal

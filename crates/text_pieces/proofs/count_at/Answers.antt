@@ -1,5 +1,4 @@
 -- `text_pieces::count_at` meets its contract: a number, and then its range. Assumes nothing.
-use borrow.Author.Rules.{rules}
 use native.Mathlib.Omega.{arith}
 use lib.ListN.{drop}
 use Rattle.scheme.specs.Text.Pieces.{natural, count}

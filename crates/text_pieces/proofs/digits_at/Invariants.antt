@@ -1,12 +1,8 @@
-use borrow.Author.Rules.{rules}
 use Prim.Native.Nat.{◌-◌, ◌≤◌}
-use native.Mathlib.Omega.{arith}
-use mathlib.Core.Path.{◌≡◌, refl, sym, ◌∙◌}
-use borrow.Author.Tests.{not-true, not-false}
-use lib.ListN.{length, drop, get_or}
+use mathlib.Core.Path.{◌≡◌}
+use lib.ListN.{length, drop}
 use Rattle.scheme.specs.Text.Pieces.{digits}
 use Rattle.text_pieces.specs.Told.{most, capped}
-use Rattle.text_pieces.specs.Numbers.{digit_of, digits_end, digits_stop, digits_more}
 use Rattle.text_pieces.proofs.digits_at.Given as goal
 
 abbrev pub invariant-loop-i : goal.invariant-loop-i

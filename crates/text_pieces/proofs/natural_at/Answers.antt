@@ -1,5 +1,4 @@
 -- `text_pieces::natural_at` meets its contract: a 0 ends the number. Assumes nothing.
-use borrow.Author.Rules.{rules}
 use native.Mathlib.Omega.{arith}
 use mathlib.Core.Path.{ap, ◌∙◌}
 use Rattle.text_pieces.specs.Told.{capped}

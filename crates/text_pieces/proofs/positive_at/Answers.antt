@@ -1,5 +1,4 @@
 -- `text_pieces::positive_at` meets its contract: each test says which clause of the definition holds. Assumes nothing.
-use borrow.Author.Rules.{rules}
 use native.Mathlib.Omega.{arith}
 use mathlib.Core.Path.{ap, ◌∙◌}
 use Rattle.text_pieces.specs.Told.{capped}

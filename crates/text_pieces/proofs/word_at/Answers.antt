@@ -1,10 +1,6 @@
 -- `text_pieces::word_at` meets its contract. The invariant: what is left of the key, at the place reached, reads as the whole does. Assumes nothing.
-use borrow.Author.Rules.{rules}
-use Prim.Native.Nat.{◌-◌, ◌≤◌}
 use native.Mathlib.Omega.{arith}
-use mathlib.Core.Path.{◌≡◌, refl, sym, ◌∙◌}
-use lib.ListN.{length, drop}
-use Rattle.scheme.specs.Text.Pieces.{word}
+use mathlib.Core.Path.{sym, ◌∙◌}
 use Rattle.text_pieces.specs.Words.{word_end, word_short, word_other, word_more}
 use Rattle.text_pieces.proofs.word_at.Goals as goal
 

@@ -1,11 +1,7 @@
-use borrow.Author.Rules.{rules}
-use Prim.Native.Nat.{◌+◌, ◌-◌, ◌≤◌}
-use native.Mathlib.Omega.{arith}
-use mathlib.Core.Path.{refl}
-use lib.ListN.{length, drop, get_or}
+use Prim.Native.Nat.{◌-◌, ◌≤◌}
+use lib.ListN.{length, drop}
 use Rattle.scheme.specs.Text.Printed.{decimal, cells}
-use Rattle.text_print.specs.Written.{Left, all_left, none_left, written_long}
-use Rattle.text_print.specs.Rows.{cells_done, cell_room, cell_put}
+use Rattle.text_print.specs.Written.{Left}
 use Rattle.text_print.proofs.put_bytes.Given as goal
 
 abbrev pub invariant-loop-i : goal.invariant-loop-i

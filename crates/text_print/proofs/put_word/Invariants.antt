@@ -1,11 +1,6 @@
-use borrow.Author.Rules.{rules}
-use Prim.Native.Nat.{◌+◌, ◌-◌, ◌≤◌}
-use native.Mathlib.Omega.{arith}
-use mathlib.Core.Path.{refl}
-use mathlib.Core.List.{[], ◌∷◌}
-use lib.ListN.{length, drop, get_or, drop_of_length-le}
-use Rattle.text_print.specs.Written.{Left, all_left, none_left, room_next, put_next, written_byte}
-use Rattle.text_print.specs.Rows.{word_next}
+use Prim.Native.Nat.{◌-◌, ◌≤◌}
+use lib.ListN.{length, drop}
+use Rattle.text_print.specs.Written.{Left}
 use Rattle.text_print.proofs.put_word.Given as goal
 
 abbrev pub invariant-loop-i : goal.invariant-loop-i

@@ -1,13 +1,8 @@
-use borrow.Author.Rules.{rules}
-use Prim.Native.Nat.{◌+◌, ◌-◌, ◌*◌, ◌≤◌}
-use native.Mathlib.Omega.{arith}
-use mathlib.Core.Path.{◌≡◌}
-use lib.ListN.{length}
-use Rattle.scheme.proofs.Stored.{row_in}
+use Prim.Native.Nat.{◌-◌, ◌≤◌}
 use Rattle.scheme.specs.Text.Pieces.{ascii}
-use Rattle.scheme.specs.Text.Printed.{integer, keyed, grid_lines}
-use Rattle.text_print.specs.Written.{Left, all_left, none_left, room_next, put_next}
-use Rattle.text_print.specs.Rows.{row_part, row_long, lines_from, lines_begin, lines_next, lines_done}
+use Rattle.scheme.specs.Text.Printed.{integer, grid_lines}
+use Rattle.text_print.specs.Written.{Left}
+use Rattle.text_print.specs.Rows.{lines_from}
 use Rattle.text_print.proofs.row_lines.Given as goal
 
 abbrev pub invariant-loop-j : goal.invariant-loop-j
