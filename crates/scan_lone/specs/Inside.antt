@@ -1,5 +1,5 @@
 -- The stations near a grid row that are inside the radius, by two lists: of each its position along the row, and its squared distance to it.
-use Rattle.std.specs.Prelude.{ℕ, ◌+◌, ◌-◌, ◌*◌, ◌≤◌, ◌<◌, ◌≡◌, cond, List, ltb, get_or, ℤ, pos, nat_abs, ◌-ℤ◌}
+use Rattle.std.specs.Prelude.{ℕ, ◌+◌, ◌*◌, ◌≤◌, ◌≡◌, cond, List, ltb, get_or, ℤ, pos, nat_abs, ◌-ℤ◌}
 use Rattle.std.proofs.Common.{arith, sym, ap, subst, ◌∙◌}
 use Rattle.lists.specs.Tests.{cond_both}
 use Rattle.lists.specs.Sums.{up_to, up_to_next}
