@@ -1,0 +1,18 @@
+use Prim.Native.Nat.{◌+◌, ◌-◌, ◌≤◌}
+use native.Mathlib.Omega.{arith}
+use borrow.Author.Rules.{sfits_of}
+use mathlib.Core.Path.{◌≡◌, refl, ◌∙◌}
+use lib.ListN.{length, get_or}
+use lib.IntN.{pos}
+use mir.Syntax.{w32}
+use mir.Val.{to_z, of_z}
+use mir.Facts.{to_z-of_z}
+use Rattle.lists.specs.Tab.{tab_get_or}
+use Rattle.lists.specs.Filled.{Filled, filled_none, filled_set, filled_all}
+use Rattle.scan_start.proofs.copy.Given as goal
+
+abbrev pub invariant-loop-k : goal.invariant-loop-k
+invariant-loop-k l = (l.k ≤ length l.from) × Filled (pos 0) (λ n. get_or l.from n (pos 0)) 0 l.k l.initial.to l.to
+
+abbrev pub decreases-loop-k : goal.decreases-loop-k
+decreases-loop-k l = length l.from - l.k
