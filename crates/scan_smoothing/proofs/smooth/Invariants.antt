@@ -1,12 +1,6 @@
-use Prim.Native.Nat.{ℕ, ◌+◌, ◌-◌, ◌*◌, ◌≤◌}
-use native.Mathlib.Omega.{arith}
-use mathlib.Core.Path.{◌≡◌, refl}
-use mathlib.Core.List.{List}
-use lib.ListN.{length, get_or, replicate}
-use lib.IntN.{ℤ, pos}
-use Rattle.lists.specs.Filled.{Filled}
-use Rattle.scheme.specs.Units.{most_side}
-use Rattle.scan_smoothing.specs.Pass.{RowsIn, rows_in, Room, Kept, NewTo, blank_room, keeps, kept_small, first_row, row_next, last_row}
+-- The loop's invariant of `scan_smoothing::smooth`: rows 0 to j are new, those from j + 1 on are old, and the row that is kept is the old row j.
+use Rattle.std.proofs.Common.{◌+◌, ◌-◌, ◌≤◌}
+use Rattle.scan_smoothing.specs.Pass.{Room, Kept, NewTo}
 use Rattle.scan_smoothing.proofs.smooth.Given as goal
 
 abbrev pub invariant-loop-j : goal.invariant-loop-j

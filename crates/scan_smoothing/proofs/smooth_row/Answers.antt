@@ -1,21 +1,12 @@
--- `scan_smoothing::smooth_row` meets its contract. The loop's invariant: the columns passed are made from the two kept rows and the row below,
--- and nothing else of the grid has changed. Assumes nothing.
-use Prim.Native.Nat.{ℕ, ◌+◌, ◌-◌, ◌*◌, ◌≤◌}
-use native.Mathlib.Omega.{arith}
-use mathlib.Core.Path.{◌≡◌, ◌∙◌}
-use mathlib.Core.List.{List}
-use lib.IntN.{ℤ, pos, nat_abs, ◌+ℤ◌}
-use mir.Syntax.{w32}
-use mir.Val.{SFits, to_z, of_z}
-use mir.Facts.{to_z-of_z}
+-- `scan_smoothing::smooth_row` meets its contract: the three sums of a point fit when they are added, and are those of the pattern.
+use Rattle.std.proofs.Common.{ℕ, ◌+◌, ◌*◌, ◌≤◌, ◌≡◌, ◌∙◌, arith, List, ℤ, nat_abs, ◌+ℤ◌, to_z, of_z, w32, to_z-of_z, FitsSigned}
 use Rattle.integers.specs.Sizes.{size_add}
 use Rattle.integers.specs.Words.{fits_size, bits_back}
-use Rattle.lists.specs.Filled.{Filled, filled_none}
 use Rattle.scheme.specs.Most.{most_field}
-use Rattle.scan_smoothing.specs.Pattern.{SmallFrom, row_at, nine, new_at, row_whole}
+use Rattle.scan_smoothing.specs.Pattern.{SmallFrom, row_at, nine, row_whole}
 use Rattle.scan_smoothing.specs.Pass.{column_next}
 use Rattle.scan_smoothing.proofs.smooth_row.Goals as goal
-use Rattle.scan_smoothing.proofs.smooth_row.Goals.{After-row_sum-in-loop-i, After-row_sum-in-loop-i-2, At-loop-i}
+use Rattle.scan_smoothing.proofs.smooth_row.Goals.{After-row_sum-in-loop-i, After-row_sum-in-loop-i-2}
 
 -- the three sums of a point added up, on plain values: r₀ and r₁ are those of the kept rows, r₂ that of the row below
 abbrev two : (r₀ r₁ : ℤ) → ℤ
@@ -24,96 +15,80 @@ two r₀ r₁ = to_z w32 (of_z w32 r₀) +ℤ to_z w32 (of_z w32 r₁)
 abbrev all : (r₀ r₁ r₂ : ℤ) → ℤ
 all r₀ r₁ r₂ = to_z w32 (of_z w32 (two r₀ r₁)) +ℤ to_z w32 (of_z w32 r₂)
 
-record Added (r₀ r₁ r₂ n : ℤ) : Type 0 where
-  fits : SFits w32 (all r₀ r₁ r₂)
-  fair : nat_abs (to_z w32 (of_z w32 (all r₀ r₁ r₂))) ≤ 1000000000
-  is : to_z w32 (of_z w32 (all r₀ r₁ r₂)) ≡ n
-
 module _ (r₀ r₁ : ℤ) (size₀ : nat_abs r₀ ≤ 12 * most_field) (size₁ : nat_abs r₁ ≤ 12 * most_field) where
   two_is : two r₀ r₁ ≡ r₀ +ℤ r₁
-  two_is = rw (bits_back w32 r₀ (omega (arith, size₀)), bits_back w32 r₁ (omega (arith, size₁)))
+  two_is = rw (bits_back w32 r₀ (omega arith), bits_back w32 r₁ (omega arith))
 
-  two-small : nat_abs (r₀ +ℤ r₁) ≤ 24 * most_field
-  two-small = omega (arith, size₀, size₁, size_add r₀ r₁)
+  two_small : nat_abs (r₀ +ℤ r₁) ≤ 24 * most_field
+  two_small = omega (arith, size_add r₀ r₁)
 
-  two_fits : SFits w32 (two r₀ r₁)
-  two_fits = rw two_is (fits_size w32 (r₀ +ℤ r₁) (omega (arith, two-small)))
+  two_fits : FitsSigned w32 (two r₀ r₁)
+  two_fits = rw two_is (fits_size w32 (r₀ +ℤ r₁) (omega (arith, two_small)))
 
-  added : (r₂ : ℤ) → nat_abs r₂ ≤ 12 * most_field → Added r₀ r₁ r₂ (r₀ +ℤ r₁ +ℤ r₂)
-  added r₂ size₂ =
-      record {
-        fits = rw all-is (fits_size w32 (r₀ +ℤ r₁ +ℤ r₂) (omega (arith, all_small)));
-        fair = rw (all-is, back) (omega (arith, all_small));
-        is = rw all-is back;
-      }
-    where
-      all-is : all r₀ r₁ r₂ ≡ r₀ +ℤ r₁ +ℤ r₂
-      all-is = rw (two_is, bits_back w32 (r₀ +ℤ r₁) (omega (arith, two-small)), bits_back w32 r₂ (omega (arith, size₂)))
+  module _ (r₂ : ℤ) (size₂ : nat_abs r₂ ≤ 12 * most_field) where
+    all_is : all r₀ r₁ r₂ ≡ r₀ +ℤ r₁ +ℤ r₂
+    all_is = rw (two_is, bits_back w32 (r₀ +ℤ r₁) (omega (arith, two_small)), bits_back w32 r₂ (omega arith))
 
-      all_small : nat_abs (r₀ +ℤ r₁ +ℤ r₂) ≤ 36 * most_field
-      all_small = omega (arith, two-small, size₂, size_add (r₀ +ℤ r₁) r₂)
+    all_small : nat_abs (r₀ +ℤ r₁ +ℤ r₂) ≤ 36 * most_field
+    all_small = omega (arith, two_small, size_add (r₀ +ℤ r₁) r₂)
 
-      back : to_z w32 (of_z w32 (r₀ +ℤ r₁ +ℤ r₂)) ≡ r₀ +ℤ r₁ +ℤ r₂
-      back = bits_back w32 (r₀ +ℤ r₁ +ℤ r₂) (omega (arith, all_small))
+    all_fits : FitsSigned w32 (all r₀ r₁ r₂)
+    all_fits = rw all_is (fits_size w32 (r₀ +ℤ r₁ +ℤ r₂) (omega (arith, all_small)))
 
-nine-of : (above here z : List ℤ) (q i : ℕ) (r₀ r₁ r₂ : ℤ) → r₀ ≡ row_at above i 0 → r₁ ≡ row_at here i 1 → r₂ ≡ row_at z (q + i) 2
+    sum_is : to_z w32 (of_z w32 (all r₀ r₁ r₂)) ≡ r₀ +ℤ r₁ +ℤ r₂
+    sum_is = rw all_is (bits_back w32 (r₀ +ℤ r₁ +ℤ r₂) (omega (arith, all_small)))
+
+    sum_fair : nat_abs (to_z w32 (of_z w32 (all r₀ r₁ r₂))) ≤ 1000000000
+    sum_fair = rw sum_is (omega (arith, all_small))
+
+nine_of : (above here z : List ℤ) (q i : ℕ) (r₀ r₁ r₂ : ℤ) → r₀ ≡ row_at above i 0 → r₁ ≡ row_at here i 1 → r₂ ≡ row_at z (q + i) 2
     → r₀ +ℤ r₁ +ℤ r₂ ≡ nine above here z q i
 unfolding nine
-nine-of above here z q i r₀ r₁ r₂ e₀ e₁ e₂ = rw (e₀, e₁, e₂)
+nine_of above here z q i r₀ r₁ r₂ e₀ e₁ e₂ = rw (e₀, e₁, e₂)
 
--- the same in a turn
-module _ (t : After-row_sum-in-loop-i) where
-  size₀ : nat_abs t.before.before.row_sum.result ≤ 12 * most_field
-  size₀ =
-      let o = t.before.before.before.before.before in
-      rw t.before.before.row_sum.ensures (row_whole o.before.args.above.now o.loop-i.i (λ k h. o.before.requires.6 k) 0)
+-- the sum of a row whose values are small
+size_row : (l : List ℤ) (p b : ℕ) (r : ℤ) → SmallFrom p l → r ≡ row_at l p b → nat_abs r ≤ 12 * most_field
+size_row l p b r small e = rw e (row_whole l p small b)
 
-  size₁ : nat_abs t.row_sum-in-loop-i.result ≤ 12 * most_field
-  size₁ =
-      let o = t.before.before.before.before.before in
-      rw t.row_sum-in-loop-i.ensures (row_whole o.before.args.here.now o.loop-i.i (λ k h. o.before.requires.8 k) 1)
+-- the sums of the two kept rows
+module _ (c : After-row_sum-in-loop-i) where
+  size₀ : nat_abs c.row_sum.result ≤ 12 * most_field
+  size₀ = size_row c.args.above.now c.loop-i.i 0 c.row_sum.result (λ k h. c.requires.6 k) c.row_sum.ensures
 
--- the row below is as it was
-still-small : (o : At-loop-i)
-    → SmallFrom (o.before.args.base + o.before.args.nx + o.loop-i.i) o.loop-i.z
-still-small o k h = rw (o.loop-i.invariant.1.rest k (omega arith)) (o.before.requires.4 k (omega arith))
+  size₁ : nat_abs c.row_sum-in-loop-i.result ≤ 12 * most_field
+  size₁ = size_row c.args.here.now c.loop-i.i 1 c.row_sum-in-loop-i.result (λ k h. c.requires.8 k) c.row_sum-in-loop-i.ensures
 
-module _ (t : After-row_sum-in-loop-i-2) where
-  -- the results of the three calls, and what they add up to
-  abbrev first : ℤ
-  first = t.before.before.before.before.row_sum.result
-
-  abbrev second : ℤ
-  second = t.before.before.row_sum-in-loop-i.result
-
-  abbrev third : ℤ
-  third = t.row_sum-in-loop-i-2.result
-
-  in-turn : Added first second third (first +ℤ second +ℤ third)
-  in-turn =
-      let o = t.before.before.before.before.before.before.before in
-      let a = o.before.args in
-      added first second (size₀ t.before.before) (size₁ t.before.before) third
-      (rw t.row_sum-in-loop-i-2.ensures (row_whole o.loop-i.z (a.base + a.nx + o.loop-i.i) (still-small o) 2))
+-- and that of the row below, which is as it was
+size₂ : (c : After-row_sum-in-loop-i-2) → nat_abs c.row_sum-in-loop-i-2.result ≤ 12 * most_field
+size₂ c =
+    size_row c.loop-i.z (c.args.base + c.args.nx + c.loop-i.i) 2 c.row_sum-in-loop-i-2.result
+    (λ k h. rw (c.loop-i.invariant.1.rest k (omega arith)) (c.requires.4 k (omega arith))) c.row_sum-in-loop-i-2.ensures
 
 pub overflow_add-n : goal.overflow_add-n
-overflow_add-n c = two_fits c.before.before.row_sum.result c.row_sum-in-loop-i.result (size₀ c) (size₁ c)
+overflow_add-n c = two_fits c.row_sum.result c.row_sum-in-loop-i.result (size₀ c) (size₁ c)
 
 pub overflow_add-n-in-loop-i : goal.overflow_add-n-in-loop-i
-overflow_add-n-in-loop-i c = (in-turn c).ranges
+overflow_add-n-in-loop-i c =
+    all_fits c.row_sum.result c.row_sum-in-loop-i.result (size₀ (goal.at.overflow_add-n-in-loop-i c).After-row_sum-in-loop-i) (size₁ (goal.at.overflow_add-n-in-loop-i c).After-row_sum-in-loop-i) c.row_sum-in-loop-i-2.result (size₂ c)
 
 pub sixteenth-requires : goal.sixteenth-requires
-sixteenth-requires c = (in-turn c).fair
+sixteenth-requires c =
+    sum_fair c.row_sum.result c.row_sum-in-loop-i.result (size₀ (goal.at.sixteenth-requires c).After-row_sum-in-loop-i) (size₁ (goal.at.sixteenth-requires c).After-row_sum-in-loop-i) c.row_sum-in-loop-i-2.result (size₂ c)
 
 pub loop-i-preserved : goal.loop-i-preserved
 loop-i-preserved c =
-    let t = c.before in
-    let o = t.before.before.before.before.before.before.before in
-    let a = o.before.args in (
+    let s = (goal.at.loop-i-preserved c).After-row_sum-in-loop-i in
+    let above = c.args.above.now in
+    let here = c.args.here.now in
+    let z = c.loop-i.z in
+    let p = c.args.base + 1 in
+    let q = c.args.base + c.args.nx in
+    let i = c.loop-i.i in
+    let v = to_z w32 (of_z w32 c.sixteenth.result) in (
       omega arith,
-      column_next a.above.now a.here.now a.z.now o.loop-i.z (a.base + 1) (a.base + a.nx) o.loop-i.i _ (to_z w32 (of_z w32 c.sixteenth.result))
-          (omega arith) (omega (arith, o.loop-i.invariant.1.same_length))
-          ((in-turn t).is ∙ nine-of a.above.now a.here.now o.loop-i.z (a.base + a.nx) o.loop-i.i (first t) (second t) (third t)
-          t.before.before.before.before.row_sum.ensures t.before.before.row_sum-in-loop-i.ensures t.row_sum-in-loop-i-2.ensures)
-          (to_z-of_z {z = c.sixteenth.result} (record { sfits = c.sixteenth.type-inv }) ∙ c.sixteenth.ensures) o.loop-i.invariant.1,
+      column_next above here c.args.z.now z p q i _ v (omega arith) (omega (arith, c.loop-i.invariant.1.same_length))
+          (sum_is c.row_sum.result c.row_sum-in-loop-i.result (size₀ s) (size₁ s) c.row_sum-in-loop-i-2.result (size₂ (goal.at.loop-i-preserved c).After-row_sum-in-loop-i-2)
+          ∙ nine_of above here z q i c.row_sum.result c.row_sum-in-loop-i.result c.row_sum-in-loop-i-2.result c.row_sum.ensures c.row_sum-in-loop-i.ensures
+          c.row_sum-in-loop-i-2.ensures)
+          (to_z-of_z {w = w32} {z = c.sixteenth.result} (record { sfits = c.sixteenth.type_inv }) ∙ c.sixteenth.ensures) c.loop-i.invariant.1,
     )

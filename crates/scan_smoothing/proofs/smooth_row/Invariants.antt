@@ -1,17 +1,8 @@
-use Prim.Native.Nat.{ℕ, ◌+◌, ◌-◌, ◌*◌, ◌≤◌}
-use native.Mathlib.Omega.{arith}
-use mathlib.Core.Path.{◌≡◌, ◌∙◌}
-use mathlib.Core.List.{List}
-use lib.IntN.{ℤ, pos, nat_abs, ◌+ℤ◌}
-use mir.Syntax.{w32}
-use mir.Val.{SFits, to_z, of_z}
-use mir.Facts.{to_z-of_z}
-use Rattle.integers.specs.Sizes.{size_add}
-use Rattle.integers.specs.Words.{fits_size, bits_back}
-use Rattle.lists.specs.Filled.{Filled, filled_none}
-use Rattle.scheme.specs.Most.{most_field}
-use Rattle.scan_smoothing.specs.Pattern.{SmallFrom, row_at, nine, new_at, row_whole}
-use Rattle.scan_smoothing.specs.Pass.{column_next}
+-- The loop's invariant of `scan_smoothing::smooth_row`: the columns passed are made from the two kept rows and the row below, and nothing else of
+-- the grid has changed.
+use Rattle.std.proofs.Common.{◌+◌, ◌-◌, ◌≤◌, pos}
+use Rattle.lists.specs.Filled.{Filled}
+use Rattle.scan_smoothing.specs.Pattern.{new_at}
 use Rattle.scan_smoothing.proofs.smooth_row.Given as goal
 
 abbrev pub invariant-loop-i : goal.invariant-loop-i
