@@ -1,5 +1,5 @@
 -- Lists as loops make them: by a function of the index, summed, searched, filtered, part by part. Nothing here must be believed but the short
--- definitions tab, total, upTo, first, first_in, keep and each, which the scheme cites, and rank, which demand 3 is stated by.
+-- definitions tab, total, up_to, first, first_in, keep and each, which the scheme cites, and rank, which demand 3 is stated by.
 pub mod Tests
 pub mod Tab
 pub mod Filled

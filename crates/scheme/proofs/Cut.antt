@@ -9,7 +9,7 @@ use Rattle.lists.specs.Tests.{and_true}
 use Rattle.lists.specs.Tab.{get_d_any}
 use Rattle.lists.specs.Sums.{up_to}
 use Rattle.lists.specs.Keep.{keep, length-keep, kept_from}
-use Rattle.lists.specs.Parted.{keep_at}
+use Rattle.lists.proofs.Parted.{keep_at}
 use Rattle.scheme.specs.Units.{most_value, step, Station, most_position, Plan, Request, guess}
 use Rattle.scheme.specs.Refusals.{Span, Window, points_along}
 use Rattle.scheme.specs.Value.{place}

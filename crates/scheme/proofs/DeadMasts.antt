@@ -5,7 +5,8 @@ use Rattle.std.proofs.Math.Path.{◌≡◌, sym, ap, fun_ext}
 use Rattle.std.proofs.Math.Bool.{cond}
 use Rattle.lists.specs.Sums.{total, total_map}
 use Rattle.lists.specs.Keep.{keep}
-use Rattle.lists.specs.Parted.{Parted, keep_parted, total_parted, each_parted}
+use Rattle.lists.specs.Parted.{Parted}
+use Rattle.lists.proofs.Parted.{keep_parted, total_parted, each_parted}
 use Rattle.lists.specs.Each.{each_of_map}
 use Rattle.scheme.specs.Units.{is_missing, Field, stored, Station, most_beyond, R, E, B, L, Request, guess, with_stations}
 use Rattle.scheme.specs.Verdicts.{is_accepted, serves, out_of_service, first_that_fits, before_scans}

@@ -6,7 +6,8 @@ use Rattle.std.proofs.Common.{◌∙◌, inl, inr}
 use Rattle.std.proofs.Math.Bool.{true}
 use Rattle.integers.specs.Ring.{minus_moved}
 use Rattle.lists.specs.Tests.{lt_or_le, cond_same}
-use Rattle.lists.specs.Parted.{Parted, total_parted, parted_also}
+use Rattle.lists.specs.Parted.{Parted}
+use Rattle.lists.proofs.Parted.{total_parted, parted_also}
 use Rattle.scheme.specs.Units.{step}
 use Rattle.scheme.specs.Verdicts.{is_accepted}
 use Rattle.scheme.specs.Value.{place}

@@ -11,7 +11,8 @@ use Rattle.integers.specs.Ring.{pos_minus}
 use Rattle.lists.specs.Tests.{true_or_false, not_both}
 use Rattle.lists.specs.Sums.{up_to}
 use Rattle.lists.specs.Keep.{keep}
-use Rattle.lists.specs.Parted.{rank, end, kept, gone, rank_map, map_each, each_parted, parted_at}
+use Rattle.lists.specs.Parted.{rank, end, kept, gone}
+use Rattle.lists.proofs.Parted.{rank_map, map_each, each_parted, parted_at}
 use Rattle.scheme.specs.Units.{Field, step}
 use Rattle.scheme.specs.Verdicts.{is_accepted}
 use Rattle.scheme.specs.Axes.{Axis, off, len, from_first}

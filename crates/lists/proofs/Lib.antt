@@ -1,0 +1,2 @@
+-- PROVED: laws of the definitions of specs/Parted, apart from them.
+pub mod Parted
