@@ -13,9 +13,8 @@ X86_TOOLS = $(if $(filter x86_64,$(shell uname -m)),gcc,x86_64-linux-gnu-gcc qem
 run:
 	@scripts/tools rt $(X86_TOOLS)
 	@test -r "$(REQUEST)" || { echo "make run: cannot read '$(REQUEST)': give a request as make run REQUEST=FILE" >&2; exit 1; }
-	@mkdir -p build/run
-	@test -x target/bin/analyse || echo "make run: proving and building the program first, which takes some minutes; its log is build/run/check.log" >&2
-	@rt check analyse > build/run/check.log 2>&1 || { echo "make run: rt check analyse failed: see build/run/check.log" >&2; exit 1; }
+	@test -x target/bin/analyse || echo "make run: proving and building the program first, which takes some minutes; its log is build/built/analyse.log" >&2
+	@scripts/built analyse
 	@scripts/x86 run target/bin/analyse < "$(REQUEST)"
 
 test:
@@ -24,18 +23,13 @@ test:
 
 bench:
 	@scripts/tools rt
-	@mkdir -p build/bench
-	@rt staticlib clause > build/bench/staticlib.log 2>&1 || { echo "make bench: rt staticlib clause failed: see build/bench/staticlib.log" >&2; exit 1; }
-	@rt check analyse > build/bench/check.log 2>&1 || { echo "make bench: rt check analyse failed: see build/bench/check.log" >&2; exit 1; }
+	@scripts/built clause analyse
 	@bench/run target/staticlib target/bin/analyse
 
 soak:
 	@scripts/tools rt cargo $(X86_TOOLS)
-	@mkdir -p build/soak
-	@rt staticlib clause > build/soak/staticlib.log 2>&1 || { echo "make soak: rt staticlib clause failed: see build/soak/staticlib.log" >&2; exit 1; }
-	@rt staticlib trial_smoothing > build/soak/trial.log 2>&1 || { echo "make soak: rt staticlib trial_smoothing failed: see build/soak/trial.log" >&2; exit 1; }
-	@rt check analyse > build/soak/check.log 2>&1 || { echo "make soak: rt check analyse failed: see build/soak/check.log" >&2; exit 1; }
-	@scripts/soak target/staticlib target/obj/analyse.o
+	@scripts/built clause trial_smoothing analyse
+	@scripts/soak target/staticlib target/obj
 
 edits:
 	@scripts/tools rt
@@ -44,10 +38,8 @@ edits:
 install:
 	@scripts/tools rt $(X86_TOOLS)
 	@test -n "$(PREFIX)" || { echo "make install: say where to: make install PREFIX=/usr/local" >&2; exit 1; }
-	@mkdir -p build/install
-	@rt staticlib clause > build/install/staticlib.log 2>&1 || { echo "make install: rt staticlib clause failed: see build/install/staticlib.log" >&2; exit 1; }
-	@rt check analyse > build/install/check.log 2>&1 || { echo "make install: rt check analyse failed: see build/install/check.log" >&2; exit 1; }
+	@scripts/built clause analyse
 	@host/install target/staticlib "$(PREFIX)" target/bin/analyse
 
 clean:
-	@rm -rf build target
+	@rm -rf build target crates/*/out

@@ -41,8 +41,8 @@ const ANALYSE: &str = "SOSNYAVIK_ANALYSE";
 const ANALYSE_HELP: &str = "build the text program and set SOSNYAVIK_ANALYSE to the command \
     that runs it, such as 'target/bin/analyse' or 'scripts/x86 run target/bin/analyse'";
 const SERVE: &str = "SOSNYAVIK_SERVE";
-const SERVE_HELP: &str = "in the repository's root, run second/bridge/build-serve with the \
-    program's object, such as target/obj/analyse.o, and build/bridge/serve, and set \
+const SERVE_HELP: &str = "in the repository's root, run scripts/built analyse and \
+    second/bridge/build-serve target/obj build/bridge/serve, and set \
     SOSNYAVIK_SERVE to 'scripts/x86 run build/bridge/serve'";
 
 /// What went wrong, with the exit code that says whose fault it was.
