@@ -4,7 +4,7 @@
 ghost use Rattle.std.specs.Prelude.{length};
 ghost use Rattle.analyse.specs.Input.{Within};
 
-use libc::{STDERR_FILENO, STDIN_FILENO, STDOUT_FILENO};
+use std::io::{Read, Stdin, Write};
 
 // How many bytes came, or that a read failed.
 #[derive(Clone, Copy)]
@@ -14,23 +14,22 @@ enum Came {
 }
 
 // One read. No byte came at the end of the input.
-fn read_some(text: &mut [u8]) -> Came
+fn read_some(input: &mut Stdin, text: &mut [u8]) -> Came
     ensures { Within (length text.new) result }
 {
-    let got = libc::read(STDIN_FILENO, text);
-    if got < 0 {
-        return Came::Failed;
+    match input.read(text) {
+        Ok(n) => Came::Bytes(n),
+        Err(_) => Came::Failed,
     }
-    Came::Bytes(io::count(got, text))
 }
 
 // All of standard input, or as much of it as text is long. A read may bring fewer bytes than it is asked for.
-fn read_text(text: &mut [u8]) -> Came
+fn read_text(input: &mut Stdin, text: &mut [u8]) -> Came
     ensures { Within (length text.new) result }
 {
     let mut n: usize = 0;
     while n < text.len() {
-        match read_some(&mut text[n..]) {
+        match read_some(input, &mut text[n..]) {
             Came::Failed => return Came::Failed,
             Came::Bytes(more) => {
                 if more == 0 {
@@ -43,18 +42,19 @@ fn read_text(text: &mut [u8]) -> Came
     Came::Bytes(n)
 }
 
-fn main() {
+fn main(rt: HostRuntime) {
     let mut text = [0u8; 65537];
-    let Came::Bytes(n) = read_text(&mut text) else {
-        io::write_all(STDERR_FILENO, b"analyse: standard input cannot be read\n");
+    let Came::Bytes(n) = read_text(&mut rt.stdin(), &mut text) else {
+        let _ = rt
+            .stderr()
+            .write_all(b"analyse: standard input cannot be read\n");
         return;
     };
     let mut out = [0u8; 65536];
     let length = text_reply::reply(&text[..n], &mut out);
-    if !io::write_all(STDOUT_FILENO, &out[..length]) {
-        io::write_all(
-            STDERR_FILENO,
-            b"analyse: standard output cannot be written\n",
-        );
+    if rt.stdout().write_all(&out[..length]).is_err() {
+        let _ = rt
+            .stderr()
+            .write_all(b"analyse: standard output cannot be written\n");
     }
 }
