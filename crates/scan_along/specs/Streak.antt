@@ -1,6 +1,6 @@
 -- The lists of mode 1: those of mode 0, and of each near station's wind what the points of the row go by: u, v·dy and V. An entry gives by the
 -- stretched weight.
-use Rattle.std.specs.Prelude.{ℕ, ◌+◌, ◌*◌, ◌≤◌, ◌<◌, ◌≡◌, refl, cond, ltb, length, get_or, set, replicate, nat_abs, ◌+ℤ◌, ◌-ℤ◌, ◌*ℤ◌}
+use Rattle.std.specs.Prelude.{ℕ, ◌+◌, ◌*◌, ◌≤◌, ◌<◌, ◌≡◌, refl, ltb, length, get_or, set, replicate, nat_abs, ◌+ℤ◌, ◌-ℤ◌, ◌*ℤ◌}
 use native.Mathlib.Omega.{arith}
 use Rattle.std.proofs.Common.{sym, ◌∙◌, length-set, get_or-set_same}
 use Rattle.std.proofs.Math.Path.{ap}
@@ -18,7 +18,7 @@ use Rattle.scheme.specs.Gifts.{weighed}
 use Rattle.scheme.proofs.Gifts.{gift_weighed}
 use Rattle.scan_weight.specs.Along.{calmed, calmed_fair, weight_by, beyond, weight_by_most, by_wind, most_strength, strength_small, most_part, part_small}
 use Rattle.scan_lone.specs.Inside.{inside_in}
-use Rattle.scan_point.specs.Near.{Stations, wind_in, x_at, y_at, wind_at, verdict_at, d_at, share_at, Slight, weighed_slight, row_gap, Inside, Ready, Near, near_is_accepted, near_gathered, accepted_shares}
+use Rattle.scan_point.specs.Near.{Stations, wind_in, x_at, y_at, wind_at, verdict_at, d_at, share_at, Slight, weighed_slight, row_gap, Ready, Near, near_is_accepted, near_gathered, accepted_shares}
 use Rattle.scan_point.specs.Round.{Sized, Roomy, roomy_set, sized_set, new_x, new_y, new_d, next_sized}
 
 -- of a wind, for the points of a row that the station is dy off
