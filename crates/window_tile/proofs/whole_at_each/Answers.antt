@@ -1,0 +1,105 @@
+-- `window_tile::whole_at_each` meets its contract: the analysis fills prefixes of the local arrays, and the windows' parts are copied from them.
+-- Assumes nothing.
+use Prim.Native.Nat.{ℕ, ◌*◌, ◌≤◌}
+use native.Mathlib.Omega.{arith}
+use native.Mathlib.Nat.{mul-le-mul}
+use borrow.Author.Rules.{rules}
+use mathlib.Core.Path.{◌≡◌, sym, ap, ◌∙◌}
+use mathlib.Core.List.{List}
+use lib.ListN.{length, take, replicate, length-replicate}
+use lib.IntN.{ℤ, pos}
+use lib.Seq.{length-take-le}
+use Rattle.lists.specs.Tab.{length-tab}
+use Rattle.scheme.specs.Units.{most_stations, Request}
+use Rattle.scheme.specs.Scan.{analysis}
+use Rattle.scheme.specs.Promises.{slices}
+use Rattle.scheme.proofs.Accepted.{same_shape}
+use Rattle.scheme.specs.Most.{most_points}
+use Rattle.request.specs.Tables.{station_in, request_in, window_no, turn_same}
+use Rattle.window_tile.specs.Query.{prefix_back, prefix_in, values_long, bits_long, whole_part}
+use Rattle.window_tile.proofs.whole_at_each.Goals as goal
+use Rattle.window_tile.proofs.whole_at_each.Goals.{After-run, Start}
+
+-- the local arrays at first
+abbrev values₀ : List ℤ
+values₀ = replicate most_points (pos 0)
+
+abbrev bits₀ : List ℕ
+bits₀ = replicate most_points 0
+
+abbrev verdict₀ : List ℕ
+verdict₀ = replicate most_stations 0
+
+-- two places: at first, with the analysis made
+abbrev Start : Type 0
+Start = Start
+
+abbrev Analysed : Type 0
+Analysed = After-run
+
+-- the request, and the prefixes that its analysis is lent
+module _ (s : Start) where
+  abbrev q : Request
+  q = let a = s.args in request_in a.t a.guess.now a.numbers.now a.minutes.now
+
+  abbrev points : ℕ
+  points = q.nx * q.ny
+
+  abbrev rows : ℕ
+  rows = s.args.t.stations
+
+  few : points ≤ most_points
+  few = mul-le-mul s.requires.0.shape.few_columns s.requires.0.shape.few_rows
+
+  rows_long : length q.stations ≡ rows
+  rows_long = length-tab rows (station_in s.args.numbers.now s.args.minutes.now)
+
+  few_rows : rows ≤ most_stations
+  few_rows = omega (arith, rows_long, s.requires.0.few_stations)
+
+  lent-values : length (take points values₀) ≡ points
+  lent-values = length-take-le points values₀ (omega (arith, few, length-replicate {A = ℤ} most_points (pos 0)))
+
+  lent-bits : length (take points bits₀) ≡ points
+  lent-bits = length-take-le points bits₀ (omega (arith, few, length-replicate {A = ℕ} most_points 0))
+
+  lent-verdict : length (take rows verdict₀) ≡ rows
+  lent-verdict = length-take-le rows verdict₀ (omega (arith, few_rows, length-replicate {A = ℕ} most_stations 0))
+
+-- what the analysis leaves
+module _ (c : Analysed) where
+  abbrev start : Start
+  start = c.before.before.before.before.before.before
+
+  abbrev values : List ℤ
+  values = c.run.new.1.1.1.1.0
+
+  abbrev bits : List ℕ
+  bits = c.run.new.1.1.1.1.1.0
+
+  done : slices values bits c.run.new.1.1.1.1.1.1.0 ≡ analysis (q start)
+  done = c.run.ensures
+
+  long : length values ≡ points start
+  long = values_long (q start) done
+
+  long' : length bits ≡ points start
+  long' = bits_long (q start) done
+
+pub slice_bounds-verdict-end : goal.slice_bounds-verdict-end
+slice_bounds-verdict-end c = few_rows c.before.before.before.before
+
+pub slice_bounds-run-end-3 : goal.slice_bounds-run-end-3
+slice_bounds-run-end-3 c = sym (lent-verdict c.before.before.before.before.before)
+
+pub run-requires : goal.run-requires
+run-requires c =
+    let s = c.before.before.before.before.before in
+    (s.requires.0, record { grid_long = lent-values s; support_long = lent-bits s; verdict_long = lent-verdict s ∙ sym (rows_long s) })
+
+pub returns : goal.returns
+returns c =
+    let k = c.before.before.before.before.before.before.before.before.before.before.before in
+    let s = start k in
+    let e = rw (prefix_back (points s) (values k) values₀ (long k), prefix_back (points s) (bits k) bits₀ (long' k)) at c.before.before.before.tiles_of.ensures in
+    e ∙ turn_same _ _ s.args.screen (λ m h. whole_part (q s) (window_no s.args.screen m) (s.requires.1.on m h) (done k))
