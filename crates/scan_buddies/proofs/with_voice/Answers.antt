@@ -1,0 +1,73 @@
+-- `scan_buddies::with_voice` meets its contract: no sum leaves its type. Assumes nothing.
+use Prim.Native.Nat.{◌*◌, ◌≤◌, ◌<◌}
+use native.Mathlib.Omega.{arith}
+use native.Mathlib.Nat.{mul-le-mul}
+use borrow.Author.Rules.{rules}
+use mathlib.Core.Path.{◌≡◌, sym}
+use lib.ListN.{get_or}
+use lib.IntN.{ℤ, pos, nat_abs, ◌+ℤ◌}
+use mir.Syntax.{w64}
+use mir.Val.{to_z, of_z}
+use Rattle.integers.specs.Sizes.{size_add}
+use Rattle.integers.specs.Words.{fits_size, bits_back}
+use Rattle.scheme.specs.Buddies.{Heard, silence, both}
+use Rattle.scheme.proofs.Adding.{both_silence}
+use Rattle.scan_buddies.specs.Voices.{told}
+use Rattle.scan_buddies.specs.Nine.{voice, voice_itself, voice_far, voice_near}
+use Rattle.scan_buddies.proofs.with_voice.Goals as goal
+use Rattle.scan_buddies.proofs.with_voice.Goals.{After-struct_told-1, Start}
+
+module _ (s : Start) where
+  abbrev said : Heard
+  said = voice s.args.radius s.args.numbers.now s.args.d.now s.args.k s.args.j
+
+  -- what was heard before
+  abbrev before : Heard
+  before = told s.args.before.count s.args.before.sum
+
+  abbrev d : ℤ
+  d = get_or s.args.d.now s.args.j (pos 0)
+
+  square-small : s.args.radius * s.args.radius ≤ 262144
+  square-small = mul-le-mul s.requires.3 s.requires.3
+
+  all_small : nat_abs (before.sum +ℤ d) < 9223372036854775808
+  all_small = omega (arith, size_add before.sum d, s.requires.0.small, s.requires.4.d_small)
+
+  all-is : to_z w64 (of_z w64 before.sum) +ℤ to_z w64 (of_z w64 d) ≡ before.sum +ℤ d
+  all-is = rw (bits_back w64 before.sum (omega (arith, s.requires.0.small)), bits_back w64 d (omega (arith, s.requires.4.d_small)))
+
+  -- one that says nothing
+  unheard : said ≡ silence → before ≡ both before said
+  unheard e = rw e (sym (both_silence before))
+
+-- the entry of the call
+abbrev start : After-struct_told-1 → Start
+start c = c.before.before.before.before.before.before.before.before.before
+
+pub returns-then-j-k : goal.returns-then-j-k
+returns-then-j-k c =
+    let s = c.before in
+    unheard s (voice_itself s.args.radius s.args.numbers.now s.args.d.now s.args.k s.args.j c.if-j-k.true)
+
+pub returns-then-radius-squared_distance : goal.returns-then-radius-squared_distance
+returns-then-radius-squared_distance c =
+    let g = c.before in
+    let e = g.before.before.before in
+    let s = e.before in
+    unheard s
+    (voice_far s.args.radius s.args.numbers.now s.args.d.now s.args.k s.args.j g.squared_distance.result e.if-j-k.false g.squared_distance.ensures
+    c.if-radius-squared_distance.true)
+
+pub returns : goal.returns
+returns c =
+    let other = c.before.before.before.before in
+    let g = other.before in
+    let e = g.before.before.before in
+    let s = start c in
+    rw (
+      all-is s,
+      bits_back w64 ((before s).sum +ℤ d s) (all_small s),
+      voice_near s.args.radius s.args.numbers.now s.args.d.now s.args.k s.args.j g.squared_distance.result e.if-j-k.false g.squared_distance.ensures
+          other.if-radius-squared_distance.false,
+    )
