@@ -2,7 +2,6 @@
 use Prim.Native.Nat.{ℕ, ◌*◌, ◌≤◌}
 use native.Mathlib.Omega.{arith}
 use native.Mathlib.Nat.{mul-le-mul}
-use borrow.Author.Rules.{rules}
 use borrow.Author.Tests.{le-leb, lt-leb}
 use mathlib.Core.Path.{◌≡◌}
 use lib.IntN.{ℤ, pos, nat_abs, ◌-ℤ◌, ◌*ℤ◌}
@@ -58,5 +57,5 @@ pub returns : goal.returns
 unfolding is_odd
 returns c =
     let s = c.before.before in
-    let size = rw (gap_back s) at c.type_size.ensures in
+    let size = rw (gap_back s) at c.size_of.ensures in
     rw (le-leb 2 (n s) c.before.if-count-lt2.false, size)

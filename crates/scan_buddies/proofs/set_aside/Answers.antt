@@ -1,13 +1,13 @@
 -- `scan_buddies::set_aside` meets its contract. The loop's invariant: the rows passed have their verdicts after the check, and the others are as they
 -- were; the chains hold the survivors that the call found. Assumes nothing.
-use Prim.Native.Nat.{ℕ, ◌+◌, ◌-◌, ◌≤◌, ◌<◌}
+use Prim.Native.Nat.{ℕ, ◌+◌, ◌<◌}
 use native.Mathlib.Omega.{arith}
-use mathlib.Core.Path.{◌≡◌, refl, sym, ◌∙◌}
+use mathlib.Core.Path.{◌≡◌, refl}
 use lib.ListN.{length, get_or, length-replicate, get_or-replicate}
-use Rattle.lists.specs.Filled.{Filled, filled_none, filled_set}
+use Rattle.lists.specs.Filled.{filled_set}
 use Rattle.scheme.specs.Units.{most_stations}
 use Rattle.scan_buddies.specs.Aside.{aside_at}
-use Rattle.scan_buddies.specs.Cells.{kinds, Survivors}
+use Rattle.scan_buddies.specs.Cells.{kinds}
 use Rattle.scan_buddies.proofs.set_aside.Goals as goal
 use Rattle.scan_buddies.proofs.set_aside.Goals.{In-loop-k, Start}
 
@@ -31,7 +31,7 @@ module _ (c : In-loop-k) where
 
 pub chain-requires : goal.chain-requires
 chain-requires c =
-    let p = c.before.before.before.before.requires in (
+    let p = c.requires in (
       p.few,
       p.len_st,
       length-replicate {A = ℕ} kinds 0,
@@ -43,9 +43,9 @@ chain-requires c =
 pub loop-k-preserved : goal.loop-k-preserved
 unfolding aside_at
 loop-k-preserved c =
-    let t = c.before.before.before.before in
+    let t = (goal.at.loop-k-preserved c).In-loop-k in
     let s = start t in
-    let l = t.before.loop-k in (
+    let l = c.loop-k in (
       omega (arith, t.loop-k-test.true),
       filled_set 0 (aside_at s.args.scan s.args.radius s.args.limit s.args.numbers.now s.args.verdict.now s.args.d.now s.args.stations) 0 (k t) (k t + 1)
           s.args.verdict.now l.verdict _ refl (omega arith) (in-verdict t)

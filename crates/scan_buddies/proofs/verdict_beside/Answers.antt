@@ -1,7 +1,6 @@
 -- `scan_buddies::verdict_beside` meets its contract: its tests are those of the definition. Assumes nothing.
 use Prim.Native.Nat.{ℕ}
 use native.Mathlib.Omega.{arith}
-use borrow.Author.Rules.{rules}
 use borrow.Author.Tests.{eq-eqb, ne_eqb}
 use mathlib.Core.Path.{◌≡◌, sym, ap, ◌∙◌}
 use mathlib.Core.List.{List}
@@ -61,8 +60,8 @@ returns-then-verdict-ne0 c n st survivors = rw (ne_eqb _ _ c.if-verdict-ne0.true
 
 pub is_odd-requires : goal.is_odd-requires
 is_odd-requires c =
-    let h = c.before.before in
-    (rw (d-back h.before) ((start h).requires.3 h.before.if-verdict-ne0.false).d_small, rw (sum_back h.before) (few h))
+    let h = (goal.at.is_odd-requires c).After-hears-s in
+    (rw (d-back h) ((start h).requires.3 c.if-verdict-ne0.false).d_small, rw (sum_back h) (few h))
 
 pub returns-then-is_odd : goal.returns-then-is_odd
 unfolding after_buddies

@@ -2,15 +2,14 @@
 use Prim.Native.Nat.{ℕ, ◌-◌, ◌<◌}
 use native.Mathlib.Omega.{arith}
 use mathlib.Core.Path.{◌≡◌}
-use mathlib.Core.List.{List}
 use lib.ListN.{get_or}
 use Rattle.scheme.specs.Units.{most_stations}
 use Rattle.scheme.specs.Buddies.{Heard}
 use Rattle.scan_buddies.specs.Voices.{told}
-use Rattle.scan_buddies.specs.Cells.{Survivors, Chains}
-use Rattle.scan_buddies.specs.Walks.{Walking, Turn, walking_start, turn, next_less, walking_next, walking_end}
+use Rattle.scan_buddies.specs.Cells.{Chains}
+use Rattle.scan_buddies.specs.Walks.{Turn, walking_start, turn, next_less, walking_next, walking_end}
 use Rattle.scan_buddies.proofs.with_cell.Goals as goal
-use Rattle.scan_buddies.proofs.with_cell.Goals.{After-with_voice-s, In-loop-t, Start}
+use Rattle.scan_buddies.proofs.with_cell.Goals.{In-loop-t, Start}
 
 -- what was heard before
 abbrev before : Start → Heard
@@ -48,15 +47,11 @@ module _ (c : In-loop-t) where
       start.args.k start.args.cell (before start) start.requires.1 t heard some
       (c.before.loop-t.invariant chains.n chains.st chains.survivors)
 
--- the turn that ends
-abbrev turned : After-with_voice-s → In-loop-t
-turned c = c.before.before
-
 pub loop-t-init : goal.loop-t-init
 loop-t-init c n st survivors =
-    let s = c.before in
+    let s = (goal.at.loop-t-init c).Start in
     walking_start s.args.radius s.args.numbers.now s.args.d.now s.args.heads.now s.args.next.now n st survivors s.args.k s.args.cell
-    (before s.before.before) (omega (arith, s.requires.1))
+    (before s) (omega (arith, s.requires.1))
 
 pub with_voice-s-requires : goal.with_voice-s-requires
 with_voice-s-requires c =
@@ -64,20 +59,20 @@ with_voice-s-requires c =
     ((here c).few, inside c, p.2, p.3, (here c).standing, p.4)
 
 pub loop-t-smaller : goal.loop-t-smaller
-loop-t-smaller c = less (turned c.before)
+loop-t-smaller c = less (goal.at.loop-t-smaller c).In-loop-t
 
 pub loop-t-preserved : goal.loop-t-preserved
 loop-t-preserved c n st survivors =
-    let k = turned c.before in
+    let k = (goal.at.loop-t-preserved c).In-loop-t in
     let s = start k in
-    rw c.before.with_voice-s.ensures
+    rw c.with_voice-s.ensures
     (walking_next s.args.radius s.args.numbers.now s.args.d.now s.args.heads.now s.args.next.now n st survivors
     s.args.k s.args.cell (before s) s.requires.1 (t k) (heard k) (some k) (k.before.loop-t.invariant n st survivors))
 
 pub returns : goal.returns
 returns c n st survivors =
-    let l = c.before.loop-t in
-    let s = c.before.before.before in
+    let l = c.loop-t in
+    let s = (goal.at.returns c).Start in
     let e : l.t ≡ 0 = (let h = c.loop-t-test.false in omega arith) in
     walking_end s.args.radius s.args.numbers.now s.args.d.now s.args.heads.now s.args.next.now n st survivors s.args.k s.args.cell
-    (before s.before.before) l.t (told l.s.count l.s.sum) e (l.invariant n st survivors)
+    (before s) l.t (told l.s.count l.s.sum) e (l.invariant n st survivors)
