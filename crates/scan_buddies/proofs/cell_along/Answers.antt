@@ -1,14 +1,12 @@
 -- `scan_buddies::cell_along` meets its contract: a position is no more than 256 below 0, so that 256 more is no negative number. Assumes nothing.
 use Prim.Native.Nat.{ℕ, ◌≤◌}
 use native.Mathlib.Omega.{arith}
-use native.Mathlib.Nat.{div-le_self}
-use borrow.Author.Rules.{rules}
 use mathlib.Core.Path.{◌≡◌}
 use lib.IntN.{pos, ◌+ℤ◌}
 use mir.Syntax.{w32}
 use mir.Val.{to_z, of_z}
 use mir.Facts.{to_z-of_z, to_z_pos}
-use Rattle.integers.specs.Words.{fits_size, bits_back}
+use Rattle.integers.specs.Words.{bits_back}
 use Rattle.scan_buddies.specs.Cells.{offset, cell_along, from_least}
 use Rattle.scan_buddies.proofs.cell_along.Goals as goal
 use Rattle.scan_buddies.proofs.cell_along.Goals.{Start}

@@ -1,19 +1,31 @@
 -- `scan_buddies::chain` meets its contract. The loop's invariant: the rows passed are in their chains. Assumes nothing.
-use Prim.Native.Nat.{ℕ, ◌+◌, ◌-◌, ◌≤◌, ◌<◌}
+use Prim.Native.Nat.{ℕ, ◌+◌, ◌<◌}
 use native.Mathlib.Omega.{arith}
-use mathlib.Core.Path.{◌≡◌, refl}
-use lib.ListN.{length, get_or, length-set}
-use Rattle.lists.specs.Chains.{Chained, chained_none, chained_more}
+use mathlib.Core.Path.{refl}
+use lib.ListN.{get_or, length-set}
+use Rattle.lists.specs.Chains.{chained_none, chained_more}
 use Rattle.scheme.specs.Units.{most_stations}
 use Rattle.scan_buddies.specs.Cells.{kinds, cell_at}
 use Rattle.scan_buddies.specs.Nine.{cell_of_kinds}
 use Rattle.scan_buddies.proofs.chain.Goals as goal
-use Rattle.scan_buddies.proofs.chain.Goals.{After-cell_for-cell}
+use Rattle.scan_buddies.proofs.chain.Goals.{After-cell_for-cell, In-loop-k, Start}
 
--- the cell of a row is one of the kinds
+-- a turn, at row k
+module _ (c : In-loop-k) where
+  abbrev start : Start
+  start = c.before.before.before.before
+
+  abbrev k : ℕ
+  k = c.before.loop-k.k
+
+  few : k < most_stations
+  few = omega (arith, start.requires.0, c.loop-k-test.true)
+
 module _ (c : After-cell_for-cell) where
   small : c.cell_for-cell.result < kinds
-  small = rw c.cell_for-cell.ensures (cell_of_kinds c.args.radius (get_or c.args.verdict.now c.loop-k.k 0) _ (c.requires.5 c.loop-k.k c.loop-k-test.true))
+  small =
+      let k = c.loop-k.k in
+      rw c.cell_for-cell.ensures (cell_of_kinds c.args.radius (get_or c.args.verdict.now k 0) _ (c.requires.5 k c.loop-k-test.true))
 
 pub loop-k-init : goal.loop-k-init
 loop-k-init c =
@@ -36,11 +48,12 @@ bounds-heads-cell-in-loop-k c = small (goal.at.bounds-heads-cell-in-loop-k c).Af
 pub loop-k-preserved : goal.loop-k-preserved
 loop-k-preserved c =
     let g = (goal.at.loop-k-preserved c).After-cell_for-cell in
-    let few : c.loop-k.k < most_stations = omega (arith, c.requires.0, c.loop-k-test.true) in
+    let t = (goal.at.loop-k-preserved c).In-loop-k in
+    let s = start t in
     let l = c.loop-k in (
-      omega (arith, c.loop-k-test.true),
+      omega (arith, t.loop-k-test.true),
       simp length-set l.invariant.1,
       simp length-set l.invariant.2,
-      chained_more (cell_at c.args.radius c.args.numbers.now c.args.verdict.now) kinds l.k (l.k + 1) c.cell_for-cell.result _ l.heads l.next refl
-          c.cell_for-cell.ensures (small g) (omega (arith, small g, l.invariant.1)) (omega (arith, few, l.invariant.2)) refl l.invariant.3,
+      chained_more (cell_at s.args.radius s.args.numbers.now s.args.verdict.now) kinds (k t) (k t + 1) g.cell_for-cell.result _ l.heads l.next refl
+          g.cell_for-cell.ensures (small g) (omega (arith, small g, l.invariant.1)) (omega (arith, few t, l.invariant.2)) refl l.invariant.3,
     )

@@ -1,11 +1,9 @@
-use Prim.Native.Nat.{ℕ, ◌+◌, ◌-◌, ◌≤◌, ◌<◌}
-use native.Mathlib.Omega.{arith}
-use mathlib.Core.Path.{◌≡◌, refl}
-use lib.ListN.{length, get_or, length-set}
-use Rattle.lists.specs.Chains.{Chained, chained_none, chained_more}
+use Prim.Native.Nat.{◌-◌, ◌≤◌}
+use mathlib.Core.Path.{◌≡◌}
+use lib.ListN.{length}
+use Rattle.lists.specs.Chains.{Chained}
 use Rattle.scheme.specs.Units.{most_stations}
 use Rattle.scan_buddies.specs.Cells.{kinds, cell_at}
-use Rattle.scan_buddies.specs.Nine.{cell_of_kinds}
 use Rattle.scan_buddies.proofs.chain.Given as goal
 
 abbrev pub invariant-loop-k : goal.invariant-loop-k

@@ -7,8 +7,8 @@ use mathlib.Core.List.{List, []}
 use lib.ListN.{get_or}
 use Rattle.scheme.specs.Units.{most_stations}
 use Rattle.scheme.specs.Buddies.{Heard, both}
-use Rattle.scan_buddies.specs.Voices.{told, OfAtMost, of_none, of_more}
-use Rattle.scan_buddies.specs.Cells.{across, cells, cell_of, cell_at, Survivors}
+use Rattle.scan_buddies.specs.Voices.{told, of_none, of_more}
+use Rattle.scan_buddies.specs.Cells.{across, cells, cell_of, cell_at}
 use Rattle.scan_buddies.specs.Nine.{voice, three, rows_of, rows_none, rows_next, Framed, cell_framed, nine_are_all}
 use Rattle.scan_buddies.specs.Walks.{with_cells}
 use Rattle.scan_buddies.proofs.hears.Goals as goal

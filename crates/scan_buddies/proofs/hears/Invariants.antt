@@ -1,14 +1,10 @@
-use Prim.Native.Nat.{ℕ, ◌+◌, ◌-◌, ◌*◌, ◌≤◌}
-use native.Mathlib.Omega.{arith}
-use mathlib.Core.Path.{◌≡◌, sym, ap, ◌∙◌}
-use mathlib.Core.List.{List, []}
-use lib.ListN.{get_or}
+use Prim.Native.Nat.{ℕ, ◌-◌, ◌*◌, ◌≤◌}
+use mathlib.Core.Path.{◌≡◌}
+use mathlib.Core.List.{List}
 use Rattle.scheme.specs.Units.{most_stations}
-use Rattle.scheme.specs.Buddies.{Heard, both}
-use Rattle.scan_buddies.specs.Voices.{told, OfAtMost, of_none, of_more}
-use Rattle.scan_buddies.specs.Cells.{across, cells, cell_of, cell_at, Survivors}
-use Rattle.scan_buddies.specs.Nine.{voice, three, rows_of, rows_none, rows_next, Framed, cell_framed, nine_are_all}
-use Rattle.scan_buddies.specs.Walks.{with_cells}
+use Rattle.scan_buddies.specs.Voices.{told, OfAtMost}
+use Rattle.scan_buddies.specs.Cells.{cell_at, Survivors}
+use Rattle.scan_buddies.specs.Nine.{voice, rows_of}
 use Rattle.scan_buddies.proofs.hears.Given as goal
 
 abbrev pub invariant-loop-i : goal.invariant-loop-i

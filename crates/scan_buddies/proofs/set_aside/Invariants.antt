@@ -1,11 +1,7 @@
-use Prim.Native.Nat.{ℕ, ◌+◌, ◌-◌, ◌≤◌, ◌<◌}
-use native.Mathlib.Omega.{arith}
-use mathlib.Core.Path.{◌≡◌, refl, sym, ◌∙◌}
-use lib.ListN.{length, get_or, length-replicate, get_or-replicate}
-use Rattle.lists.specs.Filled.{Filled, filled_none, filled_set}
-use Rattle.scheme.specs.Units.{most_stations}
+use Prim.Native.Nat.{◌-◌, ◌≤◌}
+use Rattle.lists.specs.Filled.{Filled}
 use Rattle.scan_buddies.specs.Aside.{aside_at}
-use Rattle.scan_buddies.specs.Cells.{kinds, Survivors}
+use Rattle.scan_buddies.specs.Cells.{Survivors}
 use Rattle.scan_buddies.proofs.set_aside.Given as goal
 
 abbrev pub invariant-loop-k : goal.invariant-loop-k

@@ -1,13 +1,8 @@
-use Prim.Native.Nat.{ℕ, ◌-◌, ◌<◌}
-use native.Mathlib.Omega.{arith}
-use mathlib.Core.Path.{◌≡◌}
+use Prim.Native.Nat.{ℕ}
 use mathlib.Core.List.{List}
-use lib.ListN.{get_or}
-use Rattle.scheme.specs.Units.{most_stations}
-use Rattle.scheme.specs.Buddies.{Heard}
 use Rattle.scan_buddies.specs.Voices.{told}
-use Rattle.scan_buddies.specs.Cells.{Survivors, Chains}
-use Rattle.scan_buddies.specs.Walks.{Walking, Turn, walking_start, turn, next_less, walking_next, walking_end}
+use Rattle.scan_buddies.specs.Cells.{Survivors}
+use Rattle.scan_buddies.specs.Walks.{Walking}
 use Rattle.scan_buddies.proofs.with_cell.Given as goal
 
 abbrev pub invariant-loop-t : goal.invariant-loop-t

@@ -1,13 +1,13 @@
 -- `scan_buddies::with_three` meets its contract. The loop's invariant: those in the cells passed are heard. Assumes nothing.
-use Prim.Native.Nat.{ℕ, ◌+◌, ◌-◌, ◌*◌, ◌≤◌}
+use Prim.Native.Nat.{ℕ, ◌+◌, ◌*◌}
 use native.Mathlib.Omega.{arith}
 use mathlib.Core.Path.{◌≡◌, sym, ap, ◌∙◌}
 use mathlib.Core.List.{List}
 use Rattle.scheme.specs.Units.{most_stations}
 use Rattle.scheme.specs.Buddies.{Heard, both}
 use Rattle.scheme.proofs.Adding.{both_silence}
-use Rattle.scan_buddies.specs.Voices.{told, OfAtMost, from_cells, from_none, from_more}
-use Rattle.scan_buddies.specs.Cells.{cell_at, Survivors}
+use Rattle.scan_buddies.specs.Voices.{told, OfAtMost, from_none, from_more}
+use Rattle.scan_buddies.specs.Cells.{cell_at}
 use Rattle.scan_buddies.specs.Nine.{voice}
 use Rattle.scan_buddies.specs.Walks.{with_cells}
 use Rattle.scan_buddies.proofs.with_three.Goals as goal

@@ -1,14 +1,10 @@
-use Prim.Native.Nat.{ℕ, ◌+◌, ◌-◌, ◌*◌, ◌≤◌}
-use native.Mathlib.Omega.{arith}
-use mathlib.Core.Path.{◌≡◌, sym, ap, ◌∙◌}
+use Prim.Native.Nat.{ℕ, ◌+◌, ◌-◌, ◌≤◌}
+use mathlib.Core.Path.{◌≡◌}
 use mathlib.Core.List.{List}
-use Rattle.scheme.specs.Units.{most_stations}
-use Rattle.scheme.specs.Buddies.{Heard, both}
-use Rattle.scheme.proofs.Adding.{both_silence}
-use Rattle.scan_buddies.specs.Voices.{told, OfAtMost, from_cells, from_none, from_more}
+use Rattle.scheme.specs.Buddies.{both}
+use Rattle.scan_buddies.specs.Voices.{told, from_cells}
 use Rattle.scan_buddies.specs.Cells.{cell_at, Survivors}
 use Rattle.scan_buddies.specs.Nine.{voice}
-use Rattle.scan_buddies.specs.Walks.{with_cells}
 use Rattle.scan_buddies.proofs.with_three.Given as goal
 
 abbrev pub invariant-loop-i : goal.invariant-loop-i

@@ -2,14 +2,13 @@
 use Prim.Native.Nat.{◌*◌, ◌≤◌, ◌<◌}
 use native.Mathlib.Omega.{arith}
 use native.Mathlib.Nat.{mul-le-mul}
-use borrow.Author.Rules.{rules}
 use mathlib.Core.Path.{◌≡◌, sym}
 use lib.ListN.{get_or}
 use lib.IntN.{ℤ, pos, nat_abs, ◌+ℤ◌}
 use mir.Syntax.{w64}
 use mir.Val.{to_z, of_z}
 use Rattle.integers.specs.Sizes.{size_add}
-use Rattle.integers.specs.Words.{fits_size, bits_back}
+use Rattle.integers.specs.Words.{bits_back}
 use Rattle.scheme.specs.Buddies.{Heard, silence, both}
 use Rattle.scheme.proofs.Adding.{both_silence}
 use Rattle.scan_buddies.specs.Voices.{told}
