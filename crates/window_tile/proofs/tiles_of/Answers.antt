@@ -12,49 +12,38 @@ use Rattle.request.specs.Tables.{window_no}
 use Rattle.window_tile.specs.Query.{tile_from, tile_long}
 use Rattle.window_tile.specs.Turn.{all_few, Turned, turned_none, enough, in_grid, in_support, its_part, turned_more, turned_all}
 use Rattle.window_tile.proofs.tiles_of.Goals as goal
-use Rattle.window_tile.proofs.tiles_of.Goals.{After-points_of, In-loop-k, Start}
+use Rattle.window_tile.proofs.tiles_of.Goals.{After-points_of}
 
 -- in a turn: the window, and the part of the results that is its own
 module _ (c : After-points_of) where
-  abbrev turn : In-loop-k
-  turn = c.before.before
-
-  abbrev start : Start
-  start = turn.before.before.before.before
-
-  abbrev screen : Screen
-  screen = start.args.screen
-
-  abbrev k : ℕ
-  k = turn.before.loop-k.k
-
-  abbrev at : ℕ
-  at = turn.before.loop-k.at
-
   abbrev long : ℕ
-  long = at + c.points_of.result - at
+  long = c.loop-k.at + c.points_of.result - c.loop-k.at
 
-  points : long ≡ points_of (window_no screen k)
+  points : long ≡ points_of (window_no c.args.screen c.loop-k.k)
   points = let e : long ≡ c.points_of.result = omega arith in e ∙ c.points_of.ensures
 
-  small : at + long ≤ most_windows * most_points
-  small = le_trans (enough _ _ screen start.requires.3 turn.before.loop-k.invariant.1 turn.loop-k-test.true points) (all_few start.requires.0 screen start.requires.2)
+  small : c.loop-k.at + long ≤ most_windows * most_points
+  small = le_trans (enough _ _ c.args.screen c.requires.3 c.loop-k.invariant.1 c.loop-k-test.true points) (all_few c.requires.0 c.args.screen c.requires.2)
 
 pub loop-k-init : goal.loop-k-init
 loop-k-init c = (omega arith, turned_none _ _ _ _ _)
 
 pub overflow_add-end : goal.overflow_add-end
-overflow_add-end c = record { fits = omega (arith, small c) }
+overflow_add-end c = record { fits = omega (arith, small (goal.at.overflow_add-end c).After-points_of) }
 
 pub offset_bounds-grid-at : goal.offset_bounds-grid-at
-offset_bounds-grid-at c = record { fits = omega (arith, small c) }
+offset_bounds-grid-at c = record { fits = omega (arith, small (goal.at.offset_bounds-grid-at c).After-points_of) }
+
+pub slice_bounds-tile_of-end : goal.slice_bounds-tile_of-end
+slice_bounds-tile_of-end c =
+    let b = (goal.at.slice_bounds-tile_of-end c).After-points_of in
+    let e : c.loop-k.at + c.points_of.result ≡ c.loop-k.at + long b = omega arith in
+    rw e (in_grid _ _ c.args.screen c.requires.3 c.loop-k.invariant.1 c.loop-k-test.true (points b))
 
 pub loop-k-preserved : goal.loop-k-preserved
 loop-k-preserved c =
-    let b = c.before.before.before.before.before.before in
-    (omega arith, turned_more _ _ (screen b) (start b).requires.3 (turn b).before.loop-k.invariant.1 (turn b).loop-k-test.true (points b) (omega arith) c.before.before.before.tile_of.ensures)
+    let b = (goal.at.loop-k-preserved c).After-points_of in
+    (omega arith, turned_more _ _ c.args.screen c.requires.3 c.loop-k.invariant.1 c.loop-k-test.true (points b) (omega arith) c.tile_of.ensures)
 
 pub returns : goal.returns
-returns c =
-    let s = c.before.before.before.before in
-    turned_all _ _ s.args.screen s.requires.3 c.before.loop-k.invariant.1 (omega arith)
+returns c = turned_all _ _ c.args.screen c.requires.3 c.loop-k.invariant.1 (omega arith)

@@ -18,7 +18,7 @@ use Rattle.scheme.specs.Most.{most_points}
 use Rattle.request.specs.Tables.{station_in, request_in, window_no, turn_same}
 use Rattle.window_tile.specs.Query.{prefix_back, prefix_in, values_long, bits_long, whole_part}
 use Rattle.window_tile.proofs.whole_at_each.Goals as goal
-use Rattle.window_tile.proofs.whole_at_each.Goals.{After-run, Start}
+use Rattle.window_tile.proofs.whole_at_each.Goals.{Start}
 
 -- the local arrays at first
 abbrev values₀ : List ℤ
@@ -29,13 +29,6 @@ bits₀ = replicate most_points 0
 
 abbrev verdict₀ : List ℕ
 verdict₀ = replicate most_stations 0
-
--- two places: at first, with the analysis made
-abbrev Start : Type 0
-Start = Start
-
-abbrev Analysed : Type 0
-Analysed = After-run
 
 -- the request, and the prefixes that its analysis is lent
 module _ (s : Start) where
@@ -66,40 +59,22 @@ module _ (s : Start) where
   lent-verdict : length (take rows verdict₀) ≡ rows
   lent-verdict = length-take-le rows verdict₀ (omega (arith, few_rows, length-replicate {A = ℕ} most_stations 0))
 
--- what the analysis leaves
-module _ (c : Analysed) where
-  abbrev start : Start
-  start = c.before.before.before.before.before.before
-
-  abbrev values : List ℤ
-  values = c.run.new.1.1.1.1.0
-
-  abbrev bits : List ℕ
-  bits = c.run.new.1.1.1.1.1.0
-
-  done : slices values bits c.run.new.1.1.1.1.1.1.0 ≡ analysis (q start)
-  done = c.run.ensures
-
-  long : length values ≡ points start
-  long = values_long (q start) done
-
-  long' : length bits ≡ points start
-  long' = bits_long (q start) done
-
 pub slice_bounds-verdict-end : goal.slice_bounds-verdict-end
-slice_bounds-verdict-end c = few_rows c.before.before.before.before
+slice_bounds-verdict-end c = few_rows (goal.at.slice_bounds-verdict-end c).Start
 
 pub slice_bounds-run-end-3 : goal.slice_bounds-run-end-3
-slice_bounds-run-end-3 c = sym (lent-verdict c.before.before.before.before.before)
+slice_bounds-run-end-3 c = sym (lent-verdict (goal.at.slice_bounds-run-end-3 c).Start)
 
 pub run-requires : goal.run-requires
 run-requires c =
-    let s = c.before.before.before.before.before in
-    (s.requires.0, record { grid_long = lent-values s; support_long = lent-bits s; verdict_long = lent-verdict s ∙ sym (rows_long s) })
+    let s = (goal.at.run-requires c).Start in
+    (c.requires.0, record { grid_long = lent-values s; support_long = lent-bits s; verdict_long = lent-verdict s ∙ sym (rows_long s) })
 
 pub returns : goal.returns
 returns c =
-    let k = c.before.before.before.before.before.before.before.before.before.before.before in
-    let s = start k in
-    let e = rw (prefix_back (points s) (values k) values₀ (long k), prefix_back (points s) (bits k) bits₀ (long' k)) at c.before.before.before.tiles_of.ensures in
-    e ∙ turn_same _ _ s.args.screen (λ m h. whole_part (q s) (window_no s.args.screen m) (s.requires.1.on m h) (done k))
+    let s = (goal.at.returns c).Start in
+    let done : slices c.run.new.grid c.run.new.support c.run.new.verdict ≡ analysis (q s) = c.run.ensures in
+    let long = values_long (q s) done in
+    let long' = bits_long (q s) done in
+    let e = rw (prefix_back (points s) c.run.new.grid values₀ long, prefix_back (points s) c.run.new.support bits₀ long') at c.tiles_of.ensures in
+    e ∙ turn_same _ _ c.args.screen (λ m h. whole_part (q s) (window_no c.args.screen m) (c.requires.1.on m h) done)
