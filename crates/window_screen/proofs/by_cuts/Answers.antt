@@ -30,7 +30,10 @@ pub loop-k-init : goal.loop-k-init
 loop-k-init c = (omega arith, refl, turned_none _ _ _ _ _)
 
 pub overflow_add-end : goal.overflow_add-end
-overflow_add-end c = record { fits = omega (arith, small c) }
+overflow_add-end c =
+    let e : c.loop-k.at + c.points_of.result - c.loop-k.at ≡ c.points_of.result = omega arith in
+    let below = le_trans (enough _ _ c.args.screen c.requires.2 c.loop-k.invariant.2 c.loop-k-test.true (e ∙ c.points_of.ensures)) (all_few c.requires.0.shape c.args.screen c.requires.1) in
+    record { fits = omega (arith, below) }
 
 pub offset_bounds-grid-at : goal.offset_bounds-grid-at
 offset_bounds-grid-at c = record { fits = omega (arith, small (goal.at.offset_bounds-grid-at c).After-points_of) }
