@@ -4,7 +4,7 @@ use Rattle.std.proofs.Common.{arith, mul-le-mul, inl, inr}
 use borrow.Author.Tests.{ltb-false, leb-true, leb-false, eqb-true, not-false, le-leb, lt-leb, le-ltb, eq-eqb}
 use Rattle.std.specs.Int.Signed.{le_z, lt_z}
 use Rattle.lists.specs.Tests.{true_or_false, and_true, or_false, not_both}
-use Rattle.lists.specs.First.{Found, nowhere, at, first, first_good, good_first, none_bad, all_fine}
+use Rattle.lists.specs.First.{Found, nowhere, at, first_good, good_first, none_bad, all_fine}
 use Rattle.lists.specs.Members.{All, none, more}
 use Rattle.lists.specs.Tab.{length-tab}
 use Rattle.scheme.specs.Units.{among, within, most_value, is_missing, least_side, most_side, most_stations, most_wind, is_no_wind, Wind, Station, most_position, Columns, station_at, stations_of, most_scans, most_radius, most_limit, most_buddy_radius, most_buddy_limit, wind_mode, equation_rule, listing_rule, Plan, R, E, B, L, Request, Call, asked}

@@ -27,7 +27,6 @@ use Rattle.scheme.specs.Verdicts.{is_accepted}
 use Rattle.scheme.specs.Difference.{Row, after_test, tested}
 use Rattle.scheme.specs.Weight.{inside}
 use Rattle.scheme.specs.Buddies.{Heard, silence, says, heard, is_odd, after_buddies, beside_others}
-use Rattle.scheme.specs.Correction.{nothing}
 use Rattle.scheme.specs.Scan.{State, start, differences, all_tested, all_judged, rows_judged, sums_at, corrected, scan, after_within, after, analysis}
 use Rattle.scheme.specs.Reach.{steps, whole_at}
 use Rattle.scheme.specs.Judging.{no_row}

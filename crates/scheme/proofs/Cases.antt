@@ -9,7 +9,7 @@ use Rattle.lists.specs.Sums.{total}
 use Rattle.lists.specs.Parted.{each_from, each}
 use Rattle.lists.specs.First.{first, first_from, or_next}
 use Rattle.scheme.specs.Units.{is_missing, missing_mark, stored, field_of, most_stations, is_no_wind, Station, no_end, station_at, stations_of, equation_rule, R, E, B, L, guess}
-use Rattle.scheme.specs.Refusals.{refused, as_one, in_order, refused_with, refused_at, bad_shape, bad_window, windows_of, bad_screen, bad_lengths, bad_columns, bad_scans, rising, bad_scan, bad_buddies, bad_guess, bad_wind, bad_station, from_five, analysis_refusal, window_refusal, screen_refusal, summary_refusal, reading_refusal}
+use Rattle.scheme.specs.Refusals.{in_order, refused_with, refused_at, bad_shape, bad_window, windows_of, bad_screen, bad_lengths, bad_columns, bad_scans, rising, bad_scan, bad_buddies, bad_guess, bad_wind, bad_station, from_five, analysis_refusal, window_refusal, screen_refusal, summary_refusal, reading_refusal}
 use Rattle.scheme.specs.Verdicts.{serves, out_of_service, near_axis, off_grid, first_that_fits, before_scans}
 use Rattle.scheme.specs.Rounding.{rounded}
 use Rattle.scheme.specs.Value.{place, cell, corners, sum_at, value_at}
@@ -29,7 +29,7 @@ use Rattle.scheme.specs.Text.Printed.{spelled, decimal, integer, cells, keyed, g
 use Rattle.scheme.proofs.Accepted.{columns_good}
 use Rattle.scheme.specs.Calls.{columns_of}
 use Rattle.scheme.proofs.Calls.{equal_columns}
-use Rattle.scheme.specs.Cases.{Borders, LoneStations, Numbers, Posts, Readings, Refusals, Rims, Streaks, Texts, Verdicts, all, clustered, levelled, mast, odd, three_with, two, verdict, wind}
+use Rattle.scheme.specs.Cases.{Borders, LoneStations, Numbers, Posts, Readings, Refusals, Rims, Streaks, Texts, Verdicts, clustered, levelled, mast, odd, three_with}
 
 -- ---- a call on a grid of two by two, to be damaged
 

@@ -1,6 +1,6 @@
 -- The four cheats that document 01 names, refuted on its own example: the promises of analysis, window query and program admit none of them.
 -- Each is asked for the example, whose plan has one scan, for the example with that scan twice, and for that with smoothing on, under either rule.
-use Rattle.std.specs.Prelude.{ℕ, ◌+◌, ◌-◌, ◌≡◌, true, false, eqb, length, drop, ℤ, pos}
+use Rattle.std.specs.Prelude.{ℕ, ◌≡◌, true, false, eqb, length, drop, ℤ, pos}
 use Rattle.std.proofs.Common.{arith, sym, ap, subst, ◌∙◌}
 use Rattle.std.proofs.Math.Path.{refl}
 use mathlib.Core.List.{List, ◌++◌}

@@ -1,5 +1,5 @@
 -- Printed numbers, digit by digit, and how many digits they have.
-use Rattle.std.specs.Prelude.{ℕ, zero, suc, ◌+◌, ◌/◌, ◌%◌, ◌^◌, ◌≤◌, ◌<◌, ◌≡◌, refl, ◌⊎◌, List, [], ◌∷◌, ◌++◌, length, ℤ, pos, negsuc, nat_abs}
+use Rattle.std.specs.Prelude.{ℕ, zero, suc, ◌/◌, ◌%◌, ◌^◌, ◌≤◌, ◌<◌, ◌≡◌, refl, ◌⊎◌, List, [], ◌∷◌, ◌++◌, length, ℤ, pos, negsuc, nat_abs}
 use Rattle.std.proofs.Common.{arith, pow-suc, sym, ap, ◌∙◌, inl, inr, lt-ltb, le-ltb, length-append}
 use Rattle.lists.specs.Tests.{lt_or_le}
 use Rattle.scheme.specs.Text.Printed.{spelled, decimal, integer}

@@ -24,7 +24,7 @@ use Rattle.scheme.specs.Text.Pieces.{word, digits, positive, natural, between, c
 use Rattle.scheme.specs.Text.Lines.{number, grid_line, entry_line, row_line, observation, end, station_line}
 use Rattle.scheme.specs.Text.Order.{lines, rows, nothing_after}
 use Rattle.scheme.specs.Text.Printed.{spelled, decimal, integer, cells, keyed, grid_lines}
-use Rattle.scheme.specs.Example.{Accepts, Analysed, Answered, Cheated, Screened, Tiled, corner, lone}
+use Rattle.scheme.specs.Example.{Accepts, Analysed, Answered, Cheated, Screened, Tiled, lone}
 
 -- ---- the request
 

@@ -1,6 +1,6 @@
 -- What a station gives to a point goes by its offset: nothing from the radius on, its weight and weight·D within. No law here knows of a mode
 -- or a rule.
-use Rattle.std.specs.Prelude.{ℕ, ◌*◌, ◌≤◌, ◌≡◌, ◌⊎◌, Bool, true, false, cond, ℤ, nat_abs, ◌-ℤ◌, ◌*ℤ◌}
+use Rattle.std.specs.Prelude.{ℕ, ◌*◌, ◌≤◌, ◌≡◌, ◌⊎◌, Bool, true, false, cond, ℤ, nat_abs, ◌-ℤ◌}
 use Rattle.std.proofs.Common.{arith, mul-le-mul, mul-le-mul_left, ap, ◌∙◌, inl, inr, ltb-false, le-ltb}
 use Rattle.std.proofs.Math.Path.{refl}
 use Rattle.std.proofs.Math.IntN.{pos, zero-*ℤ}

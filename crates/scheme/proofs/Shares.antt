@@ -1,5 +1,5 @@
 -- The value at a station by the corners with a share: a cell's far edge is the next cell's near one, and a part of the grid gives the same sum.
-use Rattle.std.specs.Prelude.{ℕ, zero, suc, ◌+◌, ◌-◌, ◌*◌, ◌≤◌, ◌<◌, ◌≡◌, ◌⊎◌, ℤ, pos, ◌+ℤ◌, ◌*ℤ◌}
+use Rattle.std.specs.Prelude.{ℕ, zero, suc, ◌+◌, ◌-◌, ◌*◌, ◌≤◌, ◌<◌, ◌≡◌, ◌⊎◌, ℤ, pos, ◌*ℤ◌}
 use Rattle.std.proofs.Common.{arith, zero-mul, mul-zero, sym, ap, ◌∙◌, inl, inr}
 use Rattle.std.proofs.Math.IntN.{zero-*ℤ, +ℤ_idl, +ℤ_idr}
 use Rattle.lists.specs.Tests.{lt_or_le}

@@ -1,6 +1,6 @@
 -- What holds of every round weight: it lies in 0..scale, is the scale at the station, 0 from the radius on, and never rises with the distance.
 -- It goes by the fraction of its two numbers alone.
-use Rattle.std.specs.Prelude.{ℕ, ◌+◌, ◌-◌, ◌*◌, ◌/◌, ◌≤◌, ◌<◌, ◌≡◌, ◌⊎◌, cond, ltb}
+use Rattle.std.specs.Prelude.{ℕ, ◌+◌, ◌-◌, ◌*◌, ◌≤◌, ◌<◌, ◌≡◌, ◌⊎◌, cond, ltb}
 use Rattle.std.proofs.Common.{arith, div-lt_iff_lt-mul, mul-div_cancel, mul-le-mul_left, sym, ap, inl, inr, lt-ltb, le-ltb}
 use Rattle.std.proofs.Math.Nat.{mul-div-mul_left, zero-div}
 use Rattle.integers.specs.Fractions.{whole_part_order}

@@ -24,7 +24,7 @@ use Rattle.scheme.specs.Reach.{whole_at}
 use Rattle.scheme.specs.Accepted.{Sound, no_station}
 use Rattle.scheme.proofs.Accepted.{analysis_sound}
 use Rattle.scheme.proofs.Judging.{all-judged, judged_station}
-use Rattle.scheme.specs.Streaks.{times, turned, Fair}
+use Rattle.scheme.specs.Streaks.{times, Fair}
 use Rattle.scheme.proofs.Streaks.{round_if_still, still_in_mode_0, still_if_missing, stronger_wind_weighs_alike, turned_is, turned_fair}
 use Rattle.scheme.specs.Winds.{FairBoth, stilled, strengthened, turned_about, with_wind, with_winds}
 

@@ -1,6 +1,6 @@
 -- What an accepted request is: each test of the refusal table, turned into the fact that it leaves.
 use Rattle.std.specs.Prelude.{ℕ, suc, ◌*◌, ◌≤◌, ◌<◌, ◌≡◌, true, false, List, [], ◌∷◌, length, get_or, pos, nat_abs}
-use Rattle.lists.specs.First.{at, first, first_in}
+use Rattle.lists.specs.First.{first, first_in}
 use Rattle.scheme.specs.Units.{most_value, is_missing, most_stations, is_no_wind, Station, most_position, Columns, most_scans, most_radius, most_limit, most_buddy_radius, most_buddy_limit, wind_mode, equation_rule, listing_rule, Plan, R, E, B, L, Request}
 use Rattle.scheme.specs.Streaks.{Fair}
 use Rattle.scheme.specs.Refusals.{Refusal, refused_with, refused_at, Window, most_windows, Screen, points_of, points_of_all, rising, bad_scan, bad_buddies, bad_guess, bad_station}

@@ -1,7 +1,6 @@
 -- An axis of the grid and a stretch of it: the places of positions, and how the stretch counts them from its first point.
 use Rattle.std.specs.Prelude.{ℕ, ◌+◌, ◌-◌, ◌*◌, ◌≤◌, ◌<◌, ◌≡◌, ℤ, pos, ◌-ℤ◌}
 use Rattle.scheme.specs.Units.{Field, step}
-use Rattle.scheme.specs.Value.{place}
 use Rattle.scheme.specs.Refusals.{Span, points_along}
 
 pub record Axis : Type 0 where

@@ -1,7 +1,6 @@
 -- Every accepted run stays within -13,000,000..13,000,000 at every point, since each correction is at most E in size.
-use Rattle.std.specs.Prelude.{ℕ, ◌-◌, ◌≤◌, ◌≡◌, true, List, get_or, ℤ, pos, nat_abs}
+use Rattle.std.specs.Prelude.{ℕ, ◌≤◌, ◌≡◌, true, List, get_or, ℤ, pos, nat_abs}
 use Rattle.scheme.specs.Units.{Field, Station}
-use Rattle.scheme.specs.Refusals.{accepted}
 use Rattle.scheme.specs.Verdicts.{is_accepted}
 use Rattle.scheme.specs.Difference.{Row}
 use Rattle.scheme.specs.Most.{most_field}

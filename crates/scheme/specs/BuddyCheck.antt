@@ -1,16 +1,16 @@
 -- The buddy check (document 02, 7): all are judged at once; off, it is as if it were not there; who has fewer than two neighbours stays; who is set
 -- aside has no weight and is no neighbour from then on; and what two that agree do to a third.
-use Prim.Native.Nat.{ℕ, zero, suc, ◌+◌, ◌-◌}
+use Prim.Native.Nat.{ℕ, zero, suc}
 use Rattle.std.specs.Prelude.{ℤ, ◌+ℤ◌}
 use Rattle.std.proofs.Math.Bool.{cond}
 use mathlib.Core.List.{List, map}
 use Rattle.lists.specs.Sums.{total}
-use Rattle.scheme.specs.Units.{Field, stored, most_beyond, Buddies, R, E, B, L, Request, asking}
+use Rattle.scheme.specs.Units.{Field, stored, most_beyond, Buddies, R, Request, asking}
 use Rattle.scheme.specs.Refusals.{Window}
 use Rattle.scheme.specs.Difference.{Row}
 use Rattle.scheme.specs.Correction.{Sums, nothing, plus, share, correction, backed_by}
 use Rattle.scheme.specs.Smoothing.{smoothed}
-use Rattle.scheme.specs.Scan.{State, start, differences, all_tested, scan, Analysis}
+use Rattle.scheme.specs.Scan.{State, start, differences, all_tested, Analysis}
 use Rattle.scheme.specs.Reach.{window_of, Tile}
 
 -- what a scan leaves, by its rows as they are judged

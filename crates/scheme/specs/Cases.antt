@@ -1,26 +1,21 @@
 -- A line for each refusal of each call with its place, each verdict, each kind of reading, and the edges of age, service, radius, size and line: what the
 -- theorems leave open is fixed here, by computation.
-use Rattle.std.specs.Prelude.{ℕ, ◌+◌, ◌<◌, ◌≡◌, Bool, true, false, length, ℤ, pos, negsuc}
+use Rattle.std.specs.Prelude.{ℕ, ◌+◌, ◌≡◌, Bool, true, false, length, ℤ, pos, negsuc}
 use mathlib.Core.List.{List, [], ◌∷◌, ◌++◌}
 use Rattle.lists.specs.Tab.{tab}
-use Rattle.lists.specs.Parted.{each}
 use Rattle.lists.specs.First.{first}
 use Rattle.scheme.specs.declared.Reading.TheVariants.{Backed, FirstGuess, OffGrid, Refused}
-use Rattle.scheme.specs.Units.{missing_mark, Field, field_of, Wind, no_wind, Station, no_end, Columns, most_beyond, round_mode, wind_mode, equation_rule, listing_rule, no_buddies, R, E, B, L, Request, Call, guess, asking}
+use Rattle.scheme.specs.Units.{missing_mark, Field, field_of, Wind, no_wind, Station, no_end, Columns, most_beyond, round_mode, wind_mode, equation_rule, listing_rule, no_buddies, Request, Call, asking}
 use Rattle.scheme.specs.Refusals.{Refusal, accepted, refused, as_one, Span, Window, window_at, Screen, bad_columns, analysis_refusal, window_refusal, screen_refusal}
 use Rattle.scheme.specs.Verdicts.{before_scans}
-use Rattle.scheme.specs.Value.{place, corners}
 use Rattle.scheme.specs.Difference.{difference, after_test}
-use Rattle.scheme.specs.Weight.{weight, weight_at}
-use Rattle.scheme.specs.Correction.{share}
+use Rattle.scheme.specs.Weight.{weight_at}
 use Rattle.scheme.specs.Smoothing.{smoothed}
-use Rattle.scheme.specs.Scan.{scan, Analysis, analysis}
+use Rattle.scheme.specs.Scan.{Analysis, analysis}
 use Rattle.scheme.specs.Reach.{on_span}
-use Rattle.scheme.specs.Readings.{double, positive_zero, reading, numbers_of, lowest, highest, summary}
+use Rattle.scheme.specs.Readings.{double, positive_zero, reading, numbers_of, summary}
 use Rattle.scheme.specs.Text.{request_lines, in_form, answer_text}
-use Rattle.scheme.specs.Text.Pieces.{ascii, digits, count}
-use Rattle.scheme.specs.Text.Lines.{number}
-use Rattle.scheme.specs.Text.Order.{rows}
+use Rattle.scheme.specs.Text.Pieces.{ascii}
 use Rattle.scheme.specs.Calls.{columns_of}
 use Rattle.scheme.specs.Promises.{four_columns}
 use Rattle.scheme.specs.Most.{most_field, most_difference, most_weights, most_pulls, most_reach}

@@ -2,7 +2,7 @@
 -- Each is asked for the example, whose plan has one scan, for the example with that scan twice, and for that with smoothing on, under either rule.
 use Rattle.std.specs.Prelude.{ℕ, ◌+◌, ◌-◌, ◌*◌, ◌≡◌, length, take, drop, get_or, ℤ, pos, nat_abs}
 use mathlib.Core.List.{List, ◌++◌}
-use Rattle.scheme.specs.Scan.{after, Analysis}
+use Rattle.scheme.specs.Scan.{Analysis}
 use Rattle.scheme.specs.Text.Pieces.{ascii}
 use Rattle.scheme.specs.Text.Printed.{integer, grid_lines}
 

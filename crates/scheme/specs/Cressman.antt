@@ -1,5 +1,4 @@
 -- Documents 01 and 02 as a scheme: its pieces keep the laws, and its run goes by them.
-use Rattle.std.specs.Prelude.{◌-◌}
 use Rattle.scheme.specs.Refusals.{Window}
 use Rattle.scheme.specs.Axes.{Axis}
 

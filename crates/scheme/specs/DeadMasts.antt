@@ -1,10 +1,10 @@
 -- Demand 2's word on dead masts: a mast out of service, a missing, stale or rejected reading has no weight in any scan from then on.
-use Rattle.std.specs.Prelude.{ℕ, ◌+◌, List, get_or}
+use Rattle.std.specs.Prelude.{ℕ, List, get_or}
 use Rattle.lists.specs.Each.{without}
-use Rattle.scheme.specs.Units.{R, E, Request}
+use Rattle.scheme.specs.Units.{R, Request}
 use Rattle.scheme.specs.Difference.{Row}
 use Rattle.scheme.specs.Correction.{share}
-use Rattle.scheme.specs.Scan.{differences, all_tested, rows_judged, scan, after}
+use Rattle.scheme.specs.Scan.{differences, all_tested, rows_judged, after}
 use Rattle.scheme.specs.Judging.{no_row}
 
 abbrev pub row_after : Request → ℕ → ℕ → Row

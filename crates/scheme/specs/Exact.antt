@@ -1,11 +1,11 @@
 -- "This double is exact": a whole number below 2^53 as a double, divided by a power of 2, loses nothing. So no reading and no summary is
 -- rounded, over any i32 values and any grid.
-use Rattle.std.specs.Prelude.{zero, ◌-◌, ◌≡◌, Bool, cond, ℤ, pos, negsuc, Float}
+use Rattle.std.specs.Prelude.{◌≡◌, Bool, cond, ℤ, pos, negsuc, Float}
 use Rattle.std.proofs.Math.Bool.{true, false}
 use Rattle.std.specs.Int.Signed.{le_z}
 use Rattle.std.specs.Float.Ieee.Exact.{HasValue}
 use Rattle.scheme.specs.declared.Units.{Units}
-use Rattle.scheme.specs.Readings.{positive_zero, lowest, highest}
+use Rattle.scheme.specs.Readings.{positive_zero}
 
 abbrev pub negative : ℤ → Bool
 negative (pos n) = false

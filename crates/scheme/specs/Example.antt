@@ -2,13 +2,10 @@
 use Rattle.std.specs.Prelude.{ℕ, ◌≡◌, Bool, true, false, cond, eqb, ℤ, pos}
 use mathlib.Core.List.{List, [], ◌∷◌, ◌++◌}
 use Rattle.lists.specs.Tab.{tab}
-use Rattle.lists.specs.First.{first}
 use Rattle.scheme.specs.Units.{Field, stored, no_wind, Station, round_mode, equation_rule, no_buddies, Request, asking}
 use Rattle.scheme.specs.Refusals.{accepted, Window, window_at, Screen, windows_of, analysis_refusal, window_refusal, screen_refusal}
-use Rattle.scheme.specs.Value.{corners}
-use Rattle.scheme.specs.Correction.{share}
 use Rattle.scheme.specs.Smoothing.{smoothed}
-use Rattle.scheme.specs.Scan.{corrected, scan, after, Analysis, analysis}
+use Rattle.scheme.specs.Scan.{after, Analysis, analysis}
 use Rattle.scheme.specs.Reach.{Tile, window_of, whole_at, whole_at_each}
 use Rattle.scheme.specs.Calls.{call_for}
 use Rattle.scheme.specs.Promises.{slices, tile, four_columns}

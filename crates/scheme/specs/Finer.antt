@@ -2,7 +2,7 @@
 use Rattle.std.specs.Prelude.{ℕ, ◌+◌, ◌-◌, ◌*◌, ◌/◌, ◌<◌, ◌≡◌, true, pos, ◌-ℤ◌}
 use Rattle.scheme.specs.Units.{step}
 use Rattle.scheme.specs.Verdicts.{is_accepted}
-use Rattle.scheme.specs.Weight.{weight, squares}
+use Rattle.scheme.specs.Weight.{squares}
 use Rattle.scheme.specs.Difference.{Row}
 
 -- a weight in that many parts; document 01 has hundredths

@@ -1,10 +1,8 @@
 -- What the window theorem asks. A scheme is its pieces, and keeps a few laws, none of which knows of windows or of more than one scan; a run
 -- of it on a grid goes from scan to scan by the pieces. Documents 01 and 02 are one scheme (Cressman); a request of document 02 that changes a
 -- piece shows its law again, and brings no new theorem.
-use Rattle.std.specs.Prelude.{ℕ, ◌-◌, ◌≤◌, ◌≡◌, ◌⊎◌, Bool, List, ℤ, nat_abs}
+use Rattle.std.specs.Prelude.{ℕ, ◌≤◌, ◌≡◌, ◌⊎◌, Bool, List, ℤ, nat_abs}
 use Rattle.scheme.specs.Units.{Field}
-use Rattle.scheme.specs.Value.{place}
-use Rattle.scheme.specs.Smoothing.{inner}
 use Rattle.scheme.specs.Axes.{Axis}
 
 pub record Influence (Station Diff : Type 0) : Type 1 where

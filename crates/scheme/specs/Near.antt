@@ -1,8 +1,7 @@
 -- What lies at most so far off a window: points in steps, positions and stations in units; and what the grid and the cut have in common there.
-use Rattle.std.specs.Prelude.{ℕ, ◌+◌, ◌-◌, ◌*◌, ◌≤◌, ◌<◌}
+use Rattle.std.specs.Prelude.{ℕ, ◌+◌, ◌*◌, ◌≤◌, ◌<◌}
 use Rattle.scheme.specs.Units.{step}
 use Rattle.scheme.specs.Refusals.{Span}
-use Rattle.scheme.specs.Axes.{off}
 
 -- along one axis of n points: the window, and the steps by which the cut is wider on both sides
 pub record Side : Type 0 where

@@ -1,5 +1,5 @@
 -- The rounded quotient is the nearest whole number, halves away from zero: that is its property, and it has no other answer.
-use Rattle.std.specs.Prelude.{ℕ, zero, ◌-◌, ◌*◌, ◌/◌, ◌≤◌, ◌≡◌, ℤ, pos, nat_abs, ◌-ℤ◌, ◌*ℤ◌}
+use Rattle.std.specs.Prelude.{ℕ, ◌≤◌, ◌≡◌, ℤ, pos, nat_abs, ◌-ℤ◌, ◌*ℤ◌}
 
 -- how far n lies from r times d
 abbrev pub off : ℤ → ℕ → ℤ → ℕ

@@ -1,9 +1,8 @@
 -- Posts beyond the border: their difference is the same in every scan, so that none is rejected later under limits that do not fall; and for a
 -- request without posts nothing moves, however far off a post may be: document 01, where it may not be off at all, gives the same run.
-use Prim.Native.Nat.{ℕ, ◌-◌}
+use Prim.Native.Nat.{ℕ}
 use Rattle.std.specs.Prelude.{◌≡◌, ◌⊎◌, false}
-use Rattle.std.proofs.Math.Bool.{true, not}
-use Rattle.lists.specs.Members.{more}
+use Rattle.std.proofs.Math.Bool.{true}
 use Rattle.scheme.specs.Units.{Station, Request}
 use Rattle.scheme.specs.Verdicts.{on_grid, off_grid}
 

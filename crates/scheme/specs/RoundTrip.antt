@@ -8,11 +8,10 @@ use Rattle.lists.specs.Members.{All}
 use Rattle.lists.specs.Tab.{tab}
 use Rattle.scheme.specs.Units.{among, no_wind, Station, round_mode, equation_rule, listing_rule, Buddies, no_buddies, asking, Plan, Request, most_scans, most_stations}
 use Rattle.scheme.specs.Text.Reader.{Result, fails, reads, gives, ◌or◌, ◌>>=◌, ◌>>◌}
-use Rattle.scheme.specs.Text.Pieces.{ascii, Piece, count, unsigned, values}
+use Rattle.scheme.specs.Text.Pieces.{ascii, Piece, count, unsigned}
 use Rattle.scheme.specs.Text.Lines.{Size, Entry, number, scan_line, buddy_line, row_line, station_line}
 use Rattle.scheme.specs.Text.Order.{Text, line, lines, rows, nothing_after}
 use Rattle.scheme.specs.Text.Printed.{decimal, integer, keyed, grid_lines}
-use Rattle.scheme.specs.Decimals.{digit}
 
 abbrev pub entry_text : Entry → List ℕ
 entry_text t = keyed (ascii "scan=") integer (t.radius ∷ t.limit ∷ [])

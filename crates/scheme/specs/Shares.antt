@@ -1,7 +1,7 @@
 -- The value at a station by the corners with a share: a cell's far edge is the next cell's near one, and a part of the grid gives the same sum.
 use Rattle.std.specs.Prelude.{ℕ, ◌+◌, ◌-◌, ◌*◌, ◌≤◌, ℤ, pos, ◌+ℤ◌, ◌*ℤ◌}
 use Rattle.scheme.specs.Units.{Field, step}
-use Rattle.scheme.specs.Value.{cell, corners}
+use Rattle.scheme.specs.Value.{corners}
 
 -- the sum of the corners of the cell at (m, n)
 abbrev pub interpolation_sum : Field ℤ → (m n a b : ℕ) → ℤ

@@ -1,5 +1,5 @@
 -- Fields and the lists that store them: what is stored is there, and only the points of the grid matter.
-use Prim.Native.Nat.{ℕ, ◌-◌, ◌<◌}
+use Prim.Native.Nat.{ℕ, ◌<◌}
 use Rattle.std.specs.Prelude.{◌≡◌}
 use Rattle.scheme.specs.Units.{Field}
 

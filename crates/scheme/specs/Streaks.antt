@@ -1,8 +1,7 @@
 -- What holds of every weight, in both modes: it lies in 0..scale and is 0 from the radius on. Along the wind (document 02, 5) it is never below the
 -- round weight, is equal to it across the wind, and changes neither with the wind's sign nor with its strength.
-use Rattle.std.specs.Prelude.{◌*◌, ◌≤◌, ℤ, neg_ℤ, nat_abs, ◌*ℤ◌}
+use Rattle.std.specs.Prelude.{◌≤◌, ℤ, neg_ℤ, nat_abs, ◌*ℤ◌}
 use Rattle.scheme.specs.Units.{Wind, most_wind}
-use Rattle.scheme.specs.Weight.{blows}
 
 -- k times as strong; for a negative k it blows the other way
 abbrev pub times : ℤ → Wind → Wind

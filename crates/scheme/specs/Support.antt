@@ -1,6 +1,6 @@
 -- The support byte: bit scan-1 is set exactly where some accepted row has a nonzero weight in that scan, and without smoothing a point
 -- with no support keeps its first guess.
-use Prim.Native.Nat.{ℕ, ◌-◌, ◌/◌, ◌%◌, ◌<◌, ◌^◌}
+use Prim.Native.Nat.{ℕ, ◌/◌, ◌%◌, ◌<◌, ◌^◌}
 use Rattle.std.specs.Prelude.{◌≡◌, Bool, eqb}
 use Rattle.std.proofs.Math.Bool.{true}
 use Rattle.scheme.specs.Verdicts.{is_accepted}

@@ -4,10 +4,10 @@ use Rattle.std.specs.Float.Ieee.Exact.{HasValue}
 use Rattle.scheme.specs.declared.Reading.TheVariants.{FirstGuess}
 use Rattle.scheme.specs.Units.{Field, field_of, round_mode, equation_rule, no_buddies, Plan, Request, guess}
 use Rattle.scheme.specs.Rounding.{rounded}
-use Rattle.scheme.specs.Value.{corners, sum_at}
+use Rattle.scheme.specs.Value.{sum_at}
 use Rattle.scheme.specs.Difference.{after_test}
 use Rattle.scheme.specs.Weight.{weight}
-use Rattle.scheme.specs.Smoothing.{inner, smoothed}
+use Rattle.scheme.specs.Smoothing.{smoothed}
 use Rattle.scheme.specs.Scan.{after}
 use Rattle.scheme.specs.Reach.{reach}
 use Rattle.scheme.specs.Readings.{double, reading}

@@ -2,8 +2,7 @@
 -- request and every window on its grid.
 use Rattle.std.specs.Prelude.{ℕ, ◌+◌, ◌-◌, ◌*◌, ◌≤◌, ◌<◌, ◌≡◌, true, length, get_or, pos}
 use Rattle.scheme.specs.Units.{Station, Request}
-use Rattle.scheme.specs.Refusals.{accepted, Window}
-use Rattle.scheme.specs.Value.{place}
+use Rattle.scheme.specs.Refusals.{Window}
 use Rattle.scheme.specs.Scan.{analysis}
 use Rattle.scheme.specs.Reach.{cut_of, on_window, counted, cut}
 use Rattle.scheme.specs.Calls.{Accepts}

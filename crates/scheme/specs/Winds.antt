@@ -3,7 +3,6 @@
 use Rattle.std.specs.Prelude.{ℕ, ◌≡◌, false, map, ℤ}
 use Rattle.std.proofs.Math.Bool.{cond}
 use Rattle.scheme.specs.Units.{Wind, no_wind, is_no_wind, Station, round_mode, Request}
-use Rattle.scheme.specs.Scan.{after}
 use Rattle.scheme.specs.Streaks.{times, turned, Fair}
 
 abbrev pub with_wind : (Wind → Wind) → Station → Station

@@ -1,7 +1,5 @@
 -- `analysis::settled` meets its contract: a refusal found before anything is written, or the scans. Assumes nothing.
-use borrow.Author.Rules.{rules}
 use Rattle.scheme.proofs.Accepted.{formed_sound}
-use Rattle.refusal.specs.Coded.{refuses, works}
 use Rattle.analysis.proofs.settled.Goals as goal
 
 pub run-requires : goal.run-requires

@@ -1,5 +1,4 @@
 -- `field_reading::all_backed` meets its contract: four corners, one after the other. Assumes nothing.
-use borrow.Author.Rules.{rules}
 use Rattle.field_reading.specs.Backing.{all_backed}
 use Rattle.field_reading.proofs.all_backed.Goals as goal
 

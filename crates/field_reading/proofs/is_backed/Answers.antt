@@ -1,5 +1,4 @@
 -- `field_reading::is_backed` meets its contract: the four corners are on the grid, and their support is the field's. Assumes nothing.
-use borrow.Author.Rules.{rules}
 use mathlib.Core.Path.{◌∙◌}
 use Rattle.field_reading.specs.Backing.{all_is_backed}
 use Rattle.field_reading.proofs.is_backed.Goals as goal

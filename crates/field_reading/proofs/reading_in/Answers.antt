@@ -1,7 +1,5 @@
 -- `field_reading::reading_in` meets its contract: it reads at the position's place, on the grid. Assumes nothing.
 use native.Mathlib.Omega.{arith}
-use borrow.Author.Rules.{rules}
-use borrow.Author.Tests.{not-true, not-false}
 use mathlib.Core.Path.{◌≡◌, sym, ap, ap₂, ◌∙◌}
 use mathlib.Core.Bool.{Bool, true}
 use lib.IntN.{pos, nat_abs}

@@ -1,13 +1,11 @@
 -- `field_summary::ends_of` meets its contract. The loop's invariant: the ends are those of the values passed. Assumes nothing.
-use Prim.Native.Nat.{◌-◌, ◌≤◌}
 use native.Mathlib.Omega.{arith}
 use borrow.Author.Rules.{sfits_of}
-use mathlib.Core.Path.{◌≡◌}
-use lib.ListN.{length, get_or}
+use lib.ListN.{get_or}
 use lib.IntN.{pos}
 use mir.Syntax.{w32}
 use mir.Facts.{to_z-of_z}
-use Rattle.field_summary.specs.Ends.{EndsTo, ends_first, ends_next}
+use Rattle.field_summary.specs.Ends.{ends_next}
 use Rattle.field_summary.proofs.ends_of.Goals as goal
 
 pub loop-k-preserved : goal.loop-k-preserved

@@ -1,7 +1,6 @@
 -- `field_summary::summary` meets its contract: three zeros if it refuses, and a field of the right shape has a first value. Assumes nothing.
 use native.Mathlib.Omega.{arith}
 use native.Mathlib.Nat.{mul-le-mul}
-use borrow.Author.Rules.{rules}
 use mathlib.Core.Path.{sym, ◌∙◌}
 use Rattle.scheme.proofs.Accepted.{shaped}
 use Rattle.field_reading.specs.Point.{zero_is}

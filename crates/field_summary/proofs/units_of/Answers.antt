@@ -1,5 +1,4 @@
 -- `field_summary::units_of` meets its contract. Assumes nothing.
-use borrow.Author.Rules.{rules}
 use mathlib.Core.Path.{◌∙◌}
 use mir.Facts.{to_z-of_z}
 use Rattle.field_summary.specs.Ends.{units_are}

@@ -1,7 +1,6 @@
 -- `field_value::blended` meets its contract: four corners, one after the other. Assumes nothing.
 use Prim.Native.Nat.{◌≤◌}
 use native.Mathlib.Omega.{arith}
-use borrow.Author.Rules.{rules}
 use mathlib.Core.Path.{◌≡◌}
 use lib.IntN.{ℤ, nat_abs, +ℤ_idl}
 use mir.Syntax.{w64}

@@ -1,6 +1,5 @@
 -- `field_value::cell` meets its contract: the whole part, or the last cell where that is beyond it. Assumes nothing.
 use native.Mathlib.Omega.{arith}
-use borrow.Author.Rules.{rules}
 use Rattle.scheme.specs.Value.{cell}
 use Rattle.field_value.proofs.cell.Goals as goal
 

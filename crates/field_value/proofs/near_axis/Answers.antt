@@ -1,14 +1,13 @@
 -- `field_value::near_axis` meets its contract: both ends, with what lies beyond, are small. Assumes nothing.
 use Prim.Native.Nat.{◌-◌, ◌*◌, ◌≤◌}
 use native.Mathlib.Omega.{arith}
-use borrow.Author.Rules.{rules}
 use mathlib.Core.Path.{◌≡◌}
 use lib.IntN.{pos, nat_abs, ◌+ℤ◌, ◌-ℤ◌}
 use mir.Syntax.{w32}
 use mir.Val.{to_z}
 use mir.Facts.{to_z-of_z, to_z_pos}
 use Rattle.integers.specs.Sizes.{size_add, size_minus}
-use Rattle.integers.specs.Words.{fits_size, bits_back}
+use Rattle.integers.specs.Words.{bits_back}
 use Rattle.scheme.specs.Units.{step, most_beyond}
 use Rattle.field_value.specs.Axis.{near_is}
 use Rattle.field_value.proofs.near_axis.Goals as goal

@@ -1,9 +1,6 @@
 -- `field_value::place` meets its contract: below zero, and from zero on. Assumes nothing.
 use native.Mathlib.Omega.{arith}
-use borrow.Author.Rules.{rules}
-use mir.Syntax.{w32}
 use mir.Facts.{to_z-of_z}
-use Rattle.integers.specs.Words.{size_fits}
 use Rattle.field_value.specs.Axis.{place_below, place_from}
 use Rattle.field_value.proofs.place.Goals as goal
 

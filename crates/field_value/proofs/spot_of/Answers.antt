@@ -1,6 +1,5 @@
 -- `field_value::spot_of` meets its contract: the cell is on the grid, and the position in it. Assumes nothing.
 use native.Mathlib.Omega.{arith}
-use borrow.Author.Rules.{rules}
 use Rattle.field_value.specs.Corners.{InCell, in_cell}
 use Rattle.field_value.proofs.spot_of.Goals as goal
 use Rattle.field_value.proofs.spot_of.Goals.{After-cell-n}

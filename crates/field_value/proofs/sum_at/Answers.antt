@@ -1,7 +1,7 @@
 -- `field_value::sum_at` meets its contract: the four corners are on the grid, and their sum is the field's. Assumes nothing.
 use Prim.Native.Nat.{◌+◌}
 use native.Mathlib.Omega.{arith}
-use borrow.Author.Rules.{rules, sfits_of}
+use borrow.Author.Rules.{sfits_of}
 use mathlib.Core.Path.{◌∙◌}
 use lib.ListN.{get_or}
 use lib.IntN.{pos}

@@ -1,6 +1,5 @@
 -- `refusal::four_and_five` meets its contract. Assumes nothing.
 use native.Mathlib.Omega.{arith}
-use borrow.Author.Rules.{rules}
 use Rattle.refusal.specs.Coded.{refused_here, not_here, none_left}
 use Rattle.refusal.proofs.four_and_five.Goals as goal
 

@@ -1,7 +1,6 @@
 -- `refusal::of_lengths` meets its contract: the sides are multiplied only where they are in range. Assumes nothing.
 use native.Mathlib.Omega.{arith}
 use native.Mathlib.Nat.{mul-le-mul}
-use borrow.Author.Rules.{rules}
 use mathlib.Core.Path.{sym, ◌∙◌}
 use Rattle.scheme.proofs.Accepted.{shaped}
 use Rattle.refusal.specs.Coded.{refused_here, not_here}

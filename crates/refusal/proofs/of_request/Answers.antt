@@ -2,11 +2,9 @@
 -- nothing.
 use Prim.Native.Nat.{◌≤◌}
 use native.Mathlib.Omega.{arith}
-use borrow.Author.Rules.{rules}
 use Rattle.lists.specs.Tab.{length-tab}
 use Rattle.scheme.specs.Units.{most_stations}
 use Rattle.request.specs.Tables.{station_in}
-use Rattle.refusal_checks.specs.Tested.{few_points}
 use Rattle.refusal.specs.Coded.{refused_here, not_here, refused_there, not_there, none_left}
 use Rattle.refusal.proofs.of_request.Goals as goal
 use Rattle.refusal.proofs.of_request.Goals.{Start}

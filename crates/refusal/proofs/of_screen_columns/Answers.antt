@@ -1,6 +1,5 @@
 -- `refusal::of_screen_columns` meets its contract. Assumes nothing.
 use native.Mathlib.Omega.{arith}
-use borrow.Author.Rules.{rules}
 use Rattle.refusal.specs.Coded.{refused_here, not_here, none_left}
 use Rattle.refusal.proofs.of_screen_columns.Goals as goal
 

@@ -1,7 +1,6 @@
 -- `refusal::of_screen_lengths` meets its contract: the points of the windows are counted only where all are on the grid. Assumes nothing.
 use Prim.Native.Nat.{ℕ}
 use native.Mathlib.Omega.{arith}
-use borrow.Author.Rules.{rules}
 use mathlib.Core.Path.{◌≡◌, ap, ◌∙◌}
 use Rattle.scheme.specs.Refusals.{points_of_all, bad_lengths}
 use Rattle.request.specs.Tables.{windows_in}

@@ -1,7 +1,6 @@
 -- `refusal::of_window_lengths` meets its contract: the points of the window are counted only where it is on the grid. Assumes nothing.
 use Prim.Native.Nat.{ℕ}
 use native.Mathlib.Omega.{arith}
-use borrow.Author.Rules.{rules}
 use mathlib.Core.Path.{◌≡◌, sym, ap, ◌∙◌}
 use Rattle.scheme.specs.Refusals.{points_of, bad_lengths}
 use Rattle.scheme.proofs.Accepted.{shaped, on-grid, wider}

@@ -1,5 +1,4 @@
 -- `refusal_checks::buddies_bad` meets its contract: its tests are those of the definition. Assumes nothing.
-use borrow.Author.Rules.{rules}
 use mir.Syntax.{w32}
 use mir.Facts.{to_z-of_z}
 use Rattle.scheme.specs.Refusals.{bad_buddies}

@@ -1,5 +1,5 @@
 -- `refusal_checks::first_bad_guess` meets its contract. The invariant of either loop: the points passed are good. Assumes nothing.
-use Prim.Native.Nat.{ℕ, ◌+◌, ◌-◌, ◌*◌, ◌≤◌, ◌<◌}
+use Prim.Native.Nat.{ℕ, ◌+◌, ◌*◌, ◌≤◌, ◌<◌}
 use native.Mathlib.Omega.{arith}
 use borrow.Author.Rules.{sfits_of}
 use mathlib.Core.Path.{◌≡◌, sym, ◌∙◌}
@@ -7,7 +7,7 @@ use lib.ListN.{length, get_or}
 use lib.IntN.{pos}
 use mir.Syntax.{w32}
 use mir.Facts.{to_z-of_z}
-use Rattle.lists.specs.First.{Good, good_more, ends_at, ends_past}
+use Rattle.lists.specs.First.{good_more, ends_at, ends_past}
 use Rattle.scheme.specs.Most.{most_points}
 use Rattle.scheme.specs.Refusals.{bad_guess}
 use Rattle.refusal_checks.specs.Tested.{guess_bad, of_guess, few_points, in_grid}

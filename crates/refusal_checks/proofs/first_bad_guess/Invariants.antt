@@ -1,15 +1,6 @@
-use Prim.Native.Nat.{ℕ, ◌+◌, ◌-◌, ◌*◌, ◌≤◌, ◌<◌}
-use native.Mathlib.Omega.{arith}
-use borrow.Author.Rules.{sfits_of}
-use mathlib.Core.Path.{◌≡◌, sym, ◌∙◌}
-use lib.ListN.{length, get_or}
-use lib.IntN.{pos}
-use mir.Syntax.{w32}
-use mir.Facts.{to_z-of_z}
-use Rattle.lists.specs.First.{Good, good_more, ends_at, ends_past}
-use Rattle.scheme.specs.Most.{most_points}
-use Rattle.scheme.specs.Refusals.{bad_guess}
-use Rattle.refusal_checks.specs.Tested.{guess_bad, of_guess, few_points, in_grid}
+use Prim.Native.Nat.{◌+◌, ◌-◌, ◌*◌, ◌≤◌}
+use Rattle.lists.specs.First.{Good}
+use Rattle.refusal_checks.specs.Tested.{guess_bad}
 use Rattle.refusal_checks.proofs.first_bad_guess.Given as goal
 
 abbrev pub invariant-loop-i : goal.invariant-loop-i

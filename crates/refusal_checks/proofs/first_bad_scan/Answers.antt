@@ -1,10 +1,7 @@
 -- `refusal_checks::first_bad_scan` meets its contract. The loop's invariant: the entries passed are good. Assumes nothing.
-use Prim.Native.Nat.{◌+◌, ◌-◌, ◌≤◌}
 use native.Mathlib.Omega.{arith}
-use mathlib.Core.Path.{◌≡◌, refl, sym, ◌∙◌}
-use Rattle.lists.specs.First.{Good, good_more, ends_at, ends_past}
-use Rattle.scheme.specs.Refusals.{bad_scan}
-use Rattle.request.specs.Tables.{plan_in}
+use mathlib.Core.Path.{◌≡◌, sym, ◌∙◌}
+use Rattle.lists.specs.First.{ends_at, ends_past}
 use Rattle.refusal_checks.proofs.first_bad_scan.Goals as goal
 
 pub returns-then-scan_bad : goal.returns-then-scan_bad

@@ -1,7 +1,5 @@
-use Prim.Native.Nat.{◌+◌, ◌-◌, ◌≤◌}
-use native.Mathlib.Omega.{arith}
-use mathlib.Core.Path.{◌≡◌, refl, sym, ◌∙◌}
-use Rattle.lists.specs.First.{Good, good_more, ends_at, ends_past}
+use Prim.Native.Nat.{◌-◌, ◌≤◌}
+use Rattle.lists.specs.First.{Good}
 use Rattle.scheme.specs.Refusals.{bad_scan}
 use Rattle.request.specs.Tables.{plan_in}
 use Rattle.refusal_checks.proofs.first_bad_scan.Given as goal

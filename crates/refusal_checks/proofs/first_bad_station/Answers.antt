@@ -1,11 +1,11 @@
 -- `refusal_checks::first_bad_station` meets its contract. The loop's invariant: the rows passed are good. Assumes nothing.
-use Prim.Native.Nat.{ℕ, ◌+◌, ◌-◌, ◌≤◌}
+use Prim.Native.Nat.{ℕ}
 use native.Mathlib.Omega.{arith}
-use mathlib.Core.Path.{◌≡◌, refl, sym, ◌∙◌}
+use mathlib.Core.Path.{◌≡◌, sym, ◌∙◌}
 use mathlib.Core.Bool.{Bool}
 use mathlib.Core.List.{List}
 use lib.IntN.{ℤ}
-use Rattle.lists.specs.First.{Good, good_more, ends_at, ends_past, in_table}
+use Rattle.lists.specs.First.{ends_at, ends_past, in_table}
 use Rattle.scheme.specs.Refusals.{bad_station}
 use Rattle.request.specs.Tables.{station_in}
 use Rattle.refusal_checks.proofs.first_bad_station.Goals as goal

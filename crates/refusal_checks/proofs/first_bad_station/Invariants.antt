@@ -1,10 +1,8 @@
-use Prim.Native.Nat.{ℕ, ◌+◌, ◌-◌, ◌≤◌}
-use native.Mathlib.Omega.{arith}
-use mathlib.Core.Path.{◌≡◌, refl, sym, ◌∙◌}
+use Prim.Native.Nat.{ℕ, ◌-◌, ◌≤◌}
 use mathlib.Core.Bool.{Bool}
 use mathlib.Core.List.{List}
 use lib.IntN.{ℤ}
-use Rattle.lists.specs.First.{Good, good_more, ends_at, ends_past, in_table}
+use Rattle.lists.specs.First.{Good}
 use Rattle.scheme.specs.Refusals.{bad_station}
 use Rattle.request.specs.Tables.{station_in}
 use Rattle.refusal_checks.proofs.first_bad_station.Given as goal

@@ -1,5 +1,4 @@
 -- `refusal_checks::is_no_wind` meets its contract: its tests are those of the definition. Assumes nothing.
-use borrow.Author.Rules.{rules}
 use mir.Facts.{to_z-of_z}
 use Rattle.scheme.specs.Units.{is_no_wind}
 use Rattle.refusal_checks.proofs.is_no_wind.Goals as goal

@@ -1,5 +1,5 @@
 -- `refusal_checks::station_bad` meets its contract: its tests are those of the definition. Assumes nothing.
-use borrow.Author.Rules.{rules, sfits_of}
+use borrow.Author.Rules.{sfits_of}
 use lib.ListN.{get_or}
 use lib.IntN.{pos}
 use mir.Syntax.{w32}

@@ -1,8 +1,7 @@
 -- `refusal_shapes::first_bad_window` meets its contract. The loop's invariant: the windows passed are good. Assumes nothing.
-use Prim.Native.Nat.{◌+◌, ◌-◌, ◌≤◌}
 use native.Mathlib.Omega.{arith}
-use mathlib.Core.Path.{◌≡◌, refl, sym, ◌∙◌}
-use Rattle.lists.specs.First.{Good, good_more, ends_at, ends_past, in_table}
+use mathlib.Core.Path.{◌≡◌, sym, ◌∙◌}
+use Rattle.lists.specs.First.{ends_at, ends_past, in_table}
 use Rattle.scheme.specs.Refusals.{bad_window}
 use Rattle.request.specs.Tables.{window_no}
 use Rattle.refusal_shapes.proofs.first_bad_window.Goals as goal

@@ -1,7 +1,5 @@
-use Prim.Native.Nat.{◌+◌, ◌-◌, ◌≤◌}
-use native.Mathlib.Omega.{arith}
-use mathlib.Core.Path.{◌≡◌, refl, sym, ◌∙◌}
-use Rattle.lists.specs.First.{Good, good_more, ends_at, ends_past, in_table}
+use Prim.Native.Nat.{◌-◌, ◌≤◌}
+use Rattle.lists.specs.First.{Good}
 use Rattle.scheme.specs.Refusals.{bad_window}
 use Rattle.request.specs.Tables.{window_no}
 use Rattle.refusal_shapes.proofs.first_bad_window.Given as goal

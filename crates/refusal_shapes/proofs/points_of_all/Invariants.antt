@@ -1,11 +1,7 @@
-use Prim.Native.Nat.{ℕ, ◌+◌, ◌-◌, ◌≤◌}
-use native.Mathlib.Omega.{arith}
-use mathlib.Core.Path.{◌≡◌, refl, sym, ap, ap₂, ◌∙◌}
-use Rattle.lists.specs.Sums.{up_to, up_to_next}
-use Rattle.lists.specs.Turns.{sum_to, sum_tab, sum_most}
+use Prim.Native.Nat.{◌-◌, ◌≤◌}
+use mathlib.Core.Path.{◌≡◌}
+use Rattle.lists.specs.Turns.{sum_to}
 use Rattle.scheme.specs.Refusals.{points_of}
-use Rattle.scheme.specs.Most.{most_points}
-use Rattle.scheme.proofs.Accepted.{few_points}
 use Rattle.request.specs.Tables.{window_no}
 use Rattle.refusal_shapes.proofs.points_of_all.Given as goal
 

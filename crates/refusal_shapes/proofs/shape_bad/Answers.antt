@@ -1,10 +1,5 @@
 -- `refusal_shapes::shape_bad` meets its contract: the sides are multiplied only where they are in range. Assumes nothing.
-use native.Mathlib.Omega.{arith}
-use native.Mathlib.Nat.{mul-le-mul}
-use Rattle.lists.specs.Tests.{or_false}
-use Rattle.scheme.specs.Units.{least_side, most_side}
 use Rattle.scheme.specs.Refusals.{bad_shape}
-use Rattle.scheme.proofs.Accepted.{counted_in}
 use Rattle.refusal_shapes.proofs.shape_bad.Goals as goal
 
 pub returns-then-nx-ny : goal.returns-then-nx-ny

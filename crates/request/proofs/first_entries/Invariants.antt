@@ -1,13 +1,7 @@
-use Prim.Native.Nat.{◌+◌, ◌-◌, ◌≤◌}
-use native.Mathlib.Omega.{arith}
-use borrow.Author.Rules.{sfits_of}
-use mathlib.Core.Path.{refl}
+use Prim.Native.Nat.{◌-◌, ◌≤◌}
 use lib.ListN.{get_or}
 use lib.IntN.{pos}
-use mir.Syntax.{w32}
-use mir.Val.{to_z, of_z}
-use mir.Facts.{to_z-of_z}
-use Rattle.lists.specs.Filled.{Filled, filled_none, filled_set}
+use Rattle.lists.specs.Filled.{Filled}
 use Rattle.request.proofs.first_entries.Given as goal
 
 abbrev pub invariant-loop-m : goal.invariant-loop-m

@@ -1,5 +1,4 @@
 -- `request::load` meets its contract: the rows of both tables are those of the columns. Assumes nothing.
-use borrow.Author.Rules.{rules}
 use Rattle.request.specs.Loaded.{loads}
 use Rattle.request.proofs.load.Goals as goal
 

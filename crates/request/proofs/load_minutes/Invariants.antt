@@ -1,9 +1,7 @@
-use Prim.Native.Nat.{◌+◌, ◌-◌, ◌≤◌}
-use native.Mathlib.Omega.{arith}
-use mathlib.Core.Path.{◌≡◌, refl}
+use Prim.Native.Nat.{◌-◌, ◌≤◌}
 use mathlib.Core.List.{[]}
 use lib.ListN.{length}
-use Rattle.lists.specs.Filled.{Filled, filled_none, filled_set}
+use Rattle.lists.specs.Filled.{Filled}
 use Rattle.request.specs.Loaded.{minutes_at}
 use Rattle.request.proofs.load_minutes.Given as goal
 

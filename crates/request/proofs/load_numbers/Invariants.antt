@@ -1,12 +1,7 @@
-use Prim.Native.Nat.{◌+◌, ◌-◌, ◌≤◌}
-use native.Mathlib.Omega.{arith}
-use borrow.Author.Rules.{sfits_of}
-use mathlib.Core.Path.{◌≡◌, refl}
+use Prim.Native.Nat.{◌-◌, ◌≤◌}
 use mathlib.Core.List.{[]}
 use lib.ListN.{length}
-use mir.Syntax.{w32}
-use mir.Facts.{to_z-of_z}
-use Rattle.lists.specs.Filled.{Filled, filled_none, filled_set}
+use Rattle.lists.specs.Filled.{Filled}
 use Rattle.request.specs.Loaded.{numbers_at}
 use Rattle.request.proofs.load_numbers.Given as goal
 

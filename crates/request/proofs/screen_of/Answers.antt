@@ -1,12 +1,8 @@
 -- `request::screen_of` meets its contract. The loop's invariant: the windows passed have the columns' ends. Assumes nothing.
-use Prim.Native.Nat.{◌+◌, ◌-◌, ◌≤◌}
 use native.Mathlib.Omega.{arith}
-use mathlib.Core.Path.{◌≡◌, refl}
+use mathlib.Core.Path.{◌≡◌}
 use lib.ListN.{length}
-use mir.Facts.{Fits-widen}
-use Rattle.lists.specs.Filled.{Filled, filled_none, filled_set}
-use Rattle.request.specs.Tables.{no_ends}
-use Rattle.request.specs.Loaded.{ends_at, windows_loaded}
+use Rattle.request.specs.Loaded.{windows_loaded}
 use Rattle.request.proofs.screen_of.Goals as goal
 
 pub returns : goal.returns

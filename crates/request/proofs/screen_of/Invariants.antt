@@ -1,11 +1,8 @@
-use Prim.Native.Nat.{◌+◌, ◌-◌, ◌≤◌}
-use native.Mathlib.Omega.{arith}
-use mathlib.Core.Path.{◌≡◌, refl}
+use Prim.Native.Nat.{◌-◌, ◌≤◌}
 use lib.ListN.{length}
-use mir.Facts.{Fits-widen}
-use Rattle.lists.specs.Filled.{Filled, filled_none, filled_set}
+use Rattle.lists.specs.Filled.{Filled}
 use Rattle.request.specs.Tables.{no_ends}
-use Rattle.request.specs.Loaded.{ends_at, windows_loaded}
+use Rattle.request.specs.Loaded.{ends_at}
 use Rattle.request.proofs.screen_of.Given as goal
 
 abbrev pub invariant-loop-k : goal.invariant-loop-k

@@ -1,11 +1,7 @@
 -- `scan_start::begin` meets its contract: the first guess, no support and the first verdicts are the run's start. Assumes nothing.
-use Prim.Native.Nat.{◌*◌, ◌≤◌}
 use native.Mathlib.Omega.{arith}
-use native.Mathlib.Nat.{mul-le-mul}
-use borrow.Author.Rules.{rules}
-use mathlib.Core.Path.{refl, sym, ◌∙◌}
+use mathlib.Core.Path.{refl, ◌∙◌}
 use Rattle.lists.specs.Tab.{length-tab}
-use Rattle.scheme.specs.Most.{most_points}
 use Rattle.scheme.proofs.Accepted.{same_shape}
 use Rattle.request.specs.Tables.{station_in}
 use Rattle.scan_start.specs.Start.{begun}

@@ -1,9 +1,9 @@
 -- `scan_start::clear` meets its contract. The loop's invariant: the places passed are 0. Assumes nothing.
-use Prim.Native.Nat.{ℕ, ◌+◌, ◌-◌, ◌≤◌}
+use Prim.Native.Nat.{ℕ}
 use native.Mathlib.Omega.{arith}
 use mathlib.Core.Path.{◌≡◌, refl}
 use lib.ListN.{length}
-use Rattle.lists.specs.Filled.{Filled, filled_none, filled_set, filled_all}
+use Rattle.lists.specs.Filled.{filled_all}
 use Rattle.scan_start.proofs.clear.Goals as goal
 
 abbrev zero-at : ℕ → ℕ

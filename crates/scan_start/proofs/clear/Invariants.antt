@@ -1,8 +1,6 @@
-use Prim.Native.Nat.{ℕ, ◌+◌, ◌-◌, ◌≤◌}
-use native.Mathlib.Omega.{arith}
-use mathlib.Core.Path.{◌≡◌, refl}
+use Prim.Native.Nat.{ℕ, ◌-◌, ◌≤◌}
 use lib.ListN.{length}
-use Rattle.lists.specs.Filled.{Filled, filled_none, filled_set, filled_all}
+use Rattle.lists.specs.Filled.{Filled}
 use Rattle.scan_start.proofs.clear.Given as goal
 
 abbrev zero-at : ℕ → ℕ

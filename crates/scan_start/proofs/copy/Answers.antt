@@ -1,15 +1,10 @@
 -- `scan_start::copy` meets its contract. The loop's invariant: the places passed are those of the slice read. Assumes nothing.
-use Prim.Native.Nat.{◌+◌, ◌-◌, ◌≤◌}
 use native.Mathlib.Omega.{arith}
-use borrow.Author.Rules.{sfits_of}
-use mathlib.Core.Path.{◌≡◌, refl, ◌∙◌}
+use mathlib.Core.Path.{◌≡◌, ◌∙◌}
 use lib.ListN.{length, get_or}
 use lib.IntN.{pos}
-use mir.Syntax.{w32}
-use mir.Val.{to_z, of_z}
-use mir.Facts.{to_z-of_z}
 use Rattle.lists.specs.Tab.{tab_get_or}
-use Rattle.lists.specs.Filled.{Filled, filled_none, filled_set, filled_all}
+use Rattle.lists.specs.Filled.{filled_all}
 use Rattle.scan_start.proofs.copy.Goals as goal
 
 pub returns : goal.returns

@@ -1,14 +1,7 @@
-use Prim.Native.Nat.{◌+◌, ◌-◌, ◌≤◌}
-use native.Mathlib.Omega.{arith}
-use borrow.Author.Rules.{sfits_of}
-use mathlib.Core.Path.{◌≡◌, refl, ◌∙◌}
+use Prim.Native.Nat.{◌-◌, ◌≤◌}
 use lib.ListN.{length, get_or}
 use lib.IntN.{pos}
-use mir.Syntax.{w32}
-use mir.Val.{to_z, of_z}
-use mir.Facts.{to_z-of_z}
-use Rattle.lists.specs.Tab.{tab_get_or}
-use Rattle.lists.specs.Filled.{Filled, filled_none, filled_set, filled_all}
+use Rattle.lists.specs.Filled.{Filled}
 use Rattle.scan_start.proofs.copy.Given as goal
 
 abbrev pub invariant-loop-k : goal.invariant-loop-k

@@ -1,11 +1,10 @@
 -- `scan_start::first_verdicts` meets its contract. The loop's invariant: the rows passed have their verdicts. Assumes nothing.
-use Prim.Native.Nat.{ℕ, ◌+◌, ◌-◌, ◌≤◌, ◌<◌}
+use Prim.Native.Nat.{ℕ, ◌<◌}
 use native.Mathlib.Omega.{arith}
-use mathlib.Core.Path.{◌≡◌, refl}
+use mathlib.Core.Path.{◌≡◌}
 use lib.ListN.{length}
-use Rattle.lists.specs.Filled.{Filled, filled_none, filled_set, filled_all}
+use Rattle.lists.specs.Filled.{filled_all}
 use Rattle.scheme.specs.Units.{most_stations}
-use Rattle.scan_start.specs.Start.{first_at}
 use Rattle.scan_start.proofs.first_verdicts.Goals as goal
 use Rattle.scan_start.proofs.first_verdicts.Goals.{At-loop-k, In-loop-k, Start}
 

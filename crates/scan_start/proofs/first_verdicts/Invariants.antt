@@ -1,9 +1,5 @@
-use Prim.Native.Nat.{ℕ, ◌+◌, ◌-◌, ◌≤◌, ◌<◌}
-use native.Mathlib.Omega.{arith}
-use mathlib.Core.Path.{◌≡◌, refl}
-use lib.ListN.{length}
-use Rattle.lists.specs.Filled.{Filled, filled_none, filled_set, filled_all}
-use Rattle.scheme.specs.Units.{most_stations}
+use Prim.Native.Nat.{◌-◌, ◌≤◌}
+use Rattle.lists.specs.Filled.{Filled}
 use Rattle.scan_start.specs.Start.{first_at}
 use Rattle.scan_start.proofs.first_verdicts.Given as goal
 

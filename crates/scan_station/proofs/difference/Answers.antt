@@ -1,7 +1,7 @@
 -- `scan_station::difference` meets its contract: observation and value are small, and so is their difference. Assumes nothing.
 use Prim.Native.Nat.{◌≤◌}
 use native.Mathlib.Omega.{arith}
-use borrow.Author.Rules.{rules, sfits_of}
+use borrow.Author.Rules.{sfits_of}
 use borrow.Author.Tests.{eq-eqb, ne_eqb}
 use mathlib.Core.Path.{◌≡◌, sym, ap, ◌∙◌}
 use lib.ListN.{get_or}
@@ -10,7 +10,7 @@ use mir.Syntax.{w32, w64}
 use mir.Val.{to_z, of_z}
 use mir.Facts.{to_z-of_z, sfits_widen}
 use Rattle.integers.specs.Sizes.{size_minus}
-use Rattle.integers.specs.Words.{fits_size, bits_back}
+use Rattle.integers.specs.Words.{bits_back}
 use Rattle.scheme.specs.Most.{most_difference}
 use Rattle.scan_station.specs.Judge.{diff_of, difference_is}
 use Rattle.scan_station.proofs.difference.Goals as goal

@@ -1,14 +1,14 @@
 -- `scan_station::judge` meets its contract. The loop's invariant: the rows passed have their differences and verdicts, and the others are as
 -- they were. Assumes nothing.
-use Prim.Native.Nat.{ℕ, ◌+◌, ◌-◌, ◌≤◌, ◌<◌}
+use Prim.Native.Nat.{ℕ, ◌+◌, ◌<◌}
 use native.Mathlib.Omega.{arith}
-use mathlib.Core.Path.{◌≡◌, refl, sym, ◌∙◌}
+use mathlib.Core.Path.{◌≡◌, refl, ◌∙◌}
 use lib.ListN.{length, get_or}
 use lib.IntN.{ℤ, pos}
 use mir.Syntax.{w64}
 use mir.Val.{to_z, of_z}
 use Rattle.integers.specs.Words.{bits_back}
-use Rattle.lists.specs.Filled.{Filled, filled_none, filled_set}
+use Rattle.lists.specs.Filled.{filled_set}
 use Rattle.scheme.specs.Units.{most_stations}
 use Rattle.scan_station.specs.Judge.{diff_at, verdict_at, same_test}
 use Rattle.scan_station.proofs.judge.Goals as goal

@@ -1,14 +1,7 @@
-use Prim.Native.Nat.{ℕ, ◌+◌, ◌-◌, ◌≤◌, ◌<◌}
-use native.Mathlib.Omega.{arith}
-use mathlib.Core.Path.{◌≡◌, refl, sym, ◌∙◌}
-use lib.ListN.{length, get_or}
-use lib.IntN.{ℤ, pos}
-use mir.Syntax.{w64}
-use mir.Val.{to_z, of_z}
-use Rattle.integers.specs.Words.{bits_back}
-use Rattle.lists.specs.Filled.{Filled, filled_none, filled_set}
-use Rattle.scheme.specs.Units.{most_stations}
-use Rattle.scan_station.specs.Judge.{diff_at, verdict_at, same_test}
+use Prim.Native.Nat.{◌-◌, ◌≤◌}
+use lib.IntN.{pos}
+use Rattle.lists.specs.Filled.{Filled}
+use Rattle.scan_station.specs.Judge.{diff_at, verdict_at}
 use Rattle.scan_station.proofs.judge.Given as goal
 
 abbrev pub invariant-loop-k : goal.invariant-loop-k

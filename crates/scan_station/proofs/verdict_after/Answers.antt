@@ -1,6 +1,4 @@
 -- `scan_station::verdict_after` meets its contract: its two tests are those of the definition. Assumes nothing.
-use native.Mathlib.Omega.{arith}
-use borrow.Author.Rules.{rules}
 use borrow.Author.Tests.{lt-ltb, le-ltb, eq-eqb, ne_eqb}
 use mathlib.Core.Path.{◌≡◌}
 use lib.IntN.{nat_abs}

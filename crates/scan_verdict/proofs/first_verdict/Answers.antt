@@ -1,9 +1,9 @@
 -- `scan_verdict::first_verdict` meets its contract: the tests are made in the paper's order, and each return knows those before it.
 -- Assumes nothing.
-use borrow.Author.Rules.{rules, sfits_of}
+use borrow.Author.Rules.{sfits_of}
 use mathlib.Core.Path.{◌≡◌, sym, ◌∙◌}
 use mathlib.Core.Bool.{false, ◌&&◌}
-use borrow.Author.Tests.{lt-ltb, le-ltb, not-true, not-false}
+use borrow.Author.Tests.{lt-ltb, le-ltb}
 use lib.ListN.{get_or}
 use lib.IntN.{pos}
 use mir.Facts.{to_z-of_z}

@@ -1,5 +1,4 @@
 -- `scan_verdict::out_of_service` meets its contract. Assumes nothing.
-use borrow.Author.Rules.{rules}
 use Rattle.scheme.specs.Verdicts.{out_of_service}
 use Rattle.request.specs.Tables.{station_of}
 use Rattle.scan_verdict.proofs.out_of_service.Goals as goal

@@ -1,5 +1,4 @@
 -- `scan_verdict::serves` meets its contract: its two tests are those of the definition. Assumes nothing.
-use borrow.Author.Rules.{rules}
 use borrow.Author.Tests.{lt-leb, le-leb, eq-eqb, ne_eqb}
 use Rattle.scheme.specs.Verdicts.{serves}
 use Rattle.request.specs.Tables.{station_of}

@@ -2,10 +2,8 @@
 use Prim.Native.Nat.{◌+◌, ◌*◌, ◌≤◌, ◌<◌}
 use native.Mathlib.Omega.{arith}
 use native.Mathlib.Nat.{mul-le-mul, mul-le-mul_left, mul-pos}
-use borrow.Author.Rules.{rules}
 use mathlib.Core.Path.{◌≡◌, sym, ◌∙◌}
 use mir.Facts.{to_z-of_z}
-use lib.IntN.{nat_abs}
 use Rattle.scheme.specs.Weight.{square}
 use Rattle.scan_weight.specs.Along.{calm, windy, Small, small}
 use Rattle.scan_weight.proofs.stretched.Goals as goal

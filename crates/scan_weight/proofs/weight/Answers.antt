@@ -1,8 +1,7 @@
 -- `scan_weight::weight` meets its contract: its two cases are those of the definition. Assumes nothing.
 use native.Mathlib.Omega.{arith}
-use borrow.Author.Rules.{rules}
 use mathlib.Core.Path.{sym}
-use Rattle.scheme.proofs.Weights.{weight_beyond, weight_most}
+use Rattle.scheme.proofs.Weights.{weight_beyond}
 use Rattle.scan_weight.specs.Product.{by_product}
 use Rattle.scan_weight.proofs.weight.Goals as goal
 

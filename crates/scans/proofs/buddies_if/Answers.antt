@@ -1,5 +1,4 @@
 -- `scans::buddies_if` meets its contract: on, all are judged by B and L; off, nobody is nearer than 0. Assumes nothing.
-use borrow.Author.Rules.{rules}
 use Rattle.scans.specs.Ready.{left_alone}
 use Rattle.scans.proofs.buddies_if.Goals as goal
 

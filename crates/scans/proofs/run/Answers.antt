@@ -1,17 +1,10 @@
 -- `scans::run` meets its contract. The loop's invariant: the slices hold the state after the scans made. Assumes nothing.
-use Prim.Native.Nat.{ℕ, ◌+◌, ◌-◌, ◌*◌, ◌≤◌, ◌^◌}
+use Prim.Native.Nat.{ℕ, ◌+◌, ◌*◌, ◌^◌}
 use native.Mathlib.Omega.{arith}
 use native.Mathlib.Nat.{pow-suc}
 use native.Mathlib.Numerals.{add-one}
-use mathlib.Core.Path.{◌≡◌, refl, sym, ap, ◌∙◌}
-use lib.ListN.{length, length-replicate}
-use lib.IntN.{ℤ, pos}
-use Rattle.lists.specs.Tab.{length-tab}
-use Rattle.scheme.specs.Units.{most_stations}
-use Rattle.request.specs.Tables.{station_in}
-use Rattle.scan_point.specs.Round.{Roomy, roomy_new}
-use Rattle.scan_start.specs.Reached.{Reached}
-use Rattle.scans.specs.Run.{z_long, sup_long, few_scans, bit_small, scan_ready, next, whole}
+use mathlib.Core.Path.{◌≡◌, sym, ap, ◌∙◌}
+use Rattle.scans.specs.Run.{bit_small, scan_ready, next, whole}
 use Rattle.scans.proofs.run.Goals as goal
 
 pub scan-requires : goal.scan-requires

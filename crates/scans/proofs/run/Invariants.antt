@@ -1,16 +1,9 @@
-use Prim.Native.Nat.{ℕ, ◌+◌, ◌-◌, ◌*◌, ◌≤◌, ◌^◌}
-use native.Mathlib.Omega.{arith}
-use native.Mathlib.Nat.{pow-suc}
-use native.Mathlib.Numerals.{add-one}
-use mathlib.Core.Path.{◌≡◌, refl, sym, ap, ◌∙◌}
-use lib.ListN.{length, length-replicate}
-use lib.IntN.{ℤ, pos}
-use Rattle.lists.specs.Tab.{length-tab}
+use Prim.Native.Nat.{◌-◌, ◌≤◌, ◌^◌}
+use mathlib.Core.Path.{◌≡◌}
+use lib.ListN.{length}
 use Rattle.scheme.specs.Units.{most_stations}
-use Rattle.request.specs.Tables.{station_in}
-use Rattle.scan_point.specs.Round.{Roomy, roomy_new}
+use Rattle.scan_point.specs.Round.{Roomy}
 use Rattle.scan_start.specs.Reached.{Reached}
-use Rattle.scans.specs.Run.{z_long, sup_long, few_scans, bit_small, scan_ready, next, whole}
 use Rattle.scans.proofs.run.Given as goal
 
 abbrev pub invariant-loop-m : goal.invariant-loop-m

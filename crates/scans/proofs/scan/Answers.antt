@@ -1,15 +1,6 @@
 -- `scans::scan` meets its contract: each of its three parts finds what it needs, and leaves what Scanned says. Assumes nothing.
-use Prim.Native.Nat.{◌+◌}
-use borrow.Author.Rules.{rules}
-use mathlib.Core.Path.{◌≡◌, ◌∙◌}
-use Rattle.lists.specs.Filled.{Filled}
-use Rattle.scheme.specs.Units.{stored, E}
-use Rattle.request.specs.Tables.{plan_in}
-use Rattle.scan_station.specs.Judge.{verdict_at}
-use Rattle.scan_point.specs.Near.{Stations, stations_with}
-use Rattle.scan_point.specs.Pass.{corrected, backed}
-use Rattle.scans.specs.Scanned.{r2_in}
-use Rattle.scans.specs.Ready.{judge_ready, aside_in, buddies_ready, pass_ready, smooth_shaped, smooth_small, scanned}
+use mathlib.Core.Path.{◌∙◌}
+use Rattle.scans.specs.Ready.{buddies_ready, pass_ready, smooth_shaped, smooth_small, scanned}
 use Rattle.scans.proofs.scan.Goals as goal
 
 pub buddies_if-requires : goal.buddies_if-requires

@@ -1,5 +1,4 @@
 -- `scans::smooth_if` meets its contract. Assumes nothing.
-use borrow.Author.Rules.{rules}
 use Rattle.scans.specs.Ready.{smoothed_if}
 use Rattle.scans.proofs.smooth_if.Goals as goal
 

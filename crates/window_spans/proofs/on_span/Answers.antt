@@ -1,5 +1,4 @@
 -- `window_spans::on_span` meets its contract: two comparisons of the place. Assumes nothing.
-use borrow.Author.Rules.{rules}
 use mathlib.Core.Path.{◌≡◌, ap}
 use mir.Facts.{to_z-of_z}
 use Prim.Native.Nat.{ℕ, ◌*◌}

@@ -1,5 +1,5 @@
 -- `window_spans::reach` meets its contract. The loop's invariant: the total is that of the scans passed. Assumes nothing.
-use Prim.Native.Nat.{◌+◌, ◌-◌, ◌*◌, ◌/◌, ◌≤◌}
+use Prim.Native.Nat.{◌≤◌}
 use native.Mathlib.Omega.{arith}
 use mathlib.Core.Path.{◌≡◌, ap, ◌∙◌}
 use lib.ListN.{get_or}
@@ -7,9 +7,7 @@ use lib.IntN.{ℤ, pos}
 use mir.Syntax.{w32}
 use mir.Val.{to_z, of_z}
 use Rattle.integers.specs.Words.{bits_back}
-use Rattle.lists.specs.Sums.{up_to}
-use Rattle.scheme.specs.Units.{step, most_radius, most_buddy_radius, Plan, R, B}
-use Rattle.scheme.specs.Reach.{steps}
+use Rattle.scheme.specs.Units.{most_buddy_radius, Plan, R, B}
 use Rattle.scheme.specs.Accepted.{Scanned}
 use Rattle.scheme.proofs.Accepted.{few_B}
 use Rattle.request.specs.Tables.{plan_in}

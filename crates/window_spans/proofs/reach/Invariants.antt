@@ -1,18 +1,9 @@
 use Prim.Native.Nat.{◌+◌, ◌-◌, ◌*◌, ◌/◌, ◌≤◌}
-use native.Mathlib.Omega.{arith}
-use mathlib.Core.Path.{◌≡◌, ap, ◌∙◌}
-use lib.ListN.{get_or}
-use lib.IntN.{ℤ, pos}
-use mir.Syntax.{w32}
-use mir.Val.{to_z, of_z}
-use Rattle.integers.specs.Words.{bits_back}
+use mathlib.Core.Path.{◌≡◌}
 use Rattle.lists.specs.Sums.{up_to}
-use Rattle.scheme.specs.Units.{step, most_radius, most_buddy_radius, Plan, R, B}
+use Rattle.scheme.specs.Units.{step, most_radius, most_buddy_radius}
 use Rattle.scheme.specs.Reach.{steps}
-use Rattle.scheme.specs.Accepted.{Scanned}
-use Rattle.scheme.proofs.Accepted.{few_B}
 use Rattle.request.specs.Tables.{plan_in}
-use Rattle.window_spans.specs.Spans.{reach_none, reach_next, reach_all, one_most}
 use Rattle.window_spans.proofs.reach.Given as goal
 
 abbrev pub invariant-loop-m : goal.invariant-loop-m

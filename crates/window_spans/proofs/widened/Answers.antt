@@ -1,5 +1,4 @@
 -- `window_spans::widened` meets its contract. Assumes nothing.
-use borrow.Author.Rules.{rules}
 use Rattle.scheme.specs.Reach.{widened}
 use Rattle.window_spans.proofs.widened.Goals as goal
 
