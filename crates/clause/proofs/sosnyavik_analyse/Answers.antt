@@ -1,14 +1,11 @@
 -- `clause::sosnyavik_analyse` meets its contract: a refusal by lengths, or the request that is loaded, settled. Assumes nothing.
-use borrow.Author.Rules.{rules}
-use mathlib.Core.Path.{◌≡◌, refl}
+use mathlib.Core.Path.{refl}
 use lib.ListN.{length}
 use mir.Facts.{to_z-of_z}
 use Rattle.scheme.specs.Units.{Call, asking}
-use Rattle.scheme.specs.Refusals.{in_order}
 use Rattle.scheme.specs.Promises.{eight_columns, slices}
-use Rattle.refusal_shapes.specs.Tested.{lengths_of}
-use Rattle.refusal.specs.Coded.{Coded, refuses}
-use Rattle.refusal.specs.Lengths.{analysis_lengths, Passed, analysis_passed, analysis_refused}
+use Rattle.refusal.specs.Coded.{refuses}
+use Rattle.refusal.specs.Lengths.{analysis_passed, analysis_refused}
 use Rattle.clause.specs.Settled.{ready, settles}
 use Rattle.clause.proofs.sosnyavik_analyse.Goals as goal
 use Rattle.clause.proofs.sosnyavik_analyse.Goals.{Start}

@@ -1,14 +1,12 @@
 -- `clause::sosnyavik_window` meets its contract: a refusal by lengths, or the request that is loaded, settled. Assumes nothing.
-use borrow.Author.Rules.{rules}
-use mathlib.Core.Path.{◌≡◌, refl}
+use mathlib.Core.Path.{refl}
 use lib.ListN.{length}
 use mir.Facts.{to_z-of_z}
 use Rattle.scheme.specs.Units.{Call, asking}
-use Rattle.scheme.specs.Refusals.{in_order, Window, window_at}
+use Rattle.scheme.specs.Refusals.{Window, window_at}
 use Rattle.scheme.specs.Promises.{eight_columns, tile}
-use Rattle.refusal_shapes.specs.Tested.{lengths_of}
-use Rattle.refusal.specs.Coded.{Coded, refuses}
-use Rattle.refusal.specs.Lengths.{window_lengths, WindowPassed, window_passed, window_refused}
+use Rattle.refusal.specs.Coded.{refuses}
+use Rattle.refusal.specs.Lengths.{window_passed, window_refused}
 use Rattle.clause.specs.Settled.{window_ready, window_settles}
 use Rattle.clause.proofs.sosnyavik_window.Goals as goal
 use Rattle.clause.proofs.sosnyavik_window.Goals.{Start}

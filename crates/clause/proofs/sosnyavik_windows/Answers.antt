@@ -1,20 +1,16 @@
 -- `clause::sosnyavik_windows` meets its contract: a refusal by lengths, before the windows are loaded or after, or the request that is loaded,
 -- settled. Assumes nothing.
-use Prim.Native.Nat.{ℕ}
 use native.Mathlib.Omega.{arith}
-use borrow.Author.Rules.{rules}
 use mathlib.Core.Path.{◌≡◌, refl}
 use lib.ListN.{length}
 use mir.Facts.{to_z-of_z}
 use Rattle.lists.specs.Tab.{tab_tells}
 use Rattle.scheme.specs.Units.{Call, asking}
-use Rattle.scheme.specs.Refusals.{in_order, Screen, windows_of}
+use Rattle.scheme.specs.Refusals.{Screen, windows_of}
 use Rattle.scheme.specs.Promises.{eight_columns, four_columns, tile}
-use Rattle.scheme.specs.Accepted.{Shaped, EqualScreen}
 use Rattle.request.specs.Tables.{windows_in}
-use Rattle.refusal_shapes.specs.Tested.{lengths_of}
-use Rattle.refusal.specs.Coded.{Coded, refuses}
-use Rattle.refusal.specs.Lengths.{screen_columns, screen_lengths, ScreenPassed, columns_passed, columns_refused, screen_passed, screen_refused}
+use Rattle.refusal.specs.Coded.{refuses}
+use Rattle.refusal.specs.Lengths.{columns_passed, columns_refused, screen_passed, screen_refused}
 use Rattle.clause.specs.Settled.{screen_ready, screen_settles}
 use Rattle.clause.proofs.sosnyavik_windows.Goals as goal
 use Rattle.clause.proofs.sosnyavik_windows.Goals.{Start}

@@ -1,7 +1,5 @@
 -- `window::settled` meets its contract: a refusal found before anything is written, or the work. Assumes nothing.
-use borrow.Author.Rules.{rules}
 use mathlib.Core.Path.{refl}
-use Rattle.refusal.specs.Coded.{refuses, works}
 use Rattle.scheme.proofs.Accepted.{formed_sound}
 use Rattle.window.proofs.settled.Goals as goal
 

@@ -3,15 +3,11 @@ use Prim.Native.Nat.{ℕ, ◌+◌, ◌-◌, ◌*◌, ◌≤◌}
 use native.Mathlib.Omega.{arith}
 use native.Mathlib.Nat.{le_trans}
 use borrow.Author.Rules.{rules}
-use mathlib.Core.Path.{◌≡◌, refl, sym, ◌∙◌}
-use lib.ListN.{length}
+use mathlib.Core.Path.{◌≡◌, refl, ◌∙◌}
 use Rattle.scheme.specs.Refusals.{most_windows, points_of}
-use Rattle.scheme.specs.Reach.{whole_at}
 use Rattle.scheme.specs.Most.{most_points}
-use Rattle.scheme.proofs.Accepted.{wider}
-use Rattle.request.specs.declared.Screen.{Screen}
-use Rattle.request.specs.Tables.{request_in, window_no}
-use Rattle.window_tile.specs.Turn.{all_few, Turned, turned_none, enough, in_grid, in_support, its_part, turned_more, turned_all, whole_long}
+use Rattle.request.specs.Tables.{window_no}
+use Rattle.window_tile.specs.Turn.{all_few, turned_none, enough, in_grid, turned_more, turned_all}
 use Rattle.window_screen.proofs.by_cuts.Goals as goal
 use Rattle.window_screen.proofs.by_cuts.Goals.{After-points_of}
 

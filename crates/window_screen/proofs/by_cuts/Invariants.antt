@@ -1,16 +1,10 @@
-use Prim.Native.Nat.{ℕ, ◌+◌, ◌-◌, ◌*◌, ◌≤◌}
-use native.Mathlib.Omega.{arith}
-use native.Mathlib.Nat.{le_trans}
-use borrow.Author.Rules.{rules}
-use mathlib.Core.Path.{◌≡◌, refl, sym, ◌∙◌}
+use Prim.Native.Nat.{◌-◌, ◌≤◌}
+use mathlib.Core.Path.{◌≡◌}
 use lib.ListN.{length}
-use Rattle.scheme.specs.Refusals.{most_windows, points_of}
 use Rattle.scheme.specs.Reach.{whole_at}
 use Rattle.scheme.specs.Most.{most_points}
-use Rattle.scheme.proofs.Accepted.{wider}
-use Rattle.request.specs.declared.Screen.{Screen}
-use Rattle.request.specs.Tables.{request_in, window_no}
-use Rattle.window_tile.specs.Turn.{all_few, Turned, turned_none, enough, in_grid, in_support, its_part, turned_more, turned_all, whole_long}
+use Rattle.request.specs.Tables.{request_in}
+use Rattle.window_tile.specs.Turn.{Turned, whole_long}
 use Rattle.window_screen.proofs.by_cuts.Given as goal
 
 abbrev pub invariant-loop-k : goal.invariant-loop-k

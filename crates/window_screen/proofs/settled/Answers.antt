@@ -1,10 +1,8 @@
 -- `window_screen::settled` meets its contract: a refusal found before anything is written, or the work in either way. Assumes nothing.
-use borrow.Author.Rules.{rules}
 use mathlib.Core.Path.{refl}
 use Rattle.scheme.specs.Accepted.{Sound}
 use Rattle.scheme.proofs.Accepted.{same_shape, formed_sound}
 use Rattle.request.specs.Tables.{request_in}
-use Rattle.refusal.specs.Coded.{refuses, works}
 use Rattle.window_screen.proofs.settled.Goals as goal
 use Rattle.window_screen.proofs.settled.Goals.{Else-refused-ne0}
 

@@ -3,14 +3,10 @@ use Prim.Native.Nat.{ℕ, ◌+◌, ◌-◌, ◌*◌, ◌≤◌}
 use native.Mathlib.Omega.{arith}
 use native.Mathlib.Nat.{le_trans}
 use mathlib.Core.Path.{◌≡◌, ◌∙◌}
-use lib.ListN.{length}
 use Rattle.scheme.specs.Refusals.{most_windows, points_of}
 use Rattle.scheme.specs.Most.{most_points}
-use Rattle.scheme.proofs.Accepted.{wider}
-use Rattle.request.specs.declared.Screen.{Screen}
 use Rattle.request.specs.Tables.{window_no}
-use Rattle.window_tile.specs.Query.{tile_from, tile_long}
-use Rattle.window_tile.specs.Turn.{all_few, Turned, turned_none, enough, in_grid, in_support, its_part, turned_more, turned_all}
+use Rattle.window_tile.specs.Turn.{all_few, turned_none, enough, in_grid, turned_more, turned_all}
 use Rattle.window_tile.proofs.tiles_of.Goals as goal
 use Rattle.window_tile.proofs.tiles_of.Goals.{After-points_of}
 

@@ -3,8 +3,7 @@
 use Prim.Native.Nat.{ℕ, ◌*◌, ◌≤◌}
 use native.Mathlib.Omega.{arith}
 use native.Mathlib.Nat.{mul-le-mul}
-use borrow.Author.Rules.{rules}
-use mathlib.Core.Path.{◌≡◌, sym, ap, ◌∙◌}
+use mathlib.Core.Path.{◌≡◌, sym, ◌∙◌}
 use mathlib.Core.List.{List}
 use lib.ListN.{length, take, replicate, length-replicate}
 use lib.IntN.{ℤ, pos}
@@ -13,10 +12,9 @@ use Rattle.lists.specs.Tab.{length-tab}
 use Rattle.scheme.specs.Units.{most_stations, Request}
 use Rattle.scheme.specs.Scan.{analysis}
 use Rattle.scheme.specs.Promises.{slices}
-use Rattle.scheme.proofs.Accepted.{same_shape}
 use Rattle.scheme.specs.Most.{most_points}
 use Rattle.request.specs.Tables.{station_in, request_in, window_no, turn_same}
-use Rattle.window_tile.specs.Query.{prefix_back, prefix_in, values_long, bits_long, whole_part}
+use Rattle.window_tile.specs.Query.{prefix_back, values_long, bits_long, whole_part}
 use Rattle.window_tile.proofs.whole_at_each.Goals as goal
 use Rattle.window_tile.proofs.whole_at_each.Goals.{Start}
 
