@@ -14,7 +14,9 @@ KEEP = set("after-within in-order is-digit most-difference most-reach off-grid p
 DECLARES = re.compile(
     r"^\s*(?:(abbrev|unfoldable)\s+)?(?:pub\s+)?(?:(abbrev|data|record)\s+)?([^\s:(){}=.,\[\]|@]+(?: [^\s:(){}=.,\[\]|@]+)*)\s+(?:\{[^}]*\}\s*)?(?:\([^:]*:[^)]*\)\s*)*:\s")
 # operations on lists and numbers: std's, and ours that build lists
-STD = set("length take drop map get_or append add sub mul div neg set tab each each_from keep stored".split())
+STD = set("length take drop map append add sub mul div neg set tab each each_from keep stored".split())
+# each_from is one operation
+EACH_FROM = {"length-each-from": "length-each_from", "map-each-from": "map-each_from"}
 WORD = re.compile(r"[A-Za-z0-9_'ℤℕ][A-Za-z0-9_'ℤℕ\-]*")
 
 
@@ -57,6 +59,8 @@ def snake(word):
 
 def respelled(name, of_data):
     """A dash stays only in the name of a law of one operation on another, as length-tab and map-append."""
+    if name in EACH_FROM:
+        return EACH_FROM[name]
     parts = [snake(p) for p in name.split("-")]
     law = len(parts) == 2 and set(parts) <= STD and name not in of_data
     return ("-" if law else "_").join(parts)
