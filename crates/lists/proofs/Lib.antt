@@ -1,2 +1,3 @@
--- PROVED: laws of the definitions of specs/Parted, apart from them.
+-- PROVED: laws of the definitions of specs/Parted and specs/Each, apart from them.
 pub mod Parted
+pub mod Each

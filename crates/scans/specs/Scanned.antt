@@ -9,7 +9,8 @@ use Rattle.lists.specs.Tests.{true_or_false}
 use Rattle.lists.specs.Tab.{tab, length-tab, get_or_tab, map-tab, tab_same}
 use Rattle.lists.specs.Sums.{up_to_same, total, total_tab}
 use Rattle.lists.specs.Parted.{each}
-use Rattle.lists.specs.Each.{without, each-tab, total_without}
+use Rattle.lists.specs.Each.{without}
+use Rattle.lists.proofs.Each.{each-tab, total_without}
 use Rattle.scheme.specs.Units.{Field, stored, field_of, Station, R, E, B, L, Request}
 use Rattle.scheme.specs.Units as units
 use Rattle.scheme.specs.Verdicts.{on_grid, is_accepted}

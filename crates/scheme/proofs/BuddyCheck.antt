@@ -20,7 +20,8 @@ use Rattle.lists.specs.First.{first, first_in}
 use Rattle.lists.specs.Members.{Some, here, later}
 use Rattle.lists.specs.Parted.{each_from, each}
 use Rattle.lists.proofs.Parted.{each_map}
-use Rattle.lists.specs.Each.{without, each_at}
+use Rattle.lists.specs.Each.{without}
+use Rattle.lists.proofs.Each.{each_at}
 use Rattle.scheme.specs.Units.{step, Station, most_scans, Buddies, Plan, R, E, B, L, Request, guess}
 use Rattle.scheme.specs.Refusals.{Refusal, accepted, refused, in_order, refused_if, refused_with, refused_at, bad_scans, bad_scan, bad_buddies, bad_guess, bad_station, Window, from_five}
 use Rattle.scheme.specs.Verdicts.{is_accepted}

@@ -8,7 +8,7 @@ use Rattle.std.proofs.Math.IntN.{pos, ◌+ℤ◌}
 use Rattle.integers.specs.Parts.{up, dn}
 use Rattle.lists.specs.Tests.{and_true, leb_same}
 use Rattle.lists.specs.Sums.{total, total_map, up_to_same}
-use Rattle.lists.specs.Each.{each_of_map}
+use Rattle.lists.proofs.Each.{each_of_map}
 use Rattle.scheme.specs.Units.{Field, step, Station, most_beyond, R, E, B, L, Request, guess}
 use Rattle.scheme.specs.Verdicts.{is_accepted, serves, out_of_service, near_axis, on_grid, off_grid, before_scans}
 use Rattle.scheme.specs.Rounding.{rounded}

@@ -7,7 +7,7 @@ use Rattle.lists.specs.Sums.{total, total_map}
 use Rattle.lists.specs.Keep.{keep}
 use Rattle.lists.specs.Parted.{Parted}
 use Rattle.lists.proofs.Parted.{keep_parted, total_parted, each_parted}
-use Rattle.lists.specs.Each.{each_of_map}
+use Rattle.lists.proofs.Each.{each_of_map}
 use Rattle.scheme.specs.Units.{is_missing, Field, stored, Station, most_beyond, R, E, B, L, Request, guess, with_stations}
 use Rattle.scheme.specs.Verdicts.{is_accepted, serves, out_of_service, first_that_fits, before_scans}
 use Rattle.scheme.specs.Difference.{Row, difference, tested}

@@ -8,7 +8,8 @@ use Rattle.std.proofs.Math.ListN.{length-map, get_or, get_or-map, get_or-eq_defa
 use Rattle.lists.specs.Tests.{lt_or_le, true_or_false, not_both}
 use Rattle.lists.specs.Sums.{total}
 use Rattle.lists.specs.Members.{All, all_map}
-use Rattle.lists.specs.Each.{without, length-each, each_at, all_each}
+use Rattle.lists.specs.Each.{without}
+use Rattle.lists.proofs.Each.{length-each, each_at, all_each}
 use Rattle.scheme.specs.Units.{Station, Plan, E, B, L}
 use Rattle.scheme.specs.Verdicts.{is_accepted}
 use Rattle.scheme.specs.Difference.{Row, after_test, tested}

@@ -7,7 +7,7 @@ use Rattle.std.proofs.Math.Bool.{cond}
 use Rattle.std.proofs.Math.IntN.{pos}
 use Rattle.lists.specs.Sums.{total, total_map}
 use Rattle.lists.specs.Parted.{each}
-use Rattle.lists.specs.Each.{each_turned}
+use Rattle.lists.proofs.Each.{each_turned}
 use Rattle.lists.specs.Tests.{true_or_false}
 use Rattle.lists.specs.Members.{All, none, more, all_map, all_also, all_of, all_get_d}
 use Rattle.scheme.specs.Units.{Field, step, Wind, no_wind, is_no_wind, Station, most_beyond, round_mode, R, E, B, L, Request, Call, asked, guess}
