@@ -14,7 +14,7 @@ use Rattle.scheme.proofs.Adding.{both_silence}
 use Rattle.scan_buddies.specs.Voices.{told}
 use Rattle.scan_buddies.specs.Nine.{voice, voice_itself, voice_far, voice_near}
 use Rattle.scan_buddies.proofs.with_voice.Goals as goal
-use Rattle.scan_buddies.proofs.with_voice.Goals.{After-struct_told-1, Start}
+use Rattle.scan_buddies.proofs.with_voice.Goals.{Start}
 
 module _ (s : Start) where
   abbrev said : Heard
@@ -40,33 +40,24 @@ module _ (s : Start) where
   unheard : said ≡ silence → before ≡ both before said
   unheard e = rw e (sym (both_silence before))
 
--- the entry of the call
-abbrev start : After-struct_told-1 → Start
-start c = c.before.before.before.before.before.before.before.before.before
-
 pub returns-then-j-k : goal.returns-then-j-k
 returns-then-j-k c =
-    let s = c.before in
-    unheard s (voice_itself s.args.radius s.args.numbers.now s.args.d.now s.args.k s.args.j c.if-j-k.true)
+    let s = (goal.at.returns-then-j-k c).Start in
+    unheard s (voice_itself c.args.radius c.args.numbers.now c.args.d.now c.args.k c.args.j c.if-j-k.true)
 
 pub returns-then-radius-squared_distance : goal.returns-then-radius-squared_distance
 returns-then-radius-squared_distance c =
-    let g = c.before in
-    let e = g.before.before.before in
-    let s = e.before in
+    let s = (goal.at.returns-then-radius-squared_distance c).Start in
     unheard s
-    (voice_far s.args.radius s.args.numbers.now s.args.d.now s.args.k s.args.j g.squared_distance.result e.if-j-k.false g.squared_distance.ensures
+    (voice_far c.args.radius c.args.numbers.now c.args.d.now c.args.k c.args.j c.squared_distance.result c.if-j-k.false c.squared_distance.ensures
     c.if-radius-squared_distance.true)
 
 pub returns : goal.returns
 returns c =
-    let other = c.before.before.before.before in
-    let g = other.before in
-    let e = g.before.before.before in
-    let s = start c in
+    let s = (goal.at.returns c).Start in
     rw (
       all-is s,
       bits_back w64 ((before s).sum +ℤ d s) (all_small s),
-      voice_near s.args.radius s.args.numbers.now s.args.d.now s.args.k s.args.j g.squared_distance.result e.if-j-k.false g.squared_distance.ensures
-          other.if-radius-squared_distance.false,
+      voice_near c.args.radius c.args.numbers.now c.args.d.now c.args.k c.args.j c.squared_distance.result c.if-j-k.false c.squared_distance.ensures
+          c.if-radius-squared_distance.false,
     )
