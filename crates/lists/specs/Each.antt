@@ -1,4 +1,4 @@
--- Each element of a list beside the others: laws of `each`.
+-- Each element of a list beside the others: all but one of a list.
 use Prim.Native.Nat.{ℕ, zero, suc}
 use mathlib.Core.List.{List, [], ◌∷◌}
 

@@ -200,7 +200,7 @@ near_is_accepted verdict y j r2 h = go (is_accepted verdict) (eqb-true verdict 0
 
 -- a turn: the entries gathered before stay
 module _ {all : Stations} {r2 j n k : ℕ} {give give' : ℕ → ℕ → Sums} {Fine Fine' : ℕ → Type 0} (near : Near give Fine n all r2 j k)
-    (kept : (i t : ℕ) → t < n → give' i t ≡ give i t) (Kept-Fine : (t : ℕ) → t < n → Fine t → Fine' t) where
+    (kept : (i t : ℕ) → t < n → give' i t ≡ give i t) (kept_fine : (t : ℕ) → t < n → Fine t → Fine' t) where
   abbrev gap : ℕ
   gap = row_gap (verdict_at all k) (y_at all k) j r2
 
@@ -212,7 +212,7 @@ module _ {all : Stations} {r2 j n k : ℕ} {give give' : ℕ → ℕ → Sums} {
   far_passed h =
       record {
         no_more = omega (arith, near.no_more);
-        sized = λ t l. Kept-Fine t l (near.sized t l);
+        sized = λ t l. kept_fine t l (near.sized t l);
         same =
             λ i. kept_sums i
             ∙ sym (up_to_next nothing plus k (share_at all r2 i j)
@@ -237,7 +237,7 @@ module _ {all : Stations} {r2 j n k : ℕ} {give give' : ℕ → ℕ → Sums} {
       sized t h = go (lt_or_le t n)
         where
           go : (t < n) ⊎ (n ≤ t) → Fine' t
-          go (inl l) = Kept-Fine t l (near.sized t l)
+          go (inl l) = kept_fine t l (near.sized t l)
           go (inr l) = let e : t ≡ n = omega arith in rw e new_fine
 
   -- either, where each turn stores and only a near one is counted

@@ -43,16 +43,16 @@ ended q right found left answer (g, s, v) e r =
     done found a (ap analysis (asks q) ∙ r)
 
 module _ (rule : ℕ) (ruled : Ruled rule) (found : Analysis) (long : Long found) (answer answer' answer'' : ℕ) (left left' left'' : Analysis)
-    (asked-once : Analyses (call_for (example rule 1 false)) found answer left) (asked_twice : Analyses (call_for (example rule 2 false)) found answer' left')
-    (asked-smooth : Analyses (call_for (example rule 2 true)) found answer'' left'') where
+    (asked_once : Analyses (call_for (example rule 1 false)) found answer left) (asked_twice : Analyses (call_for (example rule 2 false)) found answer' left')
+    (asked_smooth : Analyses (call_for (example rule 2 true)) found answer'' left'') where
   abbrev ended_once : (answer ≡ 0) × (left ≡ once rule)
-  ended_once = ended (example rule 1 false) (once rule) found left answer long (example_accepted rule ruled).0.0 (example_analysis rule ruled).0 asked-once
+  ended_once = ended (example rule 1 false) (once rule) found left answer long (example_accepted rule ruled).0.0 (example_analysis rule ruled).0 asked_once
 
   abbrev ended_twice : (answer' ≡ 0) × (left' ≡ twice rule)
   ended_twice = ended (example rule 2 false) (twice rule) found left' answer' long (example_accepted rule ruled).1.0 (example_analysis rule ruled).1 asked_twice
 
   abbrev ended_smooth : (answer'' ≡ 0) × (left'' ≡ smooth rule)
-  ended_smooth = ended (example rule 2 true) (smooth rule) found left'' answer'' long (example_accepted rule ruled).2.0 (example_analysis rule ruled).2 asked-smooth
+  ended_smooth = ended (example rule 2 true) (smooth rule) found left'' answer'' long (example_accepted rule ruled).2.0 (example_analysis rule ruled).2 asked_smooth
 
   first_once : first_of left.grid ≡ 587
   first_once = ap (λ (a : Analysis). first_of a.grid) ended_once.1
@@ -99,16 +99,16 @@ window_ended q right found left answer (g, s) e r =
     done found a (ap (λ (p : Request). whole_at p corner) (asks q) ∙ r)
 
 module _ (rule : ℕ) (ruled : Ruled rule) (found : Tile) (long : (length found.grid ≡ 4) × (length found.support ≡ 4)) (answer answer' answer'' : ℕ) (left left' left'' : Tile)
-    (asked-once : Queries (call_for (example rule 1 false)) corner found answer left) (asked_twice : Queries (call_for (example rule 2 false)) corner found answer' left')
-    (asked-smooth : Queries (call_for (example rule 2 true)) corner found answer'' left'') where
+    (asked_once : Queries (call_for (example rule 1 false)) corner found answer left) (asked_twice : Queries (call_for (example rule 2 false)) corner found answer' left')
+    (asked_smooth : Queries (call_for (example rule 2 true)) corner found answer'' left'') where
   abbrev window_once : (answer ≡ 0) × (left ≡ corner_once)
-  window_once = window_ended (example rule 1 false) corner_once found left answer long (example_accepted rule ruled).0.1 (example_window rule ruled).0 asked-once
+  window_once = window_ended (example rule 1 false) corner_once found left answer long (example_accepted rule ruled).0.1 (example_window rule ruled).0 asked_once
 
   abbrev window_twice : (answer' ≡ 0) × (left' ≡ corner_twice)
   window_twice = window_ended (example rule 2 false) corner_twice found left' answer' long (example_accepted rule ruled).1.1 (example_window rule ruled).1 asked_twice
 
   abbrev window_smooth : (answer'' ≡ 0) × (left'' ≡ corner_smooth rule)
-  window_smooth = window_ended (example rule 2 true) (corner_smooth rule) found left'' answer'' long (example_accepted rule ruled).2.1 (example_window rule ruled).2 asked-smooth
+  window_smooth = window_ended (example rule 2 true) (corner_smooth rule) found left'' answer'' long (example_accepted rule ruled).2.1 (example_window rule ruled).2 asked_smooth
 
   tile_once : first_of left.grid ≡ 587
   tile_once = ap (λ (t : Tile). first_of t.grid) window_once.1
@@ -152,16 +152,16 @@ read_otherwise a b p q n e = n (sym p ∙ ap last_digits e ∙ q)
 said : {digits : ℕ} {sup left : List ℕ} (answer after : List ℕ) → left ≡ answer ++ after → SaysFirst digits sup answer → Says digits sup left
 said {digits = digits} {sup = sup} answer after e h = subst (Says digits sup) (sym e) (h after)
 
-module _ (rule : ℕ) (ruled : Ruled rule) (found left left' left'' : List ℕ) (bytes bytes' bytes'' : ℕ) (asked-once : Replies (once_text rule) found bytes left)
-    (asked_twice : Replies (twice_text rule) found bytes' left') (asked-smooth : Replies (smooth_text rule) found bytes'' left'') where
+module _ (rule : ℕ) (ruled : Ruled rule) (found left left' left'' : List ℕ) (bytes bytes' bytes'' : ℕ) (asked_once : Replies (once_text rule) found bytes left)
+    (asked_twice : Replies (twice_text rule) found bytes' left') (asked_smooth : Replies (smooth_text rule) found bytes'' left'') where
   abbrev text_once : (bytes ≡ length (once_answer rule)) × (left ≡ once_answer rule ++ drop (length (once_answer rule)) found)
-  text_once = text_ended (once_text rule) found (example_text rule ruled).0 asked-once
+  text_once = text_ended (once_text rule) found (example_text rule ruled).0 asked_once
 
   abbrev text_twice : (bytes' ≡ length (twice_answer rule)) × (left' ≡ twice_answer rule ++ drop (length (twice_answer rule)) found)
   text_twice = text_ended (twice_text rule) found (example_text rule ruled).1 asked_twice
 
   abbrev text_smooth : (bytes'' ≡ length (smooth_answer rule)) × (left'' ≡ smooth_answer rule ++ drop (length (smooth_answer rule)) found)
-  text_smooth = text_ended (smooth_text rule) found (example_text rule ruled).2 asked-smooth
+  text_smooth = text_ended (smooth_text rule) found (example_text rule ruled).2 asked_smooth
 
   abbrev says_once : Says 87 (ascii "sup=1,1,1\nsup=1,1,1\nsup=1,1,1\n") left
   says_once = said (once_answer rule) (drop (length (once_answer rule)) found) text_once.1 (under_both (λ r. SaysFirst 87 (ascii "sup=1,1,1\nsup=1,1,1\nsup=1,1,1\n") (once_answer r)) (λ t. record { opening = refl; values = refl; supports = refl; verdicts = refl }) (λ t. record { opening = refl; values = refl; supports = refl; verdicts = refl }) rule ruled)

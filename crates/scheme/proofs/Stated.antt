@@ -656,70 +656,70 @@ cases = computed.cases
 -- ---- the four cheats, on the paper's example with its scan once, twice, and twice with smoothing on, under either rule
 
 module _ (rule : ℕ) (ruled : (1 ≤ rule) × (rule ≤ 2)) (found : Analysis) (long : (length found.grid ≡ 9) × (length found.support ≡ 9) × (length found.verdict ≡ 3))
-    (answer answer' answer'' : ℕ) (left left' left'' : Analysis) (asked-once : Analyses (call_for (example rule 1 false)) found answer left)
-    (asked_twice : Analyses (call_for (example rule 2 false)) found answer' left') (asked-smooth : Analyses (call_for (example rule 2 true)) found answer'' left'') where
+    (answer answer' answer'' : ℕ) (left left' left'' : Analysis) (asked_once : Analyses (call_for (example rule 1 false)) found answer left)
+    (asked_twice : Analyses (call_for (example rule 2 false)) found answer' left') (asked_smooth : Analyses (call_for (example rule 2 true)) found answer'' left'') where
   pub no_refusal : (answer ≡ 0) × (answer' ≡ 0) × (answer'' ≡ 0)
-  no_refusal = cheats.no_refusal rule ruled found long answer answer' answer'' left left' left'' asked-once asked_twice asked-smooth
+  no_refusal = cheats.no_refusal rule ruled found long answer answer' answer'' left left' left'' asked_once asked_twice asked_smooth
 
   pub not_the_first_guess : left.grid ≡ level → ⊥
-  not_the_first_guess = cheats.not_the_first_guess rule ruled found long answer answer' answer'' left left' left'' asked-once asked_twice asked-smooth
+  not_the_first_guess = cheats.not_the_first_guess rule ruled found long answer answer' answer'' left left' left'' asked_once asked_twice asked_smooth
 
   pub not_one_fixed_grid : left'.grid ≡ left.grid → ⊥
-  not_one_fixed_grid = cheats.not_one_fixed_grid rule ruled found long answer answer' answer'' left left' left'' asked-once asked_twice asked-smooth
+  not_one_fixed_grid = cheats.not_one_fixed_grid rule ruled found long answer answer' answer'' left left' left'' asked_once asked_twice asked_smooth
 
   pub not_one_scan_only : left'.grid ≡ stored 3 3 (after (example rule 2 false) 1).field → ⊥
-  not_one_scan_only = cheats.not_one_scan_only rule ruled found long answer answer' answer'' left left' left'' asked-once asked_twice asked-smooth
+  not_one_scan_only = cheats.not_one_scan_only rule ruled found long answer answer' answer'' left left' left'' asked_once asked_twice asked_smooth
 
   pub not_only_smoothed : left''.grid ≡ stored 3 3 (only_smoothed rule) → ⊥
-  not_only_smoothed = cheats.not_only_smoothed rule ruled found long answer answer' answer'' left left' left'' asked-once asked_twice asked-smooth
+  not_only_smoothed = cheats.not_only_smoothed rule ruled found long answer answer' answer'' left left' left'' asked_once asked_twice asked_smooth
 
   pub no_other_support : (left.support ≡ (once rule).support) × (left'.support ≡ (twice rule).support) × (left''.support ≡ (smooth rule).support)
-  no_other_support = cheats.no_other_support rule ruled found long answer answer' answer'' left left' left'' asked-once asked_twice asked-smooth
+  no_other_support = cheats.no_other_support rule ruled found long answer answer' answer'' left left' left'' asked_once asked_twice asked_smooth
 
   pub no_other_verdicts : (left.verdict ≡ (once rule).verdict) × (left'.verdict ≡ (twice rule).verdict) × (left''.verdict ≡ (smooth rule).verdict)
-  no_other_verdicts = cheats.no_other_verdicts rule ruled found long answer answer' answer'' left left' left'' asked-once asked_twice asked-smooth
+  no_other_verdicts = cheats.no_other_verdicts rule ruled found long answer answer' answer'' left left' left'' asked_once asked_twice asked_smooth
 
 module _ (rule : ℕ) (ruled : (1 ≤ rule) × (rule ≤ 2)) (found : Tile) (long : (length found.grid ≡ 4) × (length found.support ≡ 4)) (answer answer' answer'' : ℕ) (left left' left'' : Tile)
-    (asked-once : Queries (call_for (example rule 1 false)) corner found answer left) (asked_twice : Queries (call_for (example rule 2 false)) corner found answer' left')
-    (asked-smooth : Queries (call_for (example rule 2 true)) corner found answer'' left'') where
+    (asked_once : Queries (call_for (example rule 1 false)) corner found answer left) (asked_twice : Queries (call_for (example rule 2 false)) corner found answer' left')
+    (asked_smooth : Queries (call_for (example rule 2 true)) corner found answer'' left'') where
   pub window_no_refusal : (answer ≡ 0) × (answer' ≡ 0) × (answer'' ≡ 0)
-  window_no_refusal = cheats.window_no_refusal rule ruled found long answer answer' answer'' left left' left'' asked-once asked_twice asked-smooth
+  window_no_refusal = cheats.window_no_refusal rule ruled found long answer answer' answer'' left left' left'' asked_once asked_twice asked_smooth
 
   pub window_not_the_first_guess : left.grid ≡ tab 4 (λ p. pos 640) → ⊥
-  window_not_the_first_guess = cheats.window_not_the_first_guess rule ruled found long answer answer' answer'' left left' left'' asked-once asked_twice asked-smooth
+  window_not_the_first_guess = cheats.window_not_the_first_guess rule ruled found long answer answer' answer'' left left' left'' asked_once asked_twice asked_smooth
 
   pub window_not_one_fixed_grid : left'.grid ≡ left.grid → ⊥
-  window_not_one_fixed_grid = cheats.window_not_one_fixed_grid rule ruled found long answer answer' answer'' left left' left'' asked-once asked_twice asked-smooth
+  window_not_one_fixed_grid = cheats.window_not_one_fixed_grid rule ruled found long answer answer' answer'' left left' left'' asked_once asked_twice asked_smooth
 
   pub window_not_one_scan_only : left'.grid ≡ window_of corner (after (example rule 2 false) 1).field → ⊥
-  window_not_one_scan_only = cheats.window_not_one_scan_only rule ruled found long answer answer' answer'' left left' left'' asked-once asked_twice asked-smooth
+  window_not_one_scan_only = cheats.window_not_one_scan_only rule ruled found long answer answer' answer'' left left' left'' asked_once asked_twice asked_smooth
 
   pub window_not_only_smoothed : left''.grid ≡ window_of corner (only_smoothed rule) → ⊥
-  window_not_only_smoothed = cheats.window_not_only_smoothed rule ruled found long answer answer' answer'' left left' left'' asked-once asked_twice asked-smooth
+  window_not_only_smoothed = cheats.window_not_only_smoothed rule ruled found long answer answer' answer'' left left' left'' asked_once asked_twice asked_smooth
 
   pub window_no_other_support : (left.support ≡ corner_once.support) × (left'.support ≡ corner_twice.support) × (left''.support ≡ (corner_smooth rule).support)
-  window_no_other_support = cheats.window_no_other_support rule ruled found long answer answer' answer'' left left' left'' asked-once asked_twice asked-smooth
+  window_no_other_support = cheats.window_no_other_support rule ruled found long answer answer' answer'' left left' left'' asked_once asked_twice asked_smooth
 
-module _ (rule : ℕ) (ruled : (1 ≤ rule) × (rule ≤ 2)) (found left left' left'' : List ℕ) (bytes bytes' bytes'' : ℕ) (asked-once : Replies (once_text rule) found bytes left)
-    (asked_twice : Replies (twice_text rule) found bytes' left') (asked-smooth : Replies (smooth_text rule) found bytes'' left'') where
+module _ (rule : ℕ) (ruled : (1 ≤ rule) × (rule ≤ 2)) (found left left' left'' : List ℕ) (bytes bytes' bytes'' : ℕ) (asked_once : Replies (once_text rule) found bytes left)
+    (asked_twice : Replies (twice_text rule) found bytes' left') (asked_smooth : Replies (smooth_text rule) found bytes'' left'') where
   pub text_no_refusal : (first_two_lines left ≡ ascii "refusal=0\nplace=0\n") × (first_two_lines left' ≡ ascii "refusal=0\nplace=0\n") × (first_two_lines left'' ≡ ascii "refusal=0\nplace=0\n")
-  text_no_refusal = cheats.text_no_refusal rule ruled found left left' left'' bytes bytes' bytes'' asked-once asked_twice asked-smooth
+  text_no_refusal = cheats.text_no_refusal rule ruled found left left' left'' bytes bytes' bytes'' asked_once asked_twice asked_smooth
 
   pub text_not_the_first_guess : row_lines left ≡ shown level → ⊥
-  text_not_the_first_guess = cheats.text_not_the_first_guess rule ruled found left left' left'' bytes bytes' bytes'' asked-once asked_twice asked-smooth
+  text_not_the_first_guess = cheats.text_not_the_first_guess rule ruled found left left' left'' bytes bytes' bytes'' asked_once asked_twice asked_smooth
 
   pub text_not_one_fixed_grid : row_lines left' ≡ row_lines left → ⊥
-  text_not_one_fixed_grid = cheats.text_not_one_fixed_grid rule ruled found left left' left'' bytes bytes' bytes'' asked-once asked_twice asked-smooth
+  text_not_one_fixed_grid = cheats.text_not_one_fixed_grid rule ruled found left left' left'' bytes bytes' bytes'' asked_once asked_twice asked_smooth
 
   pub text_not_one_scan_only : row_lines left' ≡ shown (stored 3 3 (after (example rule 2 false) 1).field) → ⊥
-  text_not_one_scan_only = cheats.text_not_one_scan_only rule ruled found left left' left'' bytes bytes' bytes'' asked-once asked_twice asked-smooth
+  text_not_one_scan_only = cheats.text_not_one_scan_only rule ruled found left left' left'' bytes bytes' bytes'' asked_once asked_twice asked_smooth
 
   pub text_not_only_smoothed : row_lines left'' ≡ shown (stored 3 3 (only_smoothed rule)) → ⊥
-  text_not_only_smoothed = cheats.text_not_only_smoothed rule ruled found left left' left'' bytes bytes' bytes'' asked-once asked_twice asked-smooth
+  text_not_only_smoothed = cheats.text_not_only_smoothed rule ruled found left left' left'' bytes bytes' bytes'' asked_once asked_twice asked_smooth
 
   pub text_no_other_support : (sup_lines left ≡ ascii "sup=1,1,1\nsup=1,1,1\nsup=1,1,1\n") × (sup_lines left' ≡ ascii "sup=3,3,3\nsup=3,3,3\nsup=3,3,3\n")
       × (sup_lines left'' ≡ ascii "sup=3,3,3\nsup=3,3,3\nsup=3,3,3\n")
-  text_no_other_support = cheats.text_no_other_support rule ruled found left left' left'' bytes bytes' bytes'' asked-once asked_twice asked-smooth
+  text_no_other_support = cheats.text_no_other_support rule ruled found left left' left'' bytes bytes' bytes'' asked_once asked_twice asked_smooth
 
   pub text_no_other_verdicts : (ver_line left ≡ ascii "ver=0,0,2\n") × (ver_line left' ≡ ascii "ver=0,0,2\n") × (ver_line left'' ≡ ascii "ver=0,0,2\n")
-  text_no_other_verdicts = cheats.text_no_other_verdicts rule ruled found left left' left'' bytes bytes' bytes'' asked-once asked_twice asked-smooth
+  text_no_other_verdicts = cheats.text_no_other_verdicts rule ruled found left left' left'' bytes bytes' bytes'' asked_once asked_twice asked_smooth
