@@ -76,7 +76,7 @@ def main():
     turn = {a: b for a, b in turn.items() if a != b}
     taken = {}
     everywhere = set()
-    for p in files("crates/*/specs/**/*.antt") + files("crates/*/proofs/**/*.antt") + files("crates/**/*.rt") + files("crates/*/must-fail/*.edit"):
+    for p in targets():
         everywhere.update(WORD.findall(open(p, encoding="utf-8").read()))
     clash = []
     for a, b in sorted(turn.items()):
