@@ -86,7 +86,7 @@ fn compare_says_how_to_get_a_server() {
         let output = second(&["compare", "text", "3", "20"], &[("SOSNYAVIK_SERVE", server)], "");
         let message = String::from_utf8_lossy(&output.stderr).into_owned();
         assert_eq!((output.status.code(), message.lines().count()), (Some(2), 1), "{message}");
-        assert!(message.contains("run second/bridge/build-serve with the"), "{message}");
+        assert!(message.contains("second/bridge/build-serve target/obj"), "{message}");
         message
     };
     assert!(asked(" ").contains("an empty command"));
