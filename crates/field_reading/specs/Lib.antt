@@ -1,3 +1,3 @@
--- What the code of a reading and of a summary computes, on plain values. Proved.
+-- What the code of a reading computes, on plain values. Proved.
 pub mod Backing
 pub mod Point

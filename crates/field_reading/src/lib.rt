@@ -1,22 +1,20 @@
 // A field read at a position, as a double (document 01, "Readings as doubles").
 #![tactic(auto)]
 
-ghost use Rattle.std.specs.Prelude.{◌≡◌, ◌&&◌, ◌-◌, ◌*◌, ◌≤◌, length, pos, nat_abs};
+ghost use Rattle.std.specs.Prelude.{◌≡◌, ◌-◌, ◌*◌, ◌≤◌, length, pos, nat_abs};
 ghost use Rattle.scheme.specs.Units.{field_of, step};
 ghost use Rattle.scheme.specs.Accepted.{Shaped};
 ghost use Rattle.scheme.specs.Readings.{double, is_backed, reading_in, kind_of, value_of};
 ghost use Rattle.scheme.specs.Promises.{Reads, ReadsKind, ReadsValue};
-ghost use Rattle.field_reading.specs.Backing.{corner_backed, all_backed};
+ghost use Rattle.field_reading.specs.Backing.{all_backed};
 
 use scheme::Reading;
-
-// Neighbouring points are 64 position units apart.
-const STEP: u32 = 64;
 
 // The parts of a unit that an interpolation sum is counted in: those of a value, in shares of 4096 parts in all.
 const PARTS_OF_SUM: u32 = 262144;
 
 // n / d as a double.
+#[tactic(auto, unfolding(scheme::specs::Readings::double))]
 pub fn double(n: i64, d: u32) -> f64
     requires { nat_abs n ≤ 9007199254740992 }
     ensures { result ≡ double n d }
@@ -24,48 +22,31 @@ pub fn double(n: i64, d: u32) -> f64
     (n as f64) / (d as f64)
 }
 
-// A corner with a share of a times b parts: a nonzero one needs a nonzero support byte.
-fn corner_backed(a: u32, b: u32, support: u8) -> bool
-    requires { (a ≤ step) × (b ≤ step) }
-    ensures { result ≡ corner_backed (a * b) support }
+// Every corner with a nonzero share has a nonzero support byte, of four corners.
+fn all_backed(shares: [u32; 4], support: [u8; 4]) -> bool
+    ensures { result ≡ all_backed shares support }
 {
-    if a * b == 0 {
-        return true;
-    }
-    support != 0
+    shares
+        .iter()
+        .zip(support.iter())
+        .all(|(share, byte)| *share == 0 || *byte != 0)
 }
 
-fn both(p: bool, q: bool) -> bool
-    ensures { result ≡ p && q }
-{
-    if p { q } else { false }
-}
-
-// Every one of four corners p, q over r, s, at a and b units past the first.
-fn all_backed(a: u32, b: u32, p: u8, q: u8, r: u8, s: u8) -> bool
-    requires { (a ≤ step) × (b ≤ step) }
-    ensures { result ≡ all_backed a b p q r s }
-{
-    let mut t = corner_backed(STEP - a, STEP - b, p);
-    t = both(t, corner_backed(a, STEP - b, q));
-    t = both(t, corner_backed(STEP - a, b, r));
-    both(t, corner_backed(a, b, s))
-}
-
-// Every corner with a nonzero share has a nonzero support byte, at a position on the grid.
+// The same, at a position on the grid.
 fn is_backed(support: &[u8], nx: usize, ny: usize, x: u32, y: u32) -> bool
     requires { Shaped nx ny (length support.now) × (x ≤ step * (nx - 1)) × (y ≤ step * (ny - 1)) }
     ensures { result ≡ is_backed nx ny (field_of 0 nx support.now) x y }
 {
-    let s = field_value::spot_of(nx, ny, x, y);
-    let p = s.corner;
+    let spot = field_value::spot_of(nx, ny, x, y);
+    let p = spot.corner;
     all_backed(
-        s.a,
-        s.b,
-        support[p],
-        support[p + 1],
-        support[p + nx],
-        support[p + nx + 1],
+        spot.shares(),
+        [
+            support[p],
+            support[p + 1],
+            support[p + nx],
+            support[p + nx + 1],
+        ],
     )
 }
 
@@ -102,7 +83,8 @@ pub fn reading(nx: u32, ny: u32, field: &[i32], support: &[u8], x: i32, y: i32) 
     reading_in(columns, rows, field, support, x, y)
 }
 
-// Its kind: 0 off grid, 1 first guess, 2 backed, 3 refused.
+// Its kind: 0 off grid, 1 first guess, 2 backed, 3 refused. The number is C's alone, and the type crate scheme's, so a function and no From.
+#[tactic(auto, unfolding(scheme::specs::Readings::numbers_of))]
 fn kind_of(r: Reading) -> u32
     ensures { result ≡ kind_of r }
 {
@@ -115,14 +97,13 @@ fn kind_of(r: Reading) -> u32
 }
 
 // And its double, positive zero for kinds 0 and 3.
+#[tactic(auto, using(crate::specs::Point::zero_is), unfolding(scheme::specs::Readings::numbers_of))]
 fn value_of(r: Reading) -> f64
     ensures { result ≡ value_of r }
 {
     match r {
-        Reading::OffGrid => 0.0,
-        Reading::FirstGuess(value) => value,
-        Reading::Backed(value) => value,
-        Reading::Refused => 0.0,
+        Reading::FirstGuess(value) | Reading::Backed(value) => value,
+        Reading::OffGrid | Reading::Refused => 0.0,
     }
 }
 

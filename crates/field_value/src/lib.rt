@@ -2,20 +2,27 @@
 // document 02, request 1).
 #![tactic(auto)]
 
-ghost use Rattle.std.specs.Prelude.{◌≡◌, ◌+◌, ◌-◌, ◌*◌, ◌≤◌, length, pos, nat_abs, ◌+ℤ◌, ◌*ℤ◌};
+ghost use Rattle.std.specs.Prelude.{◌≡◌, ◌+◌, ◌-◌, ◌*◌, ◌≤◌, length, pos, nat_abs};
 ghost use Rattle.scheme.specs.Units.{most_side, field_of, step, most_beyond};
 ghost use Rattle.scheme.specs.Rounding.{rounded};
 ghost use Rattle.scheme.specs.Verdicts.{near_axis, near_grid};
 ghost use Rattle.scheme.specs.Value.{place, cell, sum_at};
 ghost use Rattle.scheme.specs.Accepted.{Shaped};
-ghost use Rattle.field_value.specs.Corners.{blend, Spotted};
-
-use rounding::Total;
+ghost use Rattle.field_value.specs.Corners.{shares_of, AreShares, blend, Spotted};
 
 // Neighbouring points are 64 position units apart.
 const STEP: u32 = 64;
 
-// ---- positions on and off the grid
+// ---- positions on and off the grid. An axis is no more than its number of points, which callers have as nx or ny: a type for it would be made
+// anew at each call.
+
+// Where the last of n points of an axis stands.
+fn last(n: usize) -> i32
+    requires { (1 ≤ n) × (n ≤ most_side) }
+    ensures { result ≡ pos (step * (n - 1)) }
+{
+    (STEP * (n as u32 - 1)) as i32
+}
 
 // Beyond an axis of n points by at most so many units; by none is on it, its ends included.
 fn near_axis(beyond: u32, n: usize, x: i32) -> bool
@@ -23,7 +30,7 @@ fn near_axis(beyond: u32, n: usize, x: i32) -> bool
     ensures { result ≡ near_axis beyond n x }
 {
     let past = beyond as i32;
-    (-past <= x) & (x <= (64 * (n - 1)) as i32 + past)
+    (-past..=last(n) + past).contains(&x)
 }
 
 // Beyond a grid of nx columns and ny rows by at most so many units, along x and along y.
@@ -31,7 +38,7 @@ pub fn near_grid(beyond: u32, nx: usize, ny: usize, x: i32, y: i32) -> bool
     requires { (beyond ≤ most_beyond) × (1 ≤ nx) × (nx ≤ most_side) × (1 ≤ ny) × (ny ≤ most_side) }
     ensures { result ≡ near_grid beyond nx ny x y }
 {
-    near_axis(beyond, nx, x) & near_axis(beyond, ny, y)
+    near_axis(beyond, nx, x) && near_axis(beyond, ny, y)
 }
 
 // The place of a position on an axis of n points: itself, if it is on the axis, and else the nearer end.
@@ -39,43 +46,20 @@ pub fn place(n: usize, x: i32) -> u32
     requires { (1 ≤ n) × (n ≤ most_side) }
     ensures { result ≡ place n x }
 {
-    if x < 0 {
-        return 0;
-    }
-    let last = STEP * ((n - 1) as u32);
-    let at = x as u32;
-    if at < last { at } else { last }
+    x.clamp(0, last(n)) as u32
 }
 
-// ---- the value there
+// ---- the value there. A field is a slice, with the nx and ny beside it that its owner has for much else; what the three are to one another is the
+// one word Shaped.
 
 // The lower corner of the cell of position x, on an axis of n points. On the last column or row that is the last cell.
 pub fn cell(n: usize, x: u32) -> usize
     requires { 2 ≤ n }
-    ensures { result ≡ cell n x }
+    ensures value { result ≡ cell n x }
+    ensures inside { result + 2 ≤ n }
+    ensures low { step * result ≤ x }
 {
-    let m = (x / STEP) as usize;
-    if m < n - 1 { m } else { n - 2 }
-}
-
-// A sum with one more corner, whose value v has a share of a times b parts.
-fn corner(t: i64, a: u32, b: u32, v: i32) -> Total
-    requires { (a ≤ step) × (b ≤ step) × (nat_abs t ≤ 70368744177664) }
-    ensures { (result.t ≡ t +ℤ pos (a * b) *ℤ v) × (nat_abs result.t ≤ nat_abs t + 8796093022208) }
-{
-    rounding::plus(t, a * b, v as i64)
-}
-
-// The interpolation sum of four corners p, q over r, s, at a and b units past the first.
-fn blended(a: u32, b: u32, p: i32, q: i32, r: i32, s: i32) -> i64
-    requires { (a ≤ step) × (b ≤ step) }
-    ensures { (result ≡ blend a b p q r s) × (nat_abs result ≤ 35184372088832) }
-{
-    let mut t = corner(0, STEP - a, STEP - b, p);
-    t = corner(t.t, a, STEP - b, q);
-    t = corner(t.t, STEP - a, b, r);
-    t = corner(t.t, a, b, s);
-    t.t
+    ((x / STEP) as usize).min(n - 2)
 }
 
 // Where a position lies in a stored field: the place of the lower corner of its cell, and how far past that corner it is.
@@ -84,6 +68,18 @@ pub struct Spot {
     pub corner: usize,
     pub a: u32,
     pub b: u32,
+}
+
+impl Spot {
+    // The parts that the cell's corners, p, q over r, s, have in what stands at the position, of 4096 in all.
+    pub fn shares(self) -> [u32; 4]
+        requires { (self.a ≤ step) × (self.b ≤ step) }
+        ensures { result ≡ shares_of self.a self.b }
+    {
+        let left = STEP - self.a;
+        let below = STEP - self.b;
+        [left * below, self.a * below, left * self.b, self.a * self.b]
+    }
 }
 
 // The spot of a position on the grid.
@@ -100,14 +96,26 @@ pub fn spot_of(nx: usize, ny: usize, x: u32, y: u32) -> Spot
     }
 }
 
+// The interpolation sum of four corners, by their shares.
+fn blended(shares: [u32; 4], values: [i32; 4]) -> i64
+    requires { AreShares shares }
+    ensures { (result ≡ blend shares values) × (nat_abs result ≤ 35184372088832) }
+{
+    let mut sum: i64 = 0;
+    for (share, value) in shares.iter().zip(values.iter()) {
+        sum = rounding::plus(sum, *share, i64::from(*value));
+    }
+    sum
+}
+
 // The interpolation sum of a field at a position on the grid.
 pub fn sum_at(z: &[i32], nx: usize, ny: usize, x: u32, y: u32) -> i64
     requires { Shaped nx ny (length z.now) × (x ≤ step * (nx - 1)) × (y ≤ step * (ny - 1)) }
     ensures { (result ≡ sum_at nx ny (field_of (pos 0) nx z.now) x y) × (nat_abs result ≤ 35184372088832) }
 {
-    let s = spot_of(nx, ny, x, y);
-    let p = s.corner;
-    blended(s.a, s.b, z[p], z[p + 1], z[p + nx], z[p + nx + 1])
+    let spot = spot_of(nx, ny, x, y);
+    let p = spot.corner;
+    blended(spot.shares(), [z[p], z[p + 1], z[p + nx], z[p + nx + 1]])
 }
 
 // The value of a field at a position on the grid: that sum divided by 4096 and rounded, once.

@@ -2,19 +2,20 @@
 -- request that it asks.
 use Rattle.std.specs.Prelude.{ℕ, ◌*◌, ◌≤◌, ◌<◌, ◌≡◌, not, ◌||◌, false, List, [], ◌∷◌, ◌++◌, eqb, length}
 use Rattle.std.proofs.Common.{sym, ◌∙◌}
-use borrow.Author.Tests.{eqb-true, not-false, le-ltb}
+use borrow.Author.Tests.{eqb-true, not-false}
 use Rattle.lists.specs.Tests.{or_false}
-use Rattle.lists.specs.First.{first_in, ended, Good, first_good, in_table}
+use Rattle.lists.specs.First.{nowhere, first_in, Good, first_good, in_table}
 use Rattle.lists.specs.Members.{All, none, more}
 use Rattle.scheme.specs.Units.{most_side, most_scans, wind_mode, Call, asked}
 use Rattle.scheme.specs.Refusals.{Refusal, accepted, in_order, refused_if, refused_with, refused_at, bad_shape, Window, bad_window, most_windows, Screen, window_on, windows_of, bad_screen, points_of, points_of_all, bad_lengths, bad_columns, bad_scans, from_five, analysis_refusal, window_refusal, screen_refusal}
 use Rattle.scheme.specs.Accepted.{Shaped, Equal, Ruled, from_six, FitsWindow, FitsScreen, OnGrid, EqualScreen}
 use Rattle.scheme.proofs.Accepted.{all_accepted, not_refused, nowhere_refused, shaped, equal, scans_fit, long, on-grid, wider, equal_screen}
-use Rattle.request.specs.declared.Screen.{Screen as Windows}
+use Rattle.request.specs.declared.Window.{Window as Ends}
 use Rattle.request.specs.Tables.{window_no, windows_in, OnScreen}
 use Rattle.refusal_shapes.specs.declared.Lengths.{Lengths}
 use Rattle.refusal_shapes.specs.Tested.{lengths_of, unequal_screen, unequal_columns, bad_scan_count}
-use Rattle.refusal.specs.Coded.{Coded, rest_decides, refused_before}
+use Rattle.refusal.specs.declared.Refusal.{Refusal as Row}
+use Rattle.refusal.specs.Row.{row_of, rest_decides, refused_before}
 
 -- the rows that are tested on the lengths of a call
 abbrev pub four_and_five : Lengths → List Refusal
@@ -94,8 +95,7 @@ module _ (c : Call) (grid support verdict : ℕ) where
             rest = rest_decides (from_six (asked c)) analysis_rows e;
           }
 
-  pub analysis_refused : {r : ℕ} → Coded r (in_order (analysis_lengths (lengths_of c) grid support verdict)) → (r ≡ 0 → ⊥)
-      → Coded r (analysis_refusal c grid support verdict)
+  pub analysis_refused : (r : Row) → row_of r ≡ in_order (analysis_lengths (lengths_of c) grid support verdict) → row_of r ≡ analysis_refusal c grid support verdict
   unfolding analysis_refusal bad_columns bad_scans from_five
   analysis_refused = refused_before (from_six (asked c)) analysis_rows
 
@@ -125,20 +125,19 @@ module _ (c : Call) (w : Window) (grid support : ℕ) where
             rest = rest_decides (from_six (asked c)) window_rows e;
           }
 
-  pub window_refused : {r : ℕ} → Coded r (in_order (window_lengths (lengths_of c) w grid support)) → (r ≡ 0 → ⊥)
-      → Coded r (window_refusal c w grid support)
+  pub window_refused : (r : Row) → row_of r ≡ in_order (window_lengths (lengths_of c) w grid support) → row_of r ≡ window_refusal c w grid support
   unfolding window_refusal bad_columns bad_scans from_five
   window_refused = refused_before (from_six (asked c)) window_rows
 
 -- ---- a screen
 
--- a search of its windows that ends past them all: they are on the grid
-pub on_screen : {nx ny len : ℕ} → Shaped nx ny len → (s : Windows) → s.count ≤ most_windows → (k : ℕ) → s.count ≤ k
-    → ended s.count k ≡ first_in (bad_window nx ny) (windows_in s) → OnScreen most_side most_side s
-on_screen {nx} {ny} shape s few k past e = record { few = few; on = λ m h. wider shape (on-grid nx ny (window_no s m) (good m h)) }
+-- a search of its windows that finds none: they are on the grid
+pub on_screen : {nx ny len : ℕ} → Shaped nx ny len → (ws : List Ends) → length ws ≤ most_windows → nowhere ≡ first_in (bad_window nx ny) (windows_in ws)
+    → OnScreen most_side most_side ws
+on_screen {nx} {ny} shape ws few e = record { few = few; on = λ m h. wider shape (on-grid nx ny (window_no ws m) (good m h)) }
   where
-    good : Good s.count (λ m. bad_window nx ny (window_no s m))
-    good = first_good s.count _ (sym (in_table (bad_window nx ny) s.count (window_no s)) ∙ sym e ∙ rw (le-ltb k s.count past))
+    good : Good (length ws) (λ m. bad_window nx ny (window_no ws m))
+    good = first_good (length ws) _ (sym (in_table (bad_window nx ny) (length ws) (window_no ws)) ∙ sym e)
 
 pub record ScreenPassed (c : Call) (s : Screen) (grid support : ℕ) : Type 0 where
   pub handed : Handed c
@@ -162,7 +161,7 @@ module _ (c : Call) (s : Screen) (grid support : ℕ) where
       go : All (λ r. r ≡ accepted) column_rows → Shaped c.nx c.ny (length c.first_guess) × EqualScreen s
       go (more one (more two none)) = (shaped _ _ _ (not_refused 1 _ _ one), equal_screen s (not_refused 2 _ _ two))
 
-  pub columns_refused : {r : ℕ} → Coded r (in_order column_rows) → (r ≡ 0 → ⊥) → Coded r (screen_refusal c s grid support)
+  pub columns_refused : (r : Row) → row_of r ≡ in_order column_rows → row_of r ≡ screen_refusal c s grid support
   unfolding screen_refusal bad_screen bad_columns bad_scans from_five
   columns_refused = refused_before (screen_rows ++ from_six (asked c)) column_rows
 
@@ -186,5 +185,5 @@ module _ (c : Call) (s : Screen) (grid support : ℕ) where
               rest = past ∙ rest_decides (from_six (asked c)) screen_rows e;
             }
 
-    pub screen_refused : {r : ℕ} → Coded r (in_order screen_rows) → (r ≡ 0 → ⊥) → Coded r (screen_refusal c s grid support)
-    screen_refused h some = rw past (refused_before (from_six (asked c)) screen_rows h some)
+    pub screen_refused : (r : Row) → row_of r ≡ in_order screen_rows → row_of r ≡ screen_refusal c s grid support
+    screen_refused r h = rw past (refused_before (from_six (asked c)) screen_rows r h)

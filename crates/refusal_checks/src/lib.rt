@@ -1,15 +1,18 @@
-// Rows 6 to 8 of the refusal table (documents 01 and 02): the first bad entry of a plan, its buddy check, the first bad value of a first guess, row of the station list.
+// Rows 6 to 8 of the refusal table (documents 01 and 02): the first bad entry of a plan, its buddy check, the first bad value of a first guess, the first bad row of the station list.
 #![tactic(auto)]
 
-ghost use Rattle.std.specs.Prelude.{◌≡◌, not, ◌&&◌, ◌≤◌, ◌<◌, length};
-ghost use Rattle.lists.specs.Tab.{tab};
-ghost use Rattle.lists.specs.First.{first, first_in, ended};
-ghost use Rattle.scheme.specs.Units.{among_ℤ, within, most_value, is_missing, most_wind, is_no_wind, most_stations, most_scans};
+ghost use Rattle.std.specs.Prelude.{◌≡◌, ◌≤◌, ◌<◌, length};
+ghost use Rattle.lists.specs.First.{first, first_in};
+ghost use Rattle.scheme.specs.Units.{within, most_value, is_missing, most_wind, is_no_wind, most_scans};
 ghost use Rattle.scheme.specs.Refusals.{rising, bad_scan, bad_buddies, bad_guess, bad_wind, bad_station};
 ghost use Rattle.scheme.specs.Accepted.{Shaped};
-ghost use Rattle.request.specs.Tables.{station_of, station_in, plan_in};
+ghost use Rattle.request.specs.Tables.{station_of, stations_in, plan_in};
+ghost use Rattle.refusal_checks.specs.Found.{found_of};
+
+use request::{Station, Terms, Wind};
 
 // A missing observation.
+#[tactic(auto, using(crate::specs::Tested::mark_bits))]
 pub fn is_missing(v: i32) -> bool
     ensures { result ≡ is_missing v }
 {
@@ -17,131 +20,110 @@ pub fn is_missing(v: i32) -> bool
 }
 
 // A missing wind: both of its parts are.
-pub fn is_no_wind(u: i32, v: i32) -> bool
-    ensures { result ≡ is_no_wind (record { u = u; v = v }) }
+#[tactic(auto, unfolding(scheme::specs::Units::is_no_wind))]
+pub fn is_no_wind(w: Wind) -> bool
+    ensures { result ≡ is_no_wind (record { u = w.u; v = w.v }) }
 {
-    is_missing(u) & is_missing(v)
+    is_missing(w.u) & is_missing(w.v)
 }
 
-// Out of low..high, both included.
-fn outside(low: i32, high: i32, v: i32) -> bool
-    ensures { result ≡ not (among_ℤ low high v) }
+// A value, or a position, in range.
+fn is_value(v: i32) -> bool
+    ensures { result ≡ within most_value v }
 {
-    !((low <= v) & (v <= high))
+    (-1000000..=1000000).contains(&v)
 }
 
-// A value, or a position, out of range.
-fn value_bad(v: i32) -> bool
-    ensures { result ≡ not (within most_value v) }
+// A part of a wind in range.
+fn is_part(v: i32) -> bool
+    ensures { result ≡ within most_wind v }
 {
-    outside(-1000000, 1000000, v)
+    (-100..=100).contains(&v)
 }
 
 // A radius above the one before it.
-fn rises(t: request::Terms, m: usize) -> bool
+#[tactic(auto, using(crate::specs::Tested::rising_after), unfolding(scheme::specs::Refusals::rising))]
+fn rises(t: &Terms, m: usize) -> bool
     requires { m < most_scans }
-    ensures { result ≡ rising (plan_in t) m }
+    ensures { result ≡ rising (plan_in t.now) m }
 {
     if m == 0 {
         return false;
     }
-    t.radius[m - 1] < t.radius[m]
+    let before = t.entries[m - 1];
+    let here = t.entries[m];
+    before.radius < here.radius
 }
 
 // An entry of a plan: R out of range or rising, or E out of range.
-fn scan_bad(t: request::Terms, m: usize) -> bool
+#[tactic(auto, unfolding(scheme::specs::Refusals::bad_scan))]
+fn scan_bad(t: &Terms, m: usize) -> bool
     requires { m < most_scans }
-    ensures { result ≡ bad_scan (plan_in t) m }
+    ensures { result ≡ bad_scan (plan_in t.now) m }
 {
-    outside(1, 1024, t.radius[m]) | rises(t, m) | outside(0, 2000000, t.limit[m])
+    let entry = t.entries[m];
+    !(1..=1024).contains(&entry.radius) || rises(t, m) || !(0..=2000000).contains(&entry.limit)
 }
 
 // The buddy check, if it is on: B or L out of range.
-pub fn buddies_bad(t: request::Terms) -> bool
-    ensures { result ≡ bad_buddies (plan_in t) }
+#[tactic(auto, unfolding(scheme::specs::Refusals::bad_buddies))]
+pub fn buddies_bad(t: &Terms) -> bool
+    ensures { result ≡ bad_buddies (plan_in t.now) }
 {
-    t.buddy & (outside(1, 512, t.buddy_radius) | outside(0, 2000000, t.buddy_limit))
-}
-
-// A station's value out of range. The mark is none.
-fn reading_bad(v: i32) -> bool
-    ensures { result ≡ not (is_missing v) && not (within most_value v) }
-{
-    !is_missing(v) & value_bad(v)
-}
-
-// A part of a wind out of range.
-fn part_bad(v: i32) -> bool
-    ensures { result ≡ not (within most_wind v) }
-{
-    outside(-100, 100, v)
+    let check = t.buddies;
+    check.on & (!(1..=512).contains(&check.radius) | !(0..=2000000).contains(&check.limit))
 }
 
 // A wind out of range, or half missing.
-fn wind_bad(u: i32, v: i32) -> bool
-    ensures { result ≡ bad_wind (record { u = u; v = v }) }
+#[tactic(auto, unfolding(scheme::specs::Refusals::bad_wind))]
+fn wind_bad(w: Wind) -> bool
+    ensures { result ≡ bad_wind (record { u = w.u; v = w.v }) }
 {
-    !is_no_wind(u, v) & (part_bad(u) | part_bad(v))
+    !is_no_wind(w) & (!is_part(w.u) | !is_part(w.v))
 }
 
-// A row of the station list: its value or its position out of range, from not below until, or its wind.
-fn station_bad(numbers: [i32; 5], minutes: [u32; 3]) -> bool
-    ensures { result ≡ bad_station (station_of numbers minutes) }
+// A row of the station list: its value, which may be the mark, or its position out of range, from not below until, or its wind.
+#[tactic(auto, unfolding(scheme::specs::Refusals::bad_station))]
+fn station_bad(s: &Station) -> bool
+    ensures { result ≡ bad_station (station_of s.now) }
 {
-    reading_bad(numbers[request::VALUE])
-        | value_bad(numbers[request::X])
-        | value_bad(numbers[request::Y])
-        | (minutes[request::UNTIL] <= minutes[request::FROM])
-        | wind_bad(numbers[request::WIND_U], numbers[request::WIND_V])
+    (!is_missing(s.value) & !is_value(s.value))
+        | !is_value(s.x)
+        | !is_value(s.y)
+        | (s.until <= s.from)
+        | wind_bad(s.wind)
 }
 
-// The first bad entry of a plan, or its count.
-pub fn first_bad_scan(t: request::Terms) -> usize
-    requires { t.scans ≤ most_scans }
-    ensures { ended t.scans result ≡ first t.scans (bad_scan (plan_in t)) }
+// The first bad entry of a plan.
+pub fn first_bad_scan(t: &Terms) -> Option<usize>
+    requires { t.now.scans ≤ most_scans }
+    ensures { found_of result ≡ first t.now.scans (bad_scan (plan_in t.now)) }
 {
-    let mut m: usize = 0;
-    while m < t.scans {
-        if scan_bad(t, m) {
-            return m;
-        }
-        m += 1;
-    }
-    m
+    (0..t.scans).find(|m| scan_bad(t, *m))
 }
 
-// The first value of a first guess out of range, or its length.
-pub fn first_bad_guess(first_guess: &[i32], nx: usize, ny: usize) -> usize
+// The first value of a first guess out of range. The search for it stops there, from inside the rows and columns:
+// document 01 names this form, nested loops left by a labelled break that yields the place.
+pub fn first_bad_guess(first_guess: &[i32], nx: usize, ny: usize) -> Option<usize>
     requires { Shaped nx ny (length first_guess.now) }
-    ensures { ended (length first_guess.now) result ≡ first_in bad_guess first_guess.now }
+    ensures { found_of result ≡ first_in bad_guess first_guess.now }
 {
-    'search: loop {
-        let mut j: usize = 0;
-        while j < ny {
-            let mut i: usize = 0;
-            while i < nx {
-                if value_bad(first_guess[j * nx + i]) {
-                    break 'search j * nx + i;
+    'search: {
+        for j in 0..ny {
+            for i in 0..nx {
+                let value = first_guess[j * nx + i];
+                if !is_value(value) {
+                    break 'search Some(j * nx + i);
                 }
-                i += 1;
             }
-            j += 1;
         }
-        break 'search ny * nx;
+        None
     }
 }
 
-// The first bad row of the station list, or the count of rows.
-pub fn first_bad_station(numbers: &[[i32; 5]; 512], minutes: &[[u32; 3]; 512], n: usize) -> usize
-    requires { n ≤ most_stations }
-    ensures { ended n result ≡ first_in bad_station (tab n (station_in numbers.now minutes.now)) }
+// The first bad row of the station list.
+pub fn first_bad_station(stations: &[Station]) -> Option<usize>
+    ensures { found_of result ≡ first_in bad_station (stations_in stations.now) }
 {
-    let mut k: usize = 0;
-    while k < n {
-        if station_bad(numbers[k], minutes[k]) {
-            return k;
-        }
-        k += 1;
-    }
-    k
+    stations.iter().position(station_bad)
 }

@@ -1,3 +1,4 @@
--- The request that terms and tables hold, and that loading makes of a call what it asks. Proved.
+-- The request that terms, first guess and stations hold, what a call is lent, and that loading makes of it what it asks. Proved.
 pub mod Tables
+pub mod Lent
 pub mod Loaded

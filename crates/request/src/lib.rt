@@ -1,41 +1,23 @@
-// A request as it is handed on: its terms in one struct, its stations as rows of two tables, numbers and minutes; and a window, or the windows of a
-// screen. Each column that a call is lent is read here, once.
+// A request as it is handed on: its terms, its first guess and its stations; a window, or the windows of a screen; and a call as it is lent, by columns.
+// Each column of a call is read here, once.
 #![tactic(auto)]
 
-ghost use Rattle.std.specs.Prelude.{◌≡◌, true, [], ◌≤◌, length};
-ghost use Rattle.lists.specs.Tab.{tab};
-ghost use Rattle.lists.specs.Filled.{Filled};
-ghost use Rattle.scheme.specs.Units.{most_side, most_stations, stations_of, most_scans, B, L};
+ghost use Rattle.std.specs.Prelude.{◌≡◌, true, ◌+◌, ◌-◌, ◌≤◌, length, EachIndex, get_or};
+ghost use Rattle.scheme.specs.Units.{most_side, stations_of, most_scans, B, L};
 ghost use Rattle.scheme.specs.Refusals.{windows_of, points_of};
-ghost use Rattle.scheme.specs.Promises.{eight_columns, four_columns};
 ghost use Rattle.scheme.specs.Accepted.{Equal, Checked, OnGrid, EqualScreen};
-ghost use Rattle.request.specs.Tables.{station_in, plan_in, window_in, window_no, windows_in};
-ghost use Rattle.request.specs.Loaded.{First, Termed, numbers_at, minutes_at};
+ghost use Rattle.request.specs.Tables.{stations_in, no_entry, plan_in, window_in, windows_in};
+ghost use Rattle.request.specs.Lent.{columns_of, plan_of, call_of, screen_of};
+ghost use Rattle.request.specs.Loaded.{entry_at, Termed};
 
-// Places in a row of numbers.
-pub const X: usize = 0;
-
-pub const Y: usize = 1;
-
-pub const VALUE: usize = 2;
-
-pub const WIND_U: usize = 3;
-
-pub const WIND_V: usize = 4;
-
-// Places in a row of minutes.
-pub const OBSERVED: usize = 0;
-
-pub const FROM: usize = 1;
-
-pub const UNTIL: usize = 2;
-
-// The lowest i32 marks a missing observation, or wind, and until this minute means no end.
+// The lowest i32 marks a missing observation, or wind, and until this minute means no end. A station keeps its marks as they came and has no Options:
+// row 8 of the refusal table has still to read a wind that is half missing.
 pub const MISSING: i32 = -2147483648;
 
 pub const NO_END: u32 = 4294967295;
 
-// The round weight, and the one that is stretched along the wind.
+// The round weight, and the one that is stretched along the wind. Mode and rule stay numbers: `terms_of` promises those of any call, also of one that
+// row 5 refuses.
 pub const ROUND: u32 = 0;
 
 pub const ALONG_WIND: u32 = 1;
@@ -51,24 +33,103 @@ pub const MOST_WINDOWS: usize = 16;
 // The most scans of a plan, and the place of a refusal for its buddy check.
 pub const MOST_SCANS: usize = 6;
 
-// All of a request but its first guess and its stations' rows. Entries of radius and limit past the count of scans are not read.
+// ---- a request
+
+// A wind, by its two parts.
+#[derive(Clone, Copy)]
+pub struct Wind {
+    pub u: i32,
+    pub v: i32,
+}
+
+// A station of the list.
+#[derive(Clone, Copy)]
+pub struct Station {
+    pub x: i32,
+    pub y: i32,
+    pub value: i32,
+    pub observed: u32,
+    pub from: u32,
+    pub until: u32,
+    pub wind: Wind,
+}
+
+// What fills the room that stations are loaded into.
+pub const NO_STATION: Station = Station {
+    x: 0,
+    y: 0,
+    value: 0,
+    observed: 0,
+    from: 0,
+    until: 0,
+    wind: Wind { u: 0, v: 0 },
+};
+
+// A scan of a plan.
+#[derive(Clone, Copy)]
+pub struct Entry {
+    pub radius: i32,
+    pub limit: i32,
+}
+
+pub const NO_ENTRY: Entry = Entry {
+    radius: 0,
+    limit: 0,
+};
+
+// The buddy check of a plan. Off, it keeps what the call said and is no None, since a request is what its call asks, number for number (`UpToCount`).
+#[derive(Clone, Copy)]
+pub struct Buddies {
+    pub on: bool,
+    pub radius: i32,
+    pub limit: i32,
+}
+
+// All of a request but its first guess and its stations. Entries past the count of scans are not read: room of a fixed size, since there is no heap.
 #[derive(Clone, Copy)]
 pub struct Terms {
     pub nx: usize,
     pub ny: usize,
-    pub stations: usize,
     pub scans: usize,
-    pub radius: [i32; 6],
-    pub limit: [i32; 6],
+    pub entries: [Entry; 6],
     pub smooth: bool,
     pub mode: u32,
     pub rule: u32,
-    pub buddy: bool,
-    pub buddy_radius: i32,
-    pub buddy_limit: i32,
+    pub buddies: Buddies,
     pub time: u32,
     pub age: u32,
 }
+
+impl Terms {
+    // B, which is 0 where the buddy check is off.
+    pub fn buddy_radius(&self) -> u32
+        requires { self.now.buddies.on ≡ true → Checked (plan_in self.now) }
+        ensures { result ≡ B (plan_in self.now) }
+    {
+        if !self.buddies.on {
+            return 0;
+        }
+        self.buddies.radius as u32
+    }
+
+    // L, of a check that is on.
+    pub fn buddy_limit(&self) -> u32
+        requires { Checked (plan_in self.now) }
+        ensures { result ≡ L (plan_in self.now) }
+    {
+        self.buddies.limit as u32
+    }
+}
+
+// A request: what is lent is read where it stands.
+#[derive(Clone, Copy)]
+pub struct Request<'a> {
+    pub terms: Terms,
+    pub guess: &'a [i32],
+    pub stations: &'a [Station],
+}
+
+// ---- windows
 
 // A window's four ends, which are inside it.
 #[derive(Clone, Copy)]
@@ -79,184 +140,156 @@ pub struct Window {
     pub bottom: usize,
 }
 
-// The windows of a screen: the first so many of sixteen.
+// What fills the room that windows are loaded into.
+pub const NO_WINDOW: Window = Window {
+    left: 0,
+    right: 0,
+    top: 0,
+    bottom: 0,
+};
+
+impl Window {
+    // Its columns.
+    pub fn width(self) -> usize
+        requires { OnGrid most_side most_side (window_in self) }
+        ensures { result ≡ self.right - self.left + 1 }
+    {
+        self.right + 1 - self.left
+    }
+
+    // Its rows.
+    pub fn height(self) -> usize
+        requires { OnGrid most_side most_side (window_in self) }
+        ensures { result ≡ self.bottom - self.top + 1 }
+    {
+        self.bottom + 1 - self.top
+    }
+
+    // Its points.
+    pub fn points(self) -> usize
+        requires { OnGrid most_side most_side (window_in self) }
+        ensures { result ≡ points_of (window_in self) }
+    {
+        self.width() * self.height()
+    }
+}
+
+// ---- what a call is lent
+
+// Its stations, a column for each of their parts.
 #[derive(Clone, Copy)]
-pub struct Screen {
-    pub windows: [Window; 16],
-    pub count: usize,
+pub struct Columns<'a> {
+    pub x: &'a [i32],
+    pub y: &'a [i32],
+    pub value: &'a [i32],
+    pub observed: &'a [u32],
+    pub from: &'a [u32],
+    pub until: &'a [u32],
+    pub wind_u: &'a [i32],
+    pub wind_v: &'a [i32],
 }
 
-// ---- the terms
+// Its plan, with a column each for radii and limits.
+#[derive(Clone, Copy)]
+pub struct Plan<'a> {
+    pub scans: u32,
+    pub radius: &'a [i32],
+    pub limit: &'a [i32],
+    pub smooth: bool,
+    pub mode: u32,
+    pub rule: u32,
+    pub buddies: Buddies,
+}
 
-// The first n entries of a plan's column.
-fn first_entries(column: &[i32], n: usize) -> [i32; 6]
-    requires { (n ≤ most_scans) × (n ≤ length column.now) }
-    ensures { First n column.now result }
+// All that it asks.
+#[derive(Clone, Copy)]
+pub struct Call<'a> {
+    pub nx: u32,
+    pub ny: u32,
+    pub guess: &'a [i32],
+    pub stations: Columns<'a>,
+    pub plan: Plan<'a>,
+    pub time: u32,
+    pub age: u32,
+}
+
+// The windows of a screen, a column for each of their ends.
+#[derive(Clone, Copy)]
+pub struct Screen<'a> {
+    pub left: &'a [u32],
+    pub right: &'a [u32],
+    pub top: &'a [u32],
+    pub bottom: &'a [u32],
+}
+
+// The scans of a plan that has as many entries as it counts scans.
+fn load_entries(entries: &mut [Entry], plan: &Plan)
+    requires { (length entries.old ≡ plan.now.scans) × (plan.now.scans ≤ length plan.now.radius.now) × (plan.now.scans ≤ length plan.now.limit.now) }
+    ensures { EachIndex entries.new (λ m. get_or entries.new m no_entry ≡ entry_at (plan_of plan.now) m) }
 {
-    let mut entries = [0i32; 6];
-    let mut m: usize = 0;
-    while m < n {
-        entries[m] = column[m];
-        m += 1;
+    for (m, entry) in entries.iter_mut().enumerate() {
+        *entry = Entry {
+            radius: plan.radius[m],
+            limit: plan.limit[m],
+        };
     }
-    entries
 }
 
-// The terms of a call whose plan has as many entries as it counts scans.
-pub fn terms_of(
-    nx: u32,
-    ny: u32,
-    stations: usize,
-    scans: u32,
-    radius: &[i32],
-    limit: &[i32],
-    smooth: bool,
-    mode: u32,
-    rule: u32,
-    buddy: bool,
-    buddy_radius: i32,
-    buddy_limit: i32,
-    time: u32,
-    age: u32,
-) -> Terms
-    requires { (scans ≤ most_scans) × (scans ≤ length radius.now) × (scans ≤ length limit.now) }
-    ensures { Termed result nx ny stations (record { scans = scans; radius = radius.now; limit = limit.now; smooth = smooth; mode = mode; rule = rule; buddies = record { on = buddy; radius = buddy_radius; limit = buddy_limit } }) time age }
+// The terms of such a call.
+pub fn terms_of(call: &Call) -> Terms
+    requires { (call.now.plan.scans ≤ most_scans) × (call.now.plan.scans ≤ length call.now.plan.radius.now) × (call.now.plan.scans ≤ length call.now.plan.limit.now) }
+    ensures { Termed result (call_of call.now) }
 {
-    let radii = first_entries(radius, scans as usize);
-    let limits = first_entries(limit, scans as usize);
+    let plan = call.plan;
+    let scans = plan.scans as usize;
+    let mut entries = [NO_ENTRY; 6];
+    load_entries(&mut entries[..scans], &plan);
     Terms {
-        nx: nx as usize,
-        ny: ny as usize,
-        stations,
-        scans: scans as usize,
-        radius: radii,
-        limit: limits,
-        smooth,
-        mode,
-        rule,
-        buddy,
-        buddy_radius,
-        buddy_limit,
-        time,
-        age,
+        nx: call.nx as usize,
+        ny: call.ny as usize,
+        scans,
+        entries,
+        smooth: plan.smooth,
+        mode: plan.mode,
+        rule: plan.rule,
+        buddies: plan.buddies,
+        time: call.time,
+        age: call.age,
     }
 }
 
-// B, which is 0 where the buddy check is off.
-pub fn buddy_radius(t: Terms) -> u32
-    requires { t.buddy ≡ true → Checked (plan_in t) }
-    ensures { result ≡ B (plan_in t) }
+// The columns of a call, as stations.
+pub fn load(stations: &mut [Station], columns: &Columns)
+    requires { Equal (columns_of columns.now) × (length stations.old ≡ length columns.now.x.now) }
+    ensures { stations_in stations.new ≡ stations_of (columns_of columns.now) }
 {
-    if t.buddy { t.buddy_radius as u32 } else { 0 }
-}
-
-// L, of a check that is on.
-pub fn buddy_limit(t: Terms) -> u32
-    requires { Checked (plan_in t) }
-    ensures { result ≡ L (plan_in t) }
-{
-    t.buddy_limit as u32
-}
-
-// ---- the tables
-
-fn load_numbers(
-    numbers: &mut [[i32; 5]; 512],
-    x: &[i32],
-    y: &[i32],
-    value: &[i32],
-    wind_u: &[i32],
-    wind_v: &[i32],
-)
-    requires { (length x.now ≤ most_stations) × (length y.now ≡ length x.now) × (length value.now ≡ length x.now) × (length wind_u.now ≡ length x.now) × (length wind_v.now ≡ length x.now) × (length numbers.old ≡ most_stations) }
-    ensures { Filled [] (numbers_at x.now y.now value.now wind_u.now wind_v.now) 0 (length x.now) numbers.old numbers.new }
-{
-    let mut k: usize = 0;
-    while k < x.len() {
-        let row = [x[k], y[k], value[k], wind_u[k], wind_v[k]];
-        numbers[k] = row;
-        k += 1;
-    }
-}
-
-fn load_minutes(minutes: &mut [[u32; 3]; 512], observed: &[u32], from: &[u32], until: &[u32])
-    requires { (length observed.now ≤ most_stations) × (length from.now ≡ length observed.now) × (length until.now ≡ length observed.now) × (length minutes.old ≡ most_stations) }
-    ensures { Filled [] (minutes_at observed.now from.now until.now) 0 (length observed.now) minutes.old minutes.new }
-{
-    let mut k: usize = 0;
-    while k < observed.len() {
-        let row = [observed[k], from[k], until[k]];
-        minutes[k] = row;
-        k += 1;
-    }
-}
-
-// The columns of a call, as rows.
-pub fn load(
-    numbers: &mut [[i32; 5]; 512],
-    minutes: &mut [[u32; 3]; 512],
-    x: &[i32],
-    y: &[i32],
-    value: &[i32],
-    observed: &[u32],
-    from: &[u32],
-    until: &[u32],
-    wind_u: &[i32],
-    wind_v: &[i32],
-)
-    requires { Equal (eight_columns x.now y.now value.now observed.now from.now until.now wind_u.now wind_v.now) × (length numbers.old ≡ most_stations) × (length minutes.old ≡ most_stations) }
-    ensures { tab (length x.now) (station_in numbers.new minutes.new)
-        ≡ stations_of (eight_columns x.now y.now value.now observed.now from.now until.now wind_u.now wind_v.now) }
-{
-    load_numbers(numbers, x, y, value, wind_u, wind_v);
-    load_minutes(minutes, observed, from, until);
-}
-
-// ---- the windows of a screen
-
-// The points of a window.
-pub fn points_of(w: Window) -> usize
-    requires { OnGrid most_side most_side (window_in w) }
-    ensures { result ≡ points_of (window_in w) }
-{
-    (w.right - w.left + 1) * (w.bottom - w.top + 1)
-}
-
-// A screen of one window.
-pub fn alone(w: Window) -> Screen
-    ensures { (result.count ≡ 1) × (window_no result 0 ≡ window_in w) }
-{
-    Screen {
-        windows: [w; 16],
-        count: 1,
+    for (k, station) in stations.iter_mut().enumerate() {
+        *station = Station {
+            x: columns.x[k],
+            y: columns.y[k],
+            value: columns.value[k],
+            observed: columns.observed[k],
+            from: columns.from[k],
+            until: columns.until[k],
+            wind: Wind {
+                u: columns.wind_u[k],
+                v: columns.wind_v[k],
+            },
+        };
     }
 }
 
 // The columns of a screen, as windows.
-pub fn screen_of(left: &[u32], right: &[u32], top: &[u32], bottom: &[u32]) -> Screen
-    requires { EqualScreen (four_columns left.now right.now top.now bottom.now) }
-    ensures { windows_in result ≡ windows_of (four_columns left.now right.now top.now bottom.now) }
+pub fn load_windows(windows: &mut [Window], screen: &Screen)
+    requires { EqualScreen (screen_of screen.now) × (length windows.old ≡ length screen.now.left.now) }
+    ensures { windows_in windows.new ≡ windows_of (screen_of screen.now) }
 {
-    let none = Window {
-        left: 0,
-        right: 0,
-        top: 0,
-        bottom: 0,
-    };
-    let mut windows = [none; 16];
-    let mut k: usize = 0;
-    while k < left.len() {
-        let w = Window {
-            left: left[k] as usize,
-            right: right[k] as usize,
-            top: top[k] as usize,
-            bottom: bottom[k] as usize,
+    for (k, window) in windows.iter_mut().enumerate() {
+        *window = Window {
+            left: screen.left[k] as usize,
+            right: screen.right[k] as usize,
+            top: screen.top[k] as usize,
+            bottom: screen.bottom[k] as usize,
         };
-        windows[k] = w;
-        k += 1;
-    }
-    Screen {
-        windows,
-        count: left.len(),
     }
 }

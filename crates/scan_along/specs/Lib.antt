@@ -1,2 +1,2 @@
--- What the code of mode 1 gathers of the stations near a grid row, and what it computes from that. Proved.
+-- What the points of a grid row go by of a station's wind, and their sizes. Proved.
 pub mod Streak

@@ -1,23 +1,25 @@
 -- Cells of a side of B units, and of 128 at the least: the survivors within B of a station are in its own cell or the eight around it.
-use Rattle.std.specs.Prelude.{ℕ, ◌+◌, ◌-◌, ◌*◌, ◌/◌, ◌≤◌, ◌<◌, ◌≡◌, ◌⊎◌, true, cond, List, [], ltb, get_or, ℤ, pos, nat_abs, ◌+ℤ◌, ◌-ℤ◌}
+use Rattle.std.specs.Prelude.{ℕ, ◌+◌, ◌-◌, ◌*◌, ◌/◌, ◌≤◌, ◌<◌, ◌≡◌, ◌⊎◌, true, cond, List, max, length, get_or, ℤ, pos, nat_abs, ◌+ℤ◌, ◌-ℤ◌}
 use native.Mathlib.Omega.{arith}
 use Rattle.std.proofs.Common.{mul-le-mul, div-lt_iff_lt-mul, inl, inr}
-use Rattle.std.proofs.Math.Nat.{add-div_right}
-use borrow.Author.Tests.{ltb-true, ltb-false}
+use Rattle.std.proofs.Math.Nat.{add-div_right, le-max_left, le-max_right}
+use borrow.Author.Tests.{ltb-true}
 use Rattle.integers.specs.Parts.{up, dn, eq_parts, add_parts, size_parts}
 use Rattle.integers.specs.Sizes.{apart}
 use Rattle.integers.specs.Fractions.{whole_part_order}
-use Rattle.lists.specs.Tests.{lt_or_le, cond_both}
+use Rattle.lists.specs.Tests.{lt_or_le}
 use Rattle.lists.specs.Chains.{Chained}
-use Rattle.scheme.specs.Units.{most_stations, most_beyond}
+use Rattle.scheme.specs.Units.{Station, most_stations, most_beyond}
 use Rattle.scheme.specs.Verdicts.{is_accepted}
 use Rattle.scheme.specs.Weight.{inside}
-use Rattle.scan_buddies.specs.Aside.{x_of, y_of, OnAxis, AllStanding}
+use Rattle.request.specs.declared.Station.{Station as Row}
+use Rattle.request.specs.Tables.{station_in}
+use Rattle.scan_buddies.specs.Aside.{OnAxis, AllStanding}
 
 abbrev pub least_side : ℕ
 least_side = 128
 
--- cells of a row of cells, with a free one at each end; all cells; and the kinds of chains, since a row that is no survivor is in the chain of a
+-- cells of a row of cells, with a free one at each end; all cells; and the kinds of chains, since a station that is no survivor is in the chain of a
 -- cell that is none
 abbrev pub across : ℕ
 across = 38
@@ -29,7 +31,7 @@ abbrev pub kinds : ℕ
 kinds = cells + 1
 
 unfoldable pub side_of : (radius : ℕ) → ℕ
-side_of radius = cond (ltb radius least_side) least_side radius
+side_of radius = max radius least_side
 
 -- how far a position is from the least, -256
 abbrev pub offset : ℤ → ℕ
@@ -38,38 +40,37 @@ offset x = up x + most_beyond - dn x
 unfoldable pub cell_along : (side : ℕ) → ℤ → ℕ
 cell_along side x = offset x / side + 1
 
-unfoldable pub cell_of : (radius : ℕ) → List ℤ → ℕ
-cell_of radius row = cell_along (side_of radius) (y_of row) * across + cell_along (side_of radius) (x_of row)
+unfoldable pub cell_of : (radius : ℕ) → Station → ℕ
+cell_of radius s = cell_along (side_of radius) s.y * across + cell_along (side_of radius) s.x
 
-unfoldable pub cell_for : (radius verdict : ℕ) → List ℤ → ℕ
-cell_for radius verdict row = cond (is_accepted verdict) (cell_of radius row) cells
+unfoldable pub cell_for : (radius verdict : ℕ) → Station → ℕ
+cell_for radius verdict s = cond (is_accepted verdict) (cell_of radius s) cells
 
--- of row j
-abbrev pub cell_at : (radius : ℕ) (numbers : List (List ℤ)) (st : List ℕ) → ℕ → ℕ
-cell_at radius numbers st j = cell_for radius (get_or st j 0) (get_or numbers j [])
+-- of station j
+abbrev pub cell_at : (radius : ℕ) (stations : List Row) (st : List ℕ) → ℕ → ℕ
+cell_at radius stations st j = cell_for radius (get_or st j 0) (station_in stations j)
 
--- the survivors of n rows with these verdicts are in these chains
-pub record Survivors (radius : ℕ) (numbers : List (List ℤ)) (ds : List ℤ) (heads next : List ℕ) (n : ℕ) (st : List ℕ) : Type 0 where
-  pub few : n ≤ most_stations
-  pub standing : AllStanding numbers ds n st
-  pub chained : Chained (cell_at radius numbers st) kinds n heads next
+-- the survivors of the stations with these verdicts are in these chains
+pub record Survivors (radius : ℕ) (stations : List Row) (ds : List ℤ) (heads next : List ℕ) (st : List ℕ) : Type 0 where
+  pub few : length stations ≤ most_stations
+  pub standing : AllStanding stations ds st
+  pub chained : Chained (cell_at radius stations st) kinds (length stations) heads next
 
--- there are such rows
-pub record Chains (radius : ℕ) (numbers : List (List ℤ)) (ds : List ℤ) (heads next : List ℕ) : Type 0 where
-  pub n : ℕ
+-- there are such verdicts
+pub record Chains (radius : ℕ) (stations : List Row) (ds : List ℤ) (heads next : List ℕ) : Type 0 where
   pub st : List ℕ
-  pub survivors : Survivors radius numbers ds heads next n st
+  pub survivors : Survivors radius stations ds heads next st
 
 -- ---- laws
 
 module _ (radius : ℕ) where
   pub side_least : least_side ≤ side_of radius
   unfolding side_of
-  side_least = cond_both (λ (s : ℕ). least_side ≤ s) (ltb radius least_side) least_side radius (λ e. omega arith) (λ e. ltb-false radius least_side e)
+  side_least = le-max_right radius least_side
 
   pub side_wide : radius ≤ side_of radius
   unfolding side_of
-  side_wide = cond_both (λ (s : ℕ). radius ≤ s) (ltb radius least_side) least_side radius (λ e. omega (arith, ltb-true radius least_side e)) (λ e. omega arith)
+  side_wide = le-max_left radius least_side
 
 -- positions are small, and none is below -256
 pub axis_small : (x : ℤ) → OnAxis x → nat_abs x ≤ 4544

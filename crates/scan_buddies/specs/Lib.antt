@@ -4,3 +4,4 @@ pub mod Voices
 pub mod Cells
 pub mod Nine
 pub mod Walks
+pub mod Asked

@@ -1,28 +1,31 @@
 -- What a station hears of the survivors in its own cell and the eight around it is what it hears of all.
 use Prim.Native.Nat.{ℕ, ◌+◌, ◌*◌, ◌≤◌, ◌<◌}
 use Rattle.std.proofs.Common.{arith, ◌∙◌, inl, inr}
-use Rattle.std.specs.Prelude.{◌≡◌, refl, ◌⊎◌, Bool, true, false, List, [], eqb, get_or, ℤ, pos, ◌-ℤ◌}
-use Rattle.std.proofs.Math.Path.{ap}
+use Rattle.std.specs.Prelude.{◌≡◌, refl, ◌⊎◌, Bool, true, false, List, eqb, length, get_or, ℤ, pos, ◌-ℤ◌}
+use Rattle.std.proofs.Math.Path.{sym, ap}
 use Rattle.std.proofs.Math.Bool.{cond}
 use borrow.Author.Tests.{eqb-true, eq-eqb, ne_eqb, lt-ltb, le-ltb}
 use Rattle.lists.specs.Tests.{lt_or_le, true_or_false, cond_same, cond_both}
 use Rattle.lists.specs.Sums.{up_to, up_to_next, up_to_same, up_to_both}
+use Rattle.scheme.specs.Units.{Station}
 use Rattle.scheme.specs.Verdicts.{is_accepted}
 use Rattle.scheme.specs.Weight.{squares, inside}
 use Rattle.scheme.specs.Buddies.{Heard, silence, both}
 use Rattle.scheme.proofs.Adding.{silence_both, both_silence, both_assoc}
-use Rattle.scan_buddies.specs.Aside.{x_of, y_of, said, heard_at, OnAxis, Standing, AllStanding}
+use Rattle.request.specs.declared.Station.{Station as Row}
+use Rattle.request.specs.Tables.{station_in}
+use Rattle.scan_buddies.specs.Aside.{said, heard_at, OnAxis, Standing, AllStanding}
 use Rattle.scan_buddies.specs.Voices.{told, both_comm, OfAtMost, of_none, of_one, sum_of_most, between, from_cells, among_them, below_them, beyond_them}
 use Rattle.scan_buddies.specs.Cells.{across, cells, kinds, side_of, cell_along, cell_of, cell_for, cell_at, Survivors, side_least, side_wide, InRow, along_in_row, along_near, inside_axes}
 
--- row j is at distance below B from row k
-abbrev pub near : (radius : ℕ) (numbers : List (List ℤ)) (k j : ℕ) → Bool
-near radius numbers k j =
-    inside (radius * radius) (x_of (get_or numbers j []) -ℤ x_of (get_or numbers k [])) (y_of (get_or numbers j []) -ℤ y_of (get_or numbers k []))
+-- station j is at distance below B from station k
+abbrev pub near : (radius : ℕ) (stations : List Row) (k j : ℕ) → Bool
+near radius stations k j =
+    inside (radius * radius) ((station_in stations j).x -ℤ (station_in stations k).x) ((station_in stations j).y -ℤ (station_in stations k).y)
 
--- what row j says to row k if it is a survivor
-unfoldable pub voice : (radius : ℕ) (numbers : List (List ℤ)) (ds : List ℤ) (k j : ℕ) → Heard
-voice radius numbers ds k j = cond (eqb j k) silence (cond (near radius numbers k j) (told 1 (get_or ds j (pos 0))) silence)
+-- what station j says to station k if it is a survivor
+unfoldable pub voice : (radius : ℕ) (stations : List Row) (ds : List ℤ) (k j : ℕ) → Heard
+voice radius stations ds k j = cond (eqb j k) silence (cond (near radius stations k j) (told 1 (get_or ds j (pos 0))) silence)
 
 -- the three cells from one on, and so many such rows of cells
 abbrev pub three : (cell : ℕ → ℕ) (n first : ℕ) → (ℕ → Heard) → Heard
@@ -52,45 +55,49 @@ pub rows_next : (cell : ℕ → ℕ) (n first rows : ℕ) (f : ℕ → Heard) �
 unfolding rows_of
 rows_next cell n first rows f = up_to_next silence both rows (λ r. three cell n (first + r * across) f)
 
-module _ (radius : ℕ) (numbers : List (List ℤ)) (ds : List ℤ) (k : ℕ) where
-  pub voice_small : (j : ℕ) {row : List ℤ} → Standing row (get_or ds j (pos 0)) → OfAtMost 1 (voice radius numbers ds k j)
+module _ (radius : ℕ) (stations : List Row) (ds : List ℤ) (k : ℕ) where
+  pub voice_small : (j : ℕ) {row : Station} → Standing row (get_or ds j (pos 0)) → OfAtMost 1 (voice radius stations ds k j)
   unfolding voice
   voice_small j s =
       cond_both (OfAtMost 1) (eqb j k) silence _ (λ e. of_none 1)
-      (λ e. cond_both (OfAtMost 1) (near radius numbers k j) (told 1 (get_or ds j (pos 0))) silence (λ e. of_one (get_or ds j (pos 0)) s.d_small) (λ e. of_none 1))
+      (λ e. cond_both (OfAtMost 1) (near radius stations k j) (told 1 (get_or ds j (pos 0))) silence (λ e. of_one (get_or ds j (pos 0)) s.d_small) (λ e. of_none 1))
 
-  pub voice_itself : (j : ℕ) → j ≡ k → voice radius numbers ds k j ≡ silence
+  pub voice_itself : (j : ℕ) → j ≡ k → voice radius stations ds k j ≡ silence
   unfolding voice
   voice_itself j e = rw (eq-eqb j k e)
 
   -- by the squared distance
-  module _ (j d2 : ℕ) (other : j ≡ k → ⊥) (is : d2 ≡ squares (x_of (get_or numbers j []) -ℤ x_of (get_or numbers k [])) (y_of (get_or numbers j []) -ℤ y_of (get_or numbers k []))) where
-    pub voice_far : radius * radius ≤ d2 → voice radius numbers ds k j ≡ silence
+  module _ (j d2 : ℕ) (other : j ≡ k → ⊥) (is : d2 ≡ squares ((station_in stations j).x -ℤ (station_in stations k).x) ((station_in stations j).y -ℤ (station_in stations k).y)) where
+    pub voice_far : radius * radius ≤ d2 → voice radius stations ds k j ≡ silence
     unfolding voice
     voice_far h = rw (ne_eqb j k other, ← is, le-ltb d2 (radius * radius) h)
 
-    pub voice_near : d2 < radius * radius → voice radius numbers ds k j ≡ told 1 (get_or ds j (pos 0))
+    pub voice_near : d2 < radius * radius → voice radius stations ds k j ≡ told 1 (get_or ds j (pos 0))
     unfolding voice
     voice_near h = rw (ne_eqb j k other, ← is, lt-ltb d2 (radius * radius) h)
 
-  survivor_says : (st : List ℕ) (j : ℕ) → is_accepted (get_or st j 0) ≡ true → said radius numbers st ds k j ≡ voice radius numbers ds k j
+  survivor_says : (st : List ℕ) (j : ℕ) → is_accepted (get_or st j 0) ≡ true → said radius stations st ds k j ≡ voice radius stations ds k j
   unfolding said voice
   survivor_says st j e = rw e
 
-  other_says : (st : List ℕ) (j : ℕ) → is_accepted (get_or st j 0) ≡ false → said radius numbers st ds k j ≡ silence
+  other_says : (st : List ℕ) (j : ℕ) → is_accepted (get_or st j 0) ≡ false → said radius stations st ds k j ≡ silence
   unfolding said
   other_says st j e = rw e (cond_same (eqb j k) silence silence silence (λ e. refl) (λ e. refl))
 
-  said_small : (st : List ℕ) (j : ℕ) → (get_or st j 0 ≡ 0 → Standing (get_or numbers j []) (get_or ds j (pos 0))) → OfAtMost 1 (said radius numbers st ds k j)
+  said_small : (st : List ℕ) (j : ℕ) → (get_or st j 0 ≡ 0 → Standing (station_in stations j) (get_or ds j (pos 0))) → OfAtMost 1 (said radius stations st ds k j)
   said_small st j h = go (true_or_false (is_accepted (get_or st j 0)))
     where
-      go : (is_accepted (get_or st j 0) ≡ true) ⊎ (is_accepted (get_or st j 0) ≡ false) → OfAtMost 1 (said radius numbers st ds k j)
+      go : (is_accepted (get_or st j 0) ≡ true) ⊎ (is_accepted (get_or st j 0) ≡ false) → OfAtMost 1 (said radius stations st ds k j)
       go (inl e) = rw (survivor_says st j e) (voice_small j (h (eqb-true (get_or st j 0) 0 e)))
       go (inr e) = rw (other_says st j e) (of_none 1)
 
-  pub heard_few : (st : List ℕ) (n : ℕ) → AllStanding numbers ds n st → OfAtMost n (heard_at radius numbers st ds n k)
+  pub heard_few : (st : List ℕ) → AllStanding stations ds st → OfAtMost (length stations) (heard_at radius stations st ds k)
   unfolding heard_at
-  heard_few st n h = sum_of_most n (said radius numbers st ds k) (λ j l. said_small st j (h j l))
+  heard_few st h = sum_of_most (length stations) (said radius stations st ds k) (λ j l. said_small st j (h j l))
+
+-- one that says nothing
+pub unheard : (before said : Heard) → said ≡ silence → before ≡ both before said
+unheard before said e = rw e (sym (both_silence before))
 
 -- in one of three rows of cells, from b on
 abbrev in_rows : (b a : ℕ) → Heard → Heard
@@ -146,96 +153,99 @@ pub record Framed (c : ℕ) : Type 0 where
   pub least : across + 1 ≤ c
   pub most : c + across + 2 ≤ cells
 
-pub cell_framed : (radius : ℕ) (row : List ℤ) → OnAxis (x_of row) → OnAxis (y_of row) → Framed (cell_of radius row)
+pub cell_framed : (radius : ℕ) (s : Station) → OnAxis s.x → OnAxis s.y → Framed (cell_of radius s)
 unfolding cell_of
-cell_framed radius row on on' =
-    let x = along_in_row (side_of radius) (side_least radius) (x_of row) on in
-    let y = along_in_row (side_of radius) (side_least radius) (y_of row) on' in
+cell_framed radius s on on' =
+    let x = along_in_row (side_of radius) (side_least radius) s.x on in
+    let y = along_in_row (side_of radius) (side_least radius) s.y on' in
     record { least = omega (arith, x.some, y.some); most = omega (arith, x.most, y.most) }
 
--- every row's chain is one of the chains
-pub cell_of_kinds : (radius verdict : ℕ) (row : List ℤ) → (verdict ≡ 0 → OnAxis (x_of row) × OnAxis (y_of row)) → cell_for radius verdict row < kinds
+-- every station's chain is one of the chains
+pub cell_of_kinds : (radius verdict : ℕ) (s : Station) → (verdict ≡ 0 → OnAxis s.x × OnAxis s.y) → cell_for radius verdict s < kinds
 unfolding cell_for
-cell_of_kinds radius verdict row h =
-    cond_both (λ (c : ℕ). c < kinds) (is_accepted verdict) (cell_of radius row) cells
-    (λ e. let (on, on') = h (eqb-true verdict 0 e) in omega (arith, (cell_framed radius row on on').most)) (λ e. omega arith)
+cell_of_kinds radius verdict s h =
+    cond_both (λ (c : ℕ). c < kinds) (is_accepted verdict) (cell_of radius s) cells
+    (λ e. let (on, on') = h (eqb-true verdict 0 e) in omega (arith, (cell_framed radius s on on').most)) (λ e. omega arith)
 
--- the cell of row j, by its verdict
-module _ (radius : ℕ) (numbers : List (List ℤ)) (st : List ℕ) (j : ℕ) where
-  pub survivor_cell : is_accepted (get_or st j 0) ≡ true → cell_at radius numbers st j ≡ cell_of radius (get_or numbers j [])
+-- the cell of station j, by its verdict
+module _ (radius : ℕ) (stations : List Row) (st : List ℕ) (j : ℕ) where
+  pub survivor_cell : is_accepted (get_or st j 0) ≡ true → cell_at radius stations st j ≡ cell_of radius (station_in stations j)
   unfolding cell_for
   survivor_cell e = rw e
 
-  pub other_cell : is_accepted (get_or st j 0) ≡ false → cell_at radius numbers st j ≡ cells
+  pub other_cell : is_accepted (get_or st j 0) ≡ false → cell_at radius stations st j ≡ cells
   unfolding cell_for
   other_cell e = rw e
 
-  pub in_cell : cell_at radius numbers st j < cells → get_or st j 0 ≡ 0
+  pub in_cell : cell_at radius stations st j < cells → get_or st j 0 ≡ 0
   in_cell h = go (true_or_false (is_accepted (get_or st j 0)))
     where
       go : (is_accepted (get_or st j 0) ≡ true) ⊎ (is_accepted (get_or st j 0) ≡ false) → get_or st j 0 ≡ 0
       go (inl e) = eqb-true (get_or st j 0) 0 e
       go (inr e) = absurd (omega (arith, other_cell e))
 
-module _ (radius : ℕ) (numbers : List (List ℤ)) (ds : List ℤ) (heads next : List ℕ) (n : ℕ) (st : List ℕ) (s : Survivors radius numbers ds heads next n st)
-    (k : ℕ) (here : Standing (get_or numbers k []) (get_or ds k (pos 0))) (b : ℕ) (first : b + across + 1 ≡ cell_of radius (get_or numbers k [])) where
-  abbrev row : List ℤ
-  row = get_or numbers k []
+module _ (radius : ℕ) (stations : List Row) (ds : List ℤ) (heads next : List ℕ) (st : List ℕ) (s : Survivors radius stations ds heads next st)
+    (k : ℕ) (here : Standing (station_in stations k) (get_or ds k (pos 0))) (b : ℕ) (first : b + across + 1 ≡ cell_of radius (station_in stations k)) where
+  abbrev n : ℕ
+  n = length stations
+
+  abbrev itself : Station
+  itself = station_in stations k
 
   abbrev v : ℕ → Heard
-  v = voice radius numbers ds k
+  v = voice radius stations ds k
 
   -- a survivor outside the radius, or the station itself, says nothing wherever it is
-  silent : (j : ℕ) → v j ≡ silence → in_rows b (cell_of radius (get_or numbers j [])) (v j) ≡ v j
-  silent j e = rw e (none_in_rows b (cell_of radius (get_or numbers j [])))
+  silent : (j : ℕ) → v j ≡ silence → in_rows b (cell_of radius (station_in stations j)) (v j) ≡ v j
+  silent j e = rw e (none_in_rows b (cell_of radius (station_in stations j)))
 
-  heard_near : (j : ℕ) → Standing (get_or numbers j []) (get_or ds j (pos 0)) → near radius numbers k j ≡ true → in_rows b (cell_of radius (get_or numbers j [])) (v j) ≡ v j
+  heard_near : (j : ℕ) → Standing (station_in stations j) (get_or ds j (pos 0)) → near radius stations k j ≡ true → in_rows b (cell_of radius (station_in stations j)) (v j) ≡ v j
   heard_near j there e =
-      let other = get_or numbers j [] in
+      let other = station_in stations j in
       let side = side_of radius in
       let wide = side_least radius in
-      let (dx, dy) = inside_axes radius (x_of other -ℤ x_of row) (y_of other -ℤ y_of row) e in
-      near_in_rows (cell_along side (x_of row)) (cell_along side (y_of row)) (cell_along side (x_of other)) (cell_along side (y_of other)) b (cell_of radius other) (v j)
-      (along_in_row side wide (x_of row) here.x) (along_in_row side wide (x_of other) there.x) first_is (unfold cell_of in refl)
-      (along_near side wide (x_of other) (x_of row) there.x here.x (omega (arith, side_wide radius)))
-      (along_near side wide (y_of other) (y_of row) there.y here.y (omega (arith, side_wide radius)))
+      let (dx, dy) = inside_axes radius (other.x -ℤ itself.x) (other.y -ℤ itself.y) e in
+      near_in_rows (cell_along side itself.x) (cell_along side itself.y) (cell_along side other.x) (cell_along side other.y) b (cell_of radius other) (v j)
+      (along_in_row side wide itself.x here.x) (along_in_row side wide other.x there.x) first_is (unfold cell_of in refl)
+      (along_near side wide other.x itself.x there.x here.x (omega (arith, side_wide radius)))
+      (along_near side wide other.y itself.y there.y here.y (omega (arith, side_wide radius)))
     where
-      first_is : b + across + 1 ≡ cell_along (side_of radius) (y_of row) * across + cell_along (side_of radius) (x_of row)
+      first_is : b + across + 1 ≡ cell_along (side_of radius) itself.y * across + cell_along (side_of radius) itself.x
       first_is = unfold cell_of in first
 
-  survivor_heard : (j : ℕ) → Standing (get_or numbers j []) (get_or ds j (pos 0)) → in_rows b (cell_of radius (get_or numbers j [])) (v j) ≡ v j
-  survivor_heard j there = go (true_or_false (eqb j k)) (true_or_false (near radius numbers k j))
+  survivor_heard : (j : ℕ) → Standing (station_in stations j) (get_or ds j (pos 0)) → in_rows b (cell_of radius (station_in stations j)) (v j) ≡ v j
+  survivor_heard j there = go (true_or_false (eqb j k)) (true_or_false (near radius stations k j))
     where
-      itself : eqb j k ≡ true → v j ≡ silence
-      itself e = unfold voice in rw e
+      same : eqb j k ≡ true → v j ≡ silence
+      same e = unfold voice in rw e
 
-      outside : eqb j k ≡ false → near radius numbers k j ≡ false → v j ≡ silence
+      outside : eqb j k ≡ false → near radius stations k j ≡ false → v j ≡ silence
       outside e o = unfold voice in rw (e, o)
 
-      go : (eqb j k ≡ true) ⊎ (eqb j k ≡ false) → (near radius numbers k j ≡ true) ⊎ (near radius numbers k j ≡ false) → in_rows b (cell_of radius (get_or numbers j [])) (v j) ≡ v j
-      go (inl e) q = silent j (itself e)
+      go : (eqb j k ≡ true) ⊎ (eqb j k ≡ false) → (near radius stations k j ≡ true) ⊎ (near radius stations k j ≡ false) → in_rows b (cell_of radius (station_in stations j)) (v j) ≡ v j
+      go (inl e) q = silent j (same e)
       go (inr e) (inl q) = heard_near j there q
       go (inr e) (inr q) = silent j (outside e q)
 
-  row_heard : (j : ℕ) → j < n → in_rows b (cell_at radius numbers st j) (v j) ≡ said radius numbers st ds k j
-  row_heard j l = go (true_or_false (is_accepted (get_or st j 0)))
+  station_heard : (j : ℕ) → j < n → in_rows b (cell_at radius stations st j) (v j) ≡ said radius stations st ds k j
+  station_heard j l = go (true_or_false (is_accepted (get_or st j 0)))
     where
-      go : (is_accepted (get_or st j 0) ≡ true) ⊎ (is_accepted (get_or st j 0) ≡ false) → in_rows b (cell_at radius numbers st j) (v j) ≡ said radius numbers st ds k j
+      go : (is_accepted (get_or st j 0) ≡ true) ⊎ (is_accepted (get_or st j 0) ≡ false) → in_rows b (cell_at radius stations st j) (v j) ≡ said radius stations st ds k j
       go (inl e) =
-          rw (survivor_cell radius numbers st j e, survivor_says radius numbers ds k st j e)
+          rw (survivor_cell radius stations st j e, survivor_says radius stations ds k st j e)
           (survivor_heard j (s.standing j l (eqb-true (get_or st j 0) 0 e)))
       go (inr e) =
-          rw (other_cell radius numbers st j e, other_says radius numbers ds k st j e)
-          (past_rows b cells (v j) (omega (arith, first, (cell_framed radius row here.x here.y).most)))
+          rw (other_cell radius stations st j e, other_says radius stations ds k st j e)
+          (past_rows b cells (v j) (omega (arith, first, (cell_framed radius itself here.x here.y).most)))
 
-  pub nine_are_all : rows_of (cell_at radius numbers st) n b 3 v ≡ heard_at radius numbers st ds n k
+  pub nine_are_all : rows_of (cell_at radius stations st) n b 3 v ≡ heard_at radius stations st ds k
   unfolding from_cells heard_at
   nine_are_all =
-      let at = cell_at radius numbers st in
+      let at = cell_at radius stations st in
       let one : ℕ → Heard = λ j. cond (between b (b + 3) (at j)) (v j) silence in
       let two : ℕ → Heard = λ j. cond (between (b + across) (b + across + 3) (at j)) (v j) silence in
       let third : ℕ → Heard = λ j. cond (between (b + 2 * across) (b + 2 * across + 3) (at j)) (v j) silence in
       three_rows at n b v
       ∙ ap (λ (h : Heard). both h (up_to silence both n third)) (up_to_both silence both silence_both both_assoc both_comm n one two)
       ∙ up_to_both silence both silence_both both_assoc both_comm n (λ j. both (one j) (two j)) third
-      ∙ up_to_same silence both n _ (said radius numbers st ds k) row_heard
+      ∙ up_to_same silence both n _ (said radius stations st ds k) station_heard

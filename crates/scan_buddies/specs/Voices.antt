@@ -19,7 +19,7 @@ told n s = record { count = n; sum = s }
 pub both_comm : (a b : Heard) → both a b ≡ both b a
 both_comm a b = ap₂ told (add_comm a.count b.count) (+ℤ_comm a.sum b.sum)
 
--- ---- of at most n rows
+-- ---- of at most n stations
 
 pub record OfAtMost (n : ℕ) (h : Heard) : Type 0 where
   pub few : h.count ≤ n

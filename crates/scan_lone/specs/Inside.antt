@@ -1,51 +1,55 @@
--- The stations near a grid row that are inside the radius, by two lists: of each its position along the row, and its squared distance to it.
-use Rattle.std.specs.Prelude.{ℕ, ◌+◌, ◌*◌, ◌≤◌, ◌≡◌, cond, List, ltb, get_or, ℤ, pos, nat_abs, ◌-ℤ◌}
-use Rattle.std.proofs.Common.{arith, sym, ap, subst, ◌∙◌}
-use Rattle.lists.specs.Tests.{cond_both}
-use Rattle.lists.specs.Sums.{up_to, up_to_next}
+-- The stations near a grid row that are inside the radius at one of its points.
+use Rattle.std.specs.Prelude.{ℕ, ◌+◌, ◌-◌, ◌*◌, ◌≤◌, ◌≡◌, refl, Bool, cond, List, [], ◌∷◌, length, ltb, get_or, take, drop, sum_by, count_by, pos, nat_abs, ◌-ℤ◌}
+use Rattle.std.proofs.Common.{arith, sym, ap, ◌∙◌}
+use Rattle.std.proofs.lemmas.List.Sums.{sum_by-cons}
+use Rattle.std.proofs.Math.Seq.{take-length}
+use Rattle.lists.specs.Sums.{up_to, front}
 use Rattle.scheme.specs.Units.{step}
 use Rattle.scheme.specs.Weight.{square}
 use Rattle.scheme.specs.Most.{most_along, most_square}
+use Rattle.scan_along.specs.Streak.{still}
+use Rattle.scan_lone.specs.declared.Near.{Near}
+
+-- where there is none
+abbrev pub nobody : Near
+nobody = record { x = pos 0; gap = 0; d = pos 0; streak = still }
+
+-- the squared distance to the point in column i
+abbrev pub distance : Near → ℕ → ℕ
+distance s i = square (s.x -ℤ pos (step * i)) + s.gap
+
+pub record Placed (s : Near) : Type 0 where
+  pub x_small : nat_abs s.x ≤ most_along
+  pub y_small : s.gap ≤ most_square
 
 -- 1 for an entry that is inside at column i, and else 0
+unfoldable pub inside_in : (near : List Near) (r2 i t : ℕ) → ℕ
+inside_in near r2 i t = cond (ltb (distance (get_or near t nobody) i) r2) 1 0
 
-unfoldable pub inside_in : (lx : List ℤ) (ly : List ℕ) (r2 i t : ℕ) → ℕ
-inside_in lx ly r2 i t = cond (ltb (square (get_or lx t (pos 0) -ℤ pos (step * i)) + get_or ly t 0) r2) 1 0
+-- a sum over a list is one over its index
+sum_at : (f : Near → ℕ) (xs : List Near) → sum_by f xs ≡ up_to 0 ◌+◌ (length xs) (λ t. f (get_or xs t nobody))
+sum_at f [] = unfold up_to in refl
+sum_at f (x ∷ xs) =
+    sum_by-cons f x xs
+    ∙ ap (λ (n : ℕ). f x + n) (sum_at f xs)
+    ∙ sym (front 0 ◌+◌ (λ t. omega arith) (λ t. omega arith) (λ a b c. omega arith) (length xs) (λ t. f (get_or (x ∷ xs) t nobody)))
 
-pub inside_once : (lx : List ℤ) (ly : List ℕ) (r2 i t : ℕ) → inside_in lx ly r2 i t ≤ 1
+-- how many are inside
+pub inside_counted : (near : List Near) (r2 i : ℕ) → count_by (λ s. ltb (distance s i) r2) near ≡ up_to 0 ◌+◌ (length near) (inside_in near r2 i)
 unfolding inside_in
-inside_once lx ly r2 i t = cond_both (λ (n : ℕ). n ≤ 1) (ltb (square (get_or lx t (pos 0) -ℤ pos (step * i)) + get_or ly t 0) r2) 1 0 (λ e. omega arith) (λ e. omega arith)
+inside_counted near r2 i = sum_at (λ s. cond (ltb (distance s i) r2) 1 0) near
 
--- so many of the entries from t up to n, as a loop from the last to the first counts them
-pub record Counted (f : ℕ → ℕ) (n t count : ℕ) : Type 0 where
-  pub no_more : t ≤ n
-  pub few : count + t ≤ n
-  pub sum : up_to 0 ◌+◌ n f ≡ up_to 0 ◌+◌ t f + count
+-- a count, four in a turn
+abbrev pub one : (Near → Bool) → Near → ℕ
+one p s = cond (p s) 1 0
 
-pub counted_none : (f : ℕ → ℕ) (n : ℕ) → Counted f n n 0
-counted_none f n = record { no_more = omega arith; few = omega arith; sum = omega arith }
-
--- one more, at s
-pub counted_next : (f : ℕ → ℕ) {n t count : ℕ} (s : ℕ) {one : ℕ} → s + 1 ≡ t → f s ≤ 1 → one ≡ f s → Counted f n t count → Counted f n s (count + one)
-counted_next f {t = t} s next slight e c =
-    let last : up_to 0 ◌+◌ t f ≡ up_to 0 ◌+◌ s f + f s = ap (λ (k : ℕ). up_to 0 ◌+◌ k f) (sym next) ∙ up_to_next 0 ◌+◌ s f in
-    record { no_more = omega (arith, c.no_more); few = omega (arith, c.few, e); sum = omega (arith, c.sum, last, e) }
-
-pub counted_one : (f : ℕ → ℕ) {t : ℕ} (s : ℕ) {one : ℕ} → s + 1 ≡ t → f s ≤ 1 → one ≡ f s → Counted f t s one
-counted_one f {t = t} s {one = one} next slight e =
-    let none : 0 + one ≡ one = omega arith in
-    subst (Counted f t s) none (counted_next f s next slight e (counted_none f t))
-
--- some, and then others
-pub counted_join : (f : ℕ → ℕ) {n t s count more : ℕ} → Counted f n t count → Counted f t s more → Counted f n s (count + more)
-counted_join f c d =
-    record { no_more = omega (arith, c.no_more, d.no_more); few = omega (arith, c.few, d.few); sum = omega (arith, c.sum, d.sum) }
-
--- all
-pub counted_all : (f : ℕ → ℕ) {n count : ℕ} → Counted f n 0 count → count ≡ up_to 0 ◌+◌ n f
-unfolding up_to
-counted_all f c = omega (arith, c.sum)
-
-pub record Placed (lx : List ℤ) (ly : List ℕ) (t : ℕ) : Type 0 where
-  pub x_small : nat_abs (get_or lx t (pos 0)) ≤ most_along
-  pub y_small : get_or ly t 0 ≤ most_square
+pub count_four : (p : Near → Bool) (rest : List Near) → 4 ≤ length rest
+    → count_by p rest ≡ one p (get_or rest 0 nobody) + one p (get_or rest 1 nobody) + one p (get_or rest 2 nobody) + one p (get_or rest 3 nobody) + count_by p (take (length rest - 4) (drop 4 rest))
+count_four p [] h = absurd (omega arith)
+count_four p (a ∷ []) h = absurd (omega arith)
+count_four p (a ∷ b ∷ []) h = absurd (omega arith)
+count_four p (a ∷ b ∷ c ∷ []) h = absurd (omega arith)
+count_four p (a ∷ b ∷ c ∷ d ∷ xs) h =
+    let e : length (a ∷ b ∷ c ∷ d ∷ xs) - 4 ≡ length xs = omega arith in
+    rw (e, take-length xs)
+    (omega (arith, sum_by-cons (one p) a (b ∷ c ∷ d ∷ xs), sum_by-cons (one p) b (c ∷ d ∷ xs), sum_by-cons (one p) c (d ∷ xs), sum_by-cons (one p) d xs))

@@ -1,3 +1,3 @@
--- What the code of rule 2 computes, on plain lists and numbers. Proved.
+-- A station near a grid row, and what the code of rule 2 computes of those near it. Proved.
 pub mod Inside
 pub mod Divides

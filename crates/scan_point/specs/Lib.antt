@@ -1,4 +1,4 @@
--- What the code of a correction computes, on plain columns and stored grids. Proved.
+-- What the code of a correction computes, on plain lists and stored grids. Proved.
 pub mod Near
-pub mod Round
+pub mod Entries
 pub mod Pass

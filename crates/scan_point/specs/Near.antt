@@ -1,13 +1,10 @@
--- The stations near a grid row, gathered in lists: those left out give nothing to its points, and sums over the others are small. What an entry of
--- the lists gives to the point in column i is any function here, so that nothing goes by a mode.
+-- The stations near a grid row, gathered in a list: those left out give nothing to its points, and sums over the others are small. What an entry of
+-- the list gives to the point in column i is any function here, so that nothing goes by a mode.
 use Prim.Native.Nat.{ℕ, zero, suc, ◌+◌, ◌*◌, ◌≤◌, ◌<◌}
 use native.Mathlib.Omega.{arith}
 use Rattle.std.proofs.Common.{add-zero, ap, ◌∙◌, inl, inr, lt-ltb, le-ltb, eqb-true}
-use Rattle.std.proofs.Math.Nat.{zero-add}
-use Rattle.std.specs.Prelude.{◌≡◌, ◌⊎◌, Bool, true, false, cond, List, [], ltb, length, get_or, ℤ, pos, nat_abs, ◌+ℤ◌, ◌-ℤ◌}
+use Rattle.std.specs.Prelude.{◌≡◌, ◌⊎◌, Bool, true, false, cond, List, ltb, length, get_or, ℤ, pos, nat_abs, ◌+ℤ◌, ◌-ℤ◌}
 use Rattle.std.proofs.Math.Path.{refl, sym}
-use Rattle.std.proofs.Math.IntN.{+ℤ_idl, +ℤ_idr, +ℤ_assoc, +ℤ_comm}
-use Rattle.integers.specs.Sizes.{size_add}
 use Rattle.lists.specs.Tests.{lt_or_le, cond_both}
 use Rattle.lists.specs.Sums.{up_to, up_to_next, up_to_same}
 use Rattle.scheme.specs.Units.{step, Wind, is_no_wind, most_stations, most_limit}
@@ -16,36 +13,35 @@ use Rattle.scheme.specs.Weight.{scale, square}
 use Rattle.scheme.specs.Correction.{Sums, nothing, plus, gift}
 use Rattle.scheme.specs.Most.{most_along}
 use Rattle.scheme.specs.Streaks.{Fair}
+use Rattle.request.specs.declared.Station.{Station as Row}
+use Rattle.request.specs.Tables.{no_row}
+use Rattle.scan_along.specs.Streak.{wind_in}
 use Rattle.scheme.specs.Gifts.{weighed, Modest}
 use Rattle.scheme.proofs.Gifts.{modest_nothing, modest_plus, modest_weighed, gift_outside, gift_modest}
 use Rattle.scheme.proofs.Adding.{plus_nothing}
 
 -- ---- from all the stations: what the one of row k gives to point (i, j)
 
--- what a correction reads: the mode; of the stations how many, their rows of numbers, verdicts and differences
+-- what a correction reads: the mode; of the stations how many, their rows, verdicts and differences
 pub record Stations : Type 0 where
   pub mode : ℕ
   pub count : ℕ
-  pub numbers : List (List ℤ)
+  pub rows : List Row
   pub verdict : List ℕ
   pub d : List ℤ
 
-abbrev pub stations_with : (mode count : ℕ) → List (List ℤ) → List ℕ → List ℤ → Stations
-stations_with mode count numbers verdict d = record { mode = mode; count = count; numbers = numbers; verdict = verdict; d = d }
-
--- the wind of a row of numbers
-abbrev pub wind_in : List ℤ → Wind
-wind_in row = record { u = get_or row 3 (pos 0); v = get_or row 4 (pos 0) }
+abbrev pub stations_with : (mode : ℕ) → List Row → List ℕ → List ℤ → Stations
+stations_with mode rows verdict d = record { mode = mode; count = length rows; rows = rows; verdict = verdict; d = d }
 
 module _ (all : Stations) (k : ℕ) where
   abbrev pub x_at : ℤ
-  x_at = get_or (get_or all.numbers k []) 0 (pos 0)
+  x_at = (get_or all.rows k no_row).x
 
   abbrev pub y_at : ℤ
-  y_at = get_or (get_or all.numbers k []) 1 (pos 0)
+  y_at = (get_or all.rows k no_row).y
 
   abbrev pub wind_at : Wind
-  wind_at = wind_in (get_or all.numbers k [])
+  wind_at = wind_in (get_or all.rows k no_row)
 
   abbrev pub verdict_at : ℕ
   verdict_at = get_or all.verdict k 0
@@ -101,48 +97,32 @@ module _ (give : ℕ → Sums) where
   inside_counted one zero h = refl
   inside_counted one (suc n) h = rw (inside_counted one n (λ t l. h t (omega arith)), h n (omega arith))
 
-  -- the sums of the entries from t on, as a loop from the last to the first makes them
-  pub record Down (n t w : ℕ) (wd : ℤ) : Type 0 where
-    pub weights : (up_to nothing plus n give).weights ≡ (up_to nothing plus t give).weights + w
-    pub pulls : (up_to nothing plus n give).pulls ≡ (up_to nothing plus t give).pulls +ℤ wd
-    pub kept : nat_abs wd ≤ most_limit * w
-
-  pub down_none : (n : ℕ) → Down n n 0 (pos 0)
-  down_none n =
-      record {
-        weights = sym (add-zero (up_to nothing plus n give).weights);
-        pulls = sym (+ℤ_idr (up_to nothing plus n give).pulls);
-        kept = omega arith;
-      }
-
-  pub down_all : (n w : ℕ) (wd : ℤ) → Down n 0 w wd → (w ≡ (up_to nothing plus n give).weights) × (wd ≡ (up_to nothing plus n give).pulls)
-  unfolding up_to
-  down_all n w wd h = (sym (h.weights ∙ zero-add w), sym (h.pulls ∙ +ℤ_idl wd))
-
-  pub down_small : (n t w : ℕ) (wd : ℤ) → ((t : ℕ) → t < n → Slight (give t)) → Down n t w wd → w ≤ n * scale
-  down_small n t w wd slight h = omega (arith, h.weights, weights_few n _ (near_small n slight))
-
   -- the sums with the entry t
   pub record Added (t w : ℕ) (wd : ℤ) (w' : ℕ) (wd' : ℤ) : Type 0 where
     pub weights : w' ≡ w + (give t).weights
     pub pulls : wd' ≡ wd +ℤ (give t).pulls
 
-  module _ (n t : ℕ) (here : Slight (give t)) (w w' : ℕ) (wd wd' : ℤ) (h : Down n (t + 1) w wd) (new : Added t w wd w' wd') where
-    new_weights : (up_to nothing plus n give).weights ≡ (up_to nothing plus t give).weights + w'
-    new_weights = omega (arith, h.weights, new.weights, ap (λ (s : Sums). s.weights) (up_to_next nothing plus t give))
+  -- w and wd are the sums over the first t entries, as a loop makes them
+  pub record Summed (t w : ℕ) (wd : ℤ) : Type 0 where
+    pub weights : w ≡ (up_to nothing plus t give).weights
+    pub pulls : wd ≡ (up_to nothing plus t give).pulls
 
-    new_pulls : (up_to nothing plus n give).pulls ≡ (up_to nothing plus t give).pulls +ℤ wd'
-    new_pulls =
-        h.pulls
-        ∙ ap (λ (s : Sums). s.pulls +ℤ wd) (up_to_next nothing plus t give)
-        ∙ +ℤ_assoc (up_to nothing plus t give).pulls (give t).pulls wd
-        ∙ ap (λ (z : ℤ). (up_to nothing plus t give).pulls +ℤ z) (+ℤ_comm (give t).pulls wd ∙ sym new.pulls)
+  pub summed_none : Summed 0 0 (pos 0)
+  unfolding up_to
+  summed_none = record { weights = refl; pulls = refl }
 
-    new_kept : nat_abs wd' ≤ most_limit * w'
-    new_kept = rw (new.pulls, new.weights) (omega (arith, h.kept, size_add wd (give t).pulls, here.modest.pulls_most))
+  pub summed_next : {t w w' : ℕ} {wd wd' : ℤ} → Summed t w wd → Added t w wd w' wd' → Summed (t + 1) w' wd'
+  summed_next {t = t} s a =
+      let e = up_to_next nothing plus t give in
+      record {
+        weights = rw (e, a.weights, s.weights) refl;
+        pulls = rw (e, a.pulls, s.pulls) refl;
+      }
 
-    pub down_next : Down n t w' wd'
-    down_next = record { weights = new_weights; pulls = new_pulls; kept = new_kept }
+  pub summed_small : {n t w : ℕ} {wd : ℤ} → t ≤ n → ((t : ℕ) → t < n → Slight (give t)) → Summed t w wd → (w ≤ t * scale) × (nat_abs wd ≤ most_limit * w)
+  summed_small {t = t} few slight s =
+      let h = near_small t (λ k l. slight k (omega arith)) in
+      rw (s.weights, s.pulls) (weights_few t _ h, h.modest.pulls_most)
 
 -- ---- gathering the near ones: those accepted and nearer than R to the row, along the other axis
 
@@ -163,12 +143,12 @@ pub record Ready (all : Stations) : Type 0 where
   pub inside : (k : ℕ) → k < all.count → verdict_at all k ≡ 0 → Inside (x_at all k) (y_at all k) (d_at all k) (wind_at all k)
 
 -- the n near ones among the first k rows, of which each entry is fine, give to each point of row j what the k rows give
-pub record Near (give : ℕ → ℕ → Sums) (Fine : ℕ → Type 0) (n : ℕ) (all : Stations) (r2 j k : ℕ) : Type 0 where
+pub record Gathered (give : ℕ → ℕ → Sums) (Fine : ℕ → Type 0) (n : ℕ) (all : Stations) (r2 j k : ℕ) : Type 0 where
   pub no_more : n ≤ k
   pub sized : (t : ℕ) → t < n → Fine t
   pub same : (i : ℕ) → up_to nothing plus n (give i) ≡ up_to nothing plus k (share_at all r2 i j)
 
-pub near_none : (give : ℕ → ℕ → Sums) (Fine : ℕ → Type 0) (all : Stations) (r2 j : ℕ) → Near give Fine 0 all r2 j 0
+pub near_none : (give : ℕ → ℕ → Sums) (Fine : ℕ → Type 0) (all : Stations) (r2 j : ℕ) → Gathered give Fine 0 all r2 j 0
 unfolding up_to
 near_none give Fine all r2 j = record { no_more = omega arith; sized = λ t h. absurd (omega arith); same = λ i. refl }
 
@@ -199,7 +179,7 @@ near_is_accepted verdict y j r2 h = go (is_accepted verdict) (eqb-true verdict 0
     go false f l = absurd (omega arith)
 
 -- a turn: the entries gathered before stay
-module _ {all : Stations} {r2 j n k : ℕ} {give give' : ℕ → ℕ → Sums} {Fine Fine' : ℕ → Type 0} (near : Near give Fine n all r2 j k)
+module _ {all : Stations} {r2 j n k : ℕ} {give give' : ℕ → ℕ → Sums} {Fine Fine' : ℕ → Type 0} (near : Gathered give Fine n all r2 j k)
     (kept : (i t : ℕ) → t < n → give' i t ≡ give i t) (kept_fine : (t : ℕ) → t < n → Fine t → Fine' t) where
   abbrev gap : ℕ
   gap = row_gap (verdict_at all k) (y_at all k) j r2
@@ -208,7 +188,7 @@ module _ {all : Stations} {r2 j n k : ℕ} {give give' : ℕ → ℕ → Sums} {
   kept_sums i = up_to_same nothing plus n (give' i) (give i) (kept i) ∙ near.same i
 
   -- a far row is passed
-  pub far_passed : r2 ≤ gap → Near give' Fine' n all r2 j (k + 1)
+  pub far_passed : r2 ≤ gap → Gathered give' Fine' n all r2 j (k + 1)
   far_passed h =
       record {
         no_more = omega (arith, near.no_more);
@@ -221,7 +201,7 @@ module _ {all : Stations} {r2 j n k : ℕ} {give give' : ℕ → ℕ → Sums} {
       }
 
   -- one that is near becomes the next entry
-  pub near_gathered : ((i : ℕ) → give' i n ≡ share_at all r2 i j k) → Fine' n → Near give' Fine' (n + 1) all r2 j (k + 1)
+  pub near_gathered : ((i : ℕ) → give' i n ≡ share_at all r2 i j k) → Fine' n → Gathered give' Fine' (n + 1) all r2 j (k + 1)
   near_gathered new new_fine =
       record {
         no_more = omega (arith, near.no_more);
@@ -241,10 +221,10 @@ module _ {all : Stations} {r2 j n k : ℕ} {give give' : ℕ → ℕ → Sums} {
           go (inr l) = let e : t ≡ n = omega arith in rw e new_fine
 
   -- either, where each turn stores and only a near one is counted
-  pub near_step : (gap < r2 → (i : ℕ) → give' i n ≡ share_at all r2 i j k) → (gap < r2 → Fine' n) → Near give' Fine' (n + cond (ltb gap r2) 1 0) all r2 j (k + 1)
+  pub near_step : (gap < r2 → (i : ℕ) → give' i n ≡ share_at all r2 i j k) → (gap < r2 → Fine' n) → Gathered give' Fine' (n + cond (ltb gap r2) 1 0) all r2 j (k + 1)
   near_step new new_fine = go (lt_or_le gap r2)
     where
-      go : (gap < r2) ⊎ (r2 ≤ gap) → Near give' Fine' (n + cond (ltb gap r2) 1 0) all r2 j (k + 1)
+      go : (gap < r2) ⊎ (r2 ≤ gap) → Gathered give' Fine' (n + cond (ltb gap r2) 1 0) all r2 j (k + 1)
       go (inl h) = rw (lt-ltb gap r2 h) (near_gathered (new h) (new_fine h))
       go (inr h) = rw (le-ltb gap r2 h, add-zero n) (far_passed h)
 

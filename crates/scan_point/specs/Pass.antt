@@ -18,11 +18,11 @@ use Rattle.scheme.specs.Most.{most_points, most_square, most_weights, most_field
 use Rattle.scheme.specs.Accepted.{Shaped}
 use Rattle.scheme.proofs.Accepted.{same_shape}
 use Rattle.scan_lone.specs.Divides.{Divides}
-use Rattle.scan_point.specs.Near.{Slight, weights_few, near_small, Stations, sums_over, Ready, Near}
+use Rattle.scan_point.specs.Near.{Slight, weights_few, near_small, Stations, sums_over, Ready, Gathered}
 
 -- ---- one row, whose points stand at base, base + 1, ..
 
--- what the n entries of the lists give to the point in column i
+-- what the n entries of the list give to the point in column i
 abbrev pub row_sums : (give : ℕ → ℕ → Sums) (n i : ℕ) → Sums
 row_sums give n i = up_to nothing plus n (give i)
 
@@ -53,10 +53,6 @@ module _ (rule w inside over : ℕ) (by : Divides rule w inside over) where
       some : (0 < w) ⊎ (w ≤ 0) → 0 < over → 0 < w
       some (inl h) l = h
       some (inr h) l = absurd (let e : w ≡ 0 = omega arith in omega (arith, by.none e))
-
--- under rule 1 that is the sum of weights
-pub by_weights : {w : ℕ} (inside : ℕ) → w ≤ most_weights → Divides equation_rule w inside w
-by_weights inside few = record { least = omega arith; most = few; none = λ e. e; is = λ some. refl }
 
 -- and a row by a rule that is not 2 is one by rule 1
 pub other_rule : (rule : ℕ) → (rule ≡ listing_rule → ⊥) → (z : List ℤ) (give : ℕ → ℕ → Sums) (n base : ℕ) → row_z rule z give n base ≡ row_z equation_rule z give n base
@@ -152,13 +148,13 @@ row_in nx ny j h = omega (arith, mul-le-mul_right nx h)
 few_points : {nx ny len : ℕ} → Shaped nx ny len → len ≤ most_points
 few_points shape = rw shape.whole (mul-le-mul shape.few_columns shape.few_rows)
 
--- the lists gathered for the row serve it
+-- the list gathered for the row serves it
 module _ {z : List ℤ} {sup : List ℕ} {nx ny : ℕ} {all : Stations} {r2 bit j : ℕ} (ok : RowPass z sup nx ny all r2 bit j) where
   pub row_place : j * nx + nx ≤ most_points
   row_place = omega (arith, row_in nx ny j ok.row, few_points ok.shape, ok.shape.whole)
 
   module _ {give : ℕ → ℕ → Sums} {Fine : ℕ → Type 0} {n : ℕ} (fine : (i t : ℕ) → Fine t → Slight (give i t))
-      (near : Near give Fine n all r2 j all.count) where
+      (near : Gathered give Fine n all r2 j all.count) where
     pub row_ready : RowReady z sup (j * nx) nx give n bit
     row_ready =
         record {

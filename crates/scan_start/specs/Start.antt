@@ -1,9 +1,9 @@
 -- The slices before the first scan hold the run's start.
-use Rattle.std.specs.Prelude.{ℕ, suc, ◌+◌, ◌-◌, ◌*◌, ◌≤◌, ◌<◌, ◌≡◌, refl, Bool, true, false, List, [], ◌∷◌, get_or, ℤ, pos, negsuc, nat_abs}
+use Rattle.std.specs.Prelude.{ℕ, suc, ◌+◌, ◌-◌, ◌*◌, ◌≤◌, ◌<◌, ◌≡◌, refl, Bool, true, false, List, [], ◌∷◌, replicate, get_or, ℤ, pos, negsuc, nat_abs}
 use Rattle.std.proofs.Common.{arith, div-add-mod', sym, ◌∙◌, leb-true}
 use Rattle.std.proofs.Math.Path.{ap}
 use Rattle.std.proofs.lemmas.Bool.{not-false}
-use Rattle.std.proofs.Math.ListN.{length}
+use Rattle.std.proofs.Math.ListN.{length, length-replicate, get_or-replicate}
 use Rattle.integers.specs.Parts.{dn}
 use Rattle.lists.specs.Tests.{and_true}
 use Rattle.lists.specs.Tab.{tab, length-tab, get_or_tab, is_tab, map-tab, tab_same}
@@ -13,7 +13,8 @@ use Rattle.scheme.specs.Most.{most_along}
 use Rattle.scheme.specs.Scan.{start, after_within}
 use Rattle.scheme.specs.Accepted.{Stationed, no_station, Sound}
 use Rattle.request.specs.declared.Terms.{Terms}
-use Rattle.request.specs.Tables.{station_of, station_in, request_in}
+use Rattle.request.specs.declared.Station.{Station as Row}
+use Rattle.request.specs.Tables.{station_in, request_in}
 use Rattle.scan_station.specs.Judge.{AcceptedHeard}
 use Rattle.scan_start.specs.Reached.{row_in, Reached}
 
@@ -22,7 +23,7 @@ guess_stored : (nx ny : ℕ) (l : List ℤ) → length l ≡ nx * ny → l ≡ s
 unfolding stored field_of
 guess_stored nx ny l e = is_tab (pos 0) (nx * ny) _ l e (λ k h. ap (λ (n : ℕ). get_or l n (pos 0)) (sym (div-add-mod' k nx)))
 
--- an accepted row is there, and on the grid or a post
+-- an accepted station is there, and on the grid or a post
 all_five : (a b c d e : Bool) → first_that_fits ((a, 1) ∷ (b, 2) ∷ (c, 3) ∷ (d, 4) ∷ (e, 5) ∷ []) ≡ 0 → (a ≡ false) × (e ≡ false)
 unfolding first_that_fits
 all_five true b c d e h = absurd (omega arith)
@@ -52,29 +53,28 @@ unfolding near_axis
 near_low n (pos x) e = omega arith
 near_low n (negsuc x) e = leb-true (suc x) most_beyond e
 
--- the verdict of row k before the first scan
-abbrev pub first_at : Terms → List (List ℤ) → List (List ℕ) → ℕ → ℕ
-first_at t numbers minutes k = before_scans most_beyond t.nx t.ny t.time t.age (station_in numbers minutes k)
+-- the verdict of station k before the first scan
+abbrev pub first_at : Terms → List Row → ℕ → ℕ
+first_at t stations k = before_scans most_beyond t.nx t.ny t.time t.age (station_in stations k)
 
 -- the start
-module _ (t : Terms) (first : List ℤ) (numbers : List (List ℤ)) (minutes : List (List ℕ)) (sound : Sound (request_in t first numbers minutes)) (st : List ℕ)
-    (verdicts : st ≡ tab t.stations (first_at t numbers minutes)) where
-  verdict_is : (k : ℕ) → k < t.stations → get_or st k 0 ≡ first_at t numbers minutes k
-  verdict_is k h = ap (λ (l : List ℕ). get_or l k 0) verdicts ∙ get_or_tab t.stations _ k 0 h
+module _ (t : Terms) (first : List ℤ) (stations : List Row) (sound : Sound (request_in t first stations)) (st : List ℕ)
+    (verdicts : st ≡ tab (length stations) (first_at t stations)) where
+  verdict_is : (k : ℕ) → k < length stations → get_or st k 0 ≡ first_at t stations k
+  verdict_is k h = ap (λ (l : List ℕ). get_or l k 0) verdicts ∙ get_or_tab (length stations) _ k 0 h
 
-  start_rows : (start most_beyond (request_in t first numbers minutes)).rows ≡ tab t.stations (row_in numbers minutes st)
+  start_rows : (start most_beyond (request_in t first stations)).rows ≡ tab (length stations) (row_in stations st)
   unfolding start
-  start_rows = map-tab _ t.stations (station_in numbers minutes) ∙ tab_same t.stations _ _ (λ k h. cc (verdict_is k h))
+  start_rows = map-tab _ (length stations) (station_in stations) ∙ tab_same (length stations) _ _ (λ k h. cc (verdict_is k h))
 
-  in-range : (k : ℕ) → k < t.stations → Stationed (station_in numbers minutes k)
+  in-range : (k : ℕ) → k < length stations → Stationed (station_in stations k)
   in-range k h =
-      rw (← (get_or_tab t.stations (station_in numbers minutes) k no_station h))
-      (sound.stations k (omega (arith, length-tab t.stations (station_in numbers minutes))))
+      rw (← (get_or_tab (length stations) (station_in stations) k no_station h))
+      (sound.stations k (omega (arith, length-tab (length stations) (station_in stations))))
 
-  heard : AcceptedHeard t numbers st
-  unfolding station_of
+  heard : AcceptedHeard stations st
   heard k h e =
-      let (there, x, y) = accepted_near t.nx t.ny t.time t.age (station_in numbers minutes k) (sym (verdict_is k h) ∙ e) in
+      let (there, x, y) = accepted_near t.nx t.ny t.time t.age (station_in stations k) (sym (verdict_is k h) ∙ e) in
       record {
         x = near_small t.nx _ sound.shape.few_columns x;
         y = near_small t.ny _ sound.shape.few_rows y;
@@ -83,17 +83,17 @@ module _ (t : Terms) (first : List ℤ) (numbers : List (List ℤ)) (minutes : L
         value = (in-range k h).value there;
       }
 
-  pub begun : {z : List ℤ} {sup : List ℕ} {len : ℕ} → z ≡ first → len ≡ t.nx * t.ny → sup ≡ tab len (λ k. 0) → Reached t first numbers minutes 0 z sup st
+  pub begun : {z : List ℤ} {sup : List ℕ} {len : ℕ} → z ≡ first → len ≡ t.nx * t.ny → sup ≡ replicate len 0 → Reached t first stations 0 z sup st
   unfolding after_within start guess stored
-  begun ez long es =
+  begun {len = len} ez long es =
       record {
         sound = sound;
         holds =
             record {
               field = ez ∙ guess_stored t.nx t.ny first sound.shape.whole;
-              support = es ∙ ap (λ (n : ℕ). tab n (λ k. 0)) long;
+              support = es ∙ is_tab 0 len (λ k. 0) _ (length-replicate len 0) (λ k h. get_or-replicate len k 0 0 h) ∙ ap (λ (n : ℕ). tab n (λ k. 0)) long;
               rows = start_rows;
-              long = ap length verdicts ∙ length-tab t.stations _;
+              long = ap length verdicts ∙ length-tab (length stations) _;
             };
         heard = heard;
       }

@@ -1,6 +1,6 @@
--- Judging the stations from the field as a scan finds it, and posts from the first guess: the difference of each accepted row, and its verdict
--- after the E test.
-use Rattle.std.specs.Prelude.{ℕ, ◌+◌, ◌*◌, ◌≤◌, ◌<◌, ◌≡◌, Bool, true, false, cond, List, [], ltb, length, get_or, pos, nat_abs, ◌-ℤ◌}
+-- Judging the stations from the field as a scan finds it, and posts from the first guess: the difference of each accepted station, and its
+-- verdict after the E test.
+use Rattle.std.specs.Prelude.{ℕ, ◌+◌, ◌*◌, ◌≤◌, ◌<◌, ◌≡◌, Bool, true, false, cond, List, ltb, length, get_or, pos, nat_abs, ◌-ℤ◌}
 use Rattle.std.proofs.Math.Path.{refl}
 use Rattle.std.proofs.Math.IntN.{ℤ}
 use Rattle.integers.specs.Parts.{dn}
@@ -14,72 +14,66 @@ use Rattle.scheme.proofs.Nearest.{rounded_size}
 use Rattle.scheme.specs.Bounds.{Small}
 use Rattle.scheme.proofs.Exact.{sum_size}
 use Rattle.scheme.proofs.Axes.{place_most}
-use Rattle.request.specs.declared.Terms.{Terms}
-use Rattle.request.specs.Tables.{station_of}
+use Rattle.request.specs.declared.Station.{Station as Row}
+use Rattle.request.specs.Tables.{station_in}
 
--- the station of a row of numbers: a scan reads no minutes
-abbrev pub mast : List ℤ → Station
-mast row = station_of row []
+-- an accepted station: near the grid, with a value in range
+pub record Heard (s : Station) : Type 0 where
+  pub x : nat_abs s.x ≤ most_along
+  pub y : nat_abs s.y ≤ most_along
+  pub x_low : dn s.x ≤ most_beyond
+  pub y_low : dn s.y ≤ most_beyond
+  pub value : nat_abs s.value ≤ most_value
 
--- an accepted row: near the grid, with a value in range
-pub record Heard (row : List ℤ) : Type 0 where
-  pub x : nat_abs (get_or row 0 (pos 0)) ≤ most_along
-  pub y : nat_abs (get_or row 1 (pos 0)) ≤ most_along
-  pub x_low : dn (get_or row 0 (pos 0)) ≤ most_beyond
-  pub y_low : dn (get_or row 1 (pos 0)) ≤ most_beyond
-  pub value : nat_abs (get_or row 2 (pos 0)) ≤ most_value
-
--- every accepted row is heard
-abbrev pub AcceptedHeard : Terms → List (List ℤ) → List ℕ → Type 0
-AcceptedHeard t numbers st = (k : ℕ) → k < t.stations → get_or st k 0 ≡ 0 → Heard (get_or numbers k [])
+-- every accepted station is heard
+abbrev pub AcceptedHeard : List Row → List ℕ → Type 0
+AcceptedHeard stations st = (k : ℕ) → k < length stations → get_or st k 0 ≡ 0 → Heard (station_in stations k)
 
 -- what judging needs
-pub record JudgeReady (guess z : List ℤ) (st : List ℕ) (ds : List ℤ) (t : Terms) (numbers : List (List ℤ)) (scan : ℕ) : Type 0 where
-  pub guess_shape : Shaped t.nx t.ny (length guess)
-  pub shape : Shaped t.nx t.ny (length z)
+pub record JudgeReady (guess z : List ℤ) (st : List ℕ) (nx ny : ℕ) (stations : List Row) (scan : ℕ) : Type 0 where
+  pub guess_shape : Shaped nx ny (length guess)
+  pub shape : Shaped nx ny (length z)
   pub guess_small : Small guess
   pub small : Small z
-  pub few : t.stations ≤ most_stations
-  pub len_st : length st ≡ t.stations
-  pub long : length ds ≡ most_stations
+  pub few : length stations ≤ most_stations
+  pub len_st : length st ≡ length stations
   pub scan_few : scan ≤ most_scans
-  pub heard : AcceptedHeard t numbers st
+  pub heard : AcceptedHeard stations st
 
--- the paper's value at a row and its difference, from the stored first guess and the stored field that the scan finds
-abbrev pub value_for : (guess z : List ℤ) → (nx ny : ℕ) → List ℤ → ℤ
-value_for guess z nx ny row =
-    value_at nx ny (cond (on_grid nx ny (get_or row 0 (pos 0)) (get_or row 1 (pos 0))) (field_of (pos 0) nx z) (field_of (pos 0) nx guess)) (mast row)
+-- the paper's value at a station and its difference, from the stored first guess and the stored field that the scan finds
+abbrev pub value_for : (guess z : List ℤ) → (nx ny : ℕ) → Station → ℤ
+value_for guess z nx ny s = value_at nx ny (cond (on_grid nx ny s.x s.y) (field_of (pos 0) nx z) (field_of (pos 0) nx guess)) s
 
-abbrev pub differs : (guess z : List ℤ) → (nx ny : ℕ) → List ℤ → ℤ
-differs guess z nx ny row = difference nx ny (field_of (pos 0) nx guess) (field_of (pos 0) nx z) (mast row)
+abbrev pub differs : (guess z : List ℤ) → (nx ny : ℕ) → Station → ℤ
+differs guess z nx ny s = difference nx ny (field_of (pos 0) nx guess) (field_of (pos 0) nx z) s
 
 -- 0 for one that is not accepted
-unfoldable pub diff_of : (guess z : List ℤ) → (nx ny verdict : ℕ) → List ℤ → ℤ
-diff_of guess z nx ny verdict row = cond (is_accepted verdict) (differs guess z nx ny row) (pos 0)
+unfoldable pub diff_of : (guess z : List ℤ) → (nx ny verdict : ℕ) → Station → ℤ
+diff_of guess z nx ny verdict s = cond (is_accepted verdict) (differs guess z nx ny s) (pos 0)
 
--- of row k
-abbrev pub diff_at : (guess z : List ℤ) → Terms → List (List ℤ) → List ℕ → ℕ → ℤ
-diff_at guess z t numbers st k = diff_of guess z t.nx t.ny (get_or st k 0) (get_or numbers k [])
+-- of station k
+abbrev pub diff_at : (guess z : List ℤ) → (nx ny : ℕ) → List Row → List ℕ → ℕ → ℤ
+diff_at guess z nx ny stations st k = diff_of guess z nx ny (get_or st k 0) (station_in stations k)
 
 -- and its verdict after the E test
-abbrev pub verdict_at : (guess z : List ℤ) → Terms → List (List ℤ) → List ℕ → (scan limit : ℕ) → ℕ → ℕ
-verdict_at guess z t numbers st scan limit k = after_test scan limit (differs guess z t.nx t.ny (get_or numbers k [])) (get_or st k 0)
+abbrev pub verdict_at : (guess z : List ℤ) → (nx ny : ℕ) → List Row → List ℕ → (scan limit : ℕ) → ℕ → ℕ
+verdict_at guess z nx ny stations st scan limit k = after_test scan limit (differs guess z nx ny (station_in stations k)) (get_or st k 0)
 
-module _ (guess z : List ℤ) (nx ny : ℕ) (row : List ℤ) where
-  -- the test reads no difference but that of an accepted row
-  pub same_test : (scan limit verdict : ℕ) → after_test scan limit (diff_of guess z nx ny verdict row) verdict ≡ after_test scan limit (differs guess z nx ny row) verdict
+module _ (guess z : List ℤ) (nx ny : ℕ) (s : Station) where
+  -- the test reads no difference but that of an accepted station
+  pub same_test : (scan limit verdict : ℕ) → after_test scan limit (diff_of guess z nx ny verdict s) verdict ≡ after_test scan limit (differs guess z nx ny s) verdict
   unfolding after_test diff_of
   same_test scan limit verdict = go (is_accepted verdict)
     where
       D : ℤ
-      D = differs guess z nx ny row
+      D = differs guess z nx ny s
 
       go : (b : Bool) → cond b (cond (ltb limit (nat_abs (cond b D (pos 0)))) (10 + scan) 0) verdict ≡ cond b (cond (ltb limit (nat_abs D)) (10 + scan) 0) verdict
       go true = refl
       go false = refl
 
-  pub difference_is : differs guess z nx ny row ≡ get_or row 2 (pos 0) -ℤ value_for guess z nx ny row
-  unfolding difference station_of
+  pub difference_is : differs guess z nx ny s ≡ s.value -ℤ value_for guess z nx ny s
+  unfolding difference
   difference_is = refl
 
 -- ---- a value there is as small as the field's values

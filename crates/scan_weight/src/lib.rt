@@ -2,7 +2,7 @@
 // (document 02, 5).
 #![tactic(auto)]
 
-ghost use Rattle.std.specs.Prelude.{◌≡◌, cond, ltb, ◌+◌, ◌*◌, ◌≤◌, ◌<◌, nat_abs, ◌-ℤ◌};
+ghost use Rattle.std.specs.Prelude.{◌≡◌, ◌+◌, ◌*◌, ◌≤◌, ◌<◌, nat_abs, ◌-ℤ◌};
 ghost use Rattle.scheme.specs.Weight.{square, weight};
 ghost use Rattle.scheme.specs.Most.{most_square};
 ghost use Rattle.scan_weight.specs.Along.{weight_by, most_strength, most_q};
@@ -25,13 +25,6 @@ pub fn squared_distance(x: i32, px: i32, gap: u32) -> u32
     ensures { result ≡ square (x -ℤ px) + gap }
 {
     square_apart(x, px) + gap
-}
-
-// 1 for what is nearer than R by its squared distance, and else 0: what it adds to a count.
-pub fn one_if_below(gap: u32, r2: u32) -> usize
-    ensures { result ≡ cond (ltb gap r2) 1 0 }
-{
-    if gap < r2 { 1 } else { 0 }
 }
 
 // The weight at squared distance d2 for squared radius r2. A station beyond the radius costs a compare and no division. The quotient's

@@ -1,6 +1,7 @@
 -- What reading the lines before the scans answers, and the line of the buddy check, as the definitions of the text say it.
-use Rattle.std.specs.Prelude.{ℕ, ◌≤◌, ◌≡◌, Bool, List, eqb, drop, ℤ}
-use Rattle.scheme.specs.Units.{least_side, most_side, most_scans, round_mode, Buddies, Request}
+use Rattle.std.specs.Prelude.{ℕ, ◌≤◌, ◌≡◌, Bool, List, eqb, Ok, Err}
+use Rattle.std.specs.Prelude.{Result as Outcome}
+use Rattle.scheme.specs.Units.{least_side, most_side, most_scans, round_mode, Request}
 use Rattle.scheme.specs.Text.{default_age, default_rule}
 use Rattle.scheme.specs.Text.Reader.{fails, ◌>>=◌, gives, ◌or◌}
 use Rattle.scheme.specs.Text.Pieces.{Piece}
@@ -8,11 +9,13 @@ use Rattle.scheme.specs.Text.Lines.{grid_line}
 use Rattle.scheme.specs.Text.Order.{Text, line}
 use Rattle.scheme.specs.RoundTrip.{time_line, age_line, smooth_line, rule_line, scans_line}
 use Rattle.scheme.specs.Accepted.{Ruled}
+use Rattle.request.specs.declared.Entry.{Entry}
+use Rattle.request.specs.declared.Buddies.{Buddies}
 use Rattle.request.specs.declared.Terms.{Terms}
 use Rattle.text_head.specs.declared.Head.{Head}
-use Rattle.text_head.specs.declared.Buddy.{Buddy}
-use Rattle.text_head.specs.declared.HeadRead.{HeadRead}
-use Rattle.text_head.specs.declared.HeadRead.TheVariants.{Value as HeadValue, NotInForm as NotHead}
+use Rattle.text_head.specs.declared.Left.{Left}
+use Rattle.text_head.specs.declared.NotInForm.{NotInForm}
+use Rattle.text_head.specs.Left.{left_of}
 
 -- a line that may be left out, and what it then means
 abbrev pub line_or : {A : Type 0} → Piece A → A → Text A
@@ -37,37 +40,29 @@ pub record Limits (h : Head) : Type 0 where
   pub scans_some : 1 ≤ h.scans
   pub scans_few : h.scans ≤ most_scans
   pub ruled : Ruled h.rule
-  pub line : h.line ≤ 7
 
-pub record HeadIs (s : List ℕ) (h : Head) : Type 0 where
+pub record HeadIs (text : List ℕ) (h : Head) (left : Left) : Type 0 where
   pub said : (next : (nx ny time age : ℕ) → Bool → (rule scans : ℕ) → Text Request)
-      → head_then next (1, s) ≡ next h.nx h.ny h.time h.age h.smooth h.rule h.scans (h.line, drop h.next s)
+      → head_then next (1, text) ≡ next h.nx h.ny h.time h.age h.smooth h.rule h.scans (left_of left)
   pub limits : Limits h
+  pub line : left.line ≤ 7
 
-abbrev pub Heads : List ℕ → HeadRead → Type 0
-Heads s (HeadValue h) = HeadIs s h
-Heads s (NotHead k) = (next : (nx ny time age : ℕ) → Bool → (rule scans : ℕ) → Text Request) → head_then next (1, s) ≡ fails k
+abbrev pub Heads : List ℕ → Outcome (Head × Left) NotInForm → Type 0
+Heads text (Ok said) = HeadIs text said.0 said.1
+Heads text (Err e) = (next : (nx ny time age : ℕ) → Bool → (rule scans : ℕ) → Text Request) → head_then next (1, text) ≡ fails e.line
 
--- what the line of the buddy check says
-abbrev pub buddies_read : Buddy → Buddies
-buddies_read b = record { on = b.on; radius = b.radius; limit = b.limit }
-
--- a request whose head and buddy check were read, as terms
-abbrev pub terms_read : Head → Buddy → ℕ → (radius limit : List ℤ) → Terms
-terms_read h b n radius limit =
+-- a request whose head, scans and buddy check were read, as terms
+abbrev pub terms_read : Head → List Entry → Buddies → Terms
+terms_read h entries buddies =
     record {
       nx = h.nx;
       ny = h.ny;
-      stations = n;
       scans = h.scans;
-      radius = radius;
-      limit = limit;
+      entries = entries;
       smooth = h.smooth;
       mode = round_mode;
       rule = h.rule;
-      buddy = b.on;
-      buddy_radius = b.radius;
-      buddy_limit = b.limit;
+      buddies = buddies;
       time = h.time;
       age = h.age;
     }

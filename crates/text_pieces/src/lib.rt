@@ -1,219 +1,104 @@
-// Pieces of a line of the request text (document 01): a word and the numbers of each type, read at a place of the text.
+// Pieces of a line of the request text (document 01): a word and the numbers of each type. A piece is read at the front of a text: what it says
+// comes with the bytes left after it, and what is not in form says nothing.
 #![tactic(auto)]
 
-ghost use Rattle.std.specs.Prelude.{◌≡◌, [], ◌∷◌, ℕ, ◌+◌, ◌-◌, ◌*◌, ◌≤◌, min, drop};
-ghost use Rattle.scheme.specs.Text.Reader.{reads};
-ghost use Rattle.scheme.specs.Text.Pieces.{word, digits, positive, natural, count, negative, signed};
-ghost use Rattle.scheme.specs.RoundTrip.{is_digit};
-ghost use Rattle.text_pieces.specs.Told.{word_told, natural_told, unsigned_told, signed_told, follows, Within, Lies, most, capped};
-
-// What reading a piece gives: what it says with the place after it, or that it is not in form.
-#[derive(Clone, Copy)]
-pub enum WordRead {
-    At(usize),
-    NotInForm,
-}
-
-// A number of any length: what is greater than 2^32 is not told apart from it.
-#[derive(Clone, Copy)]
-enum NaturalRead {
-    Value(u64, usize),
-    NotInForm,
-}
-
-#[derive(Clone, Copy)]
-pub enum UnsignedRead {
-    Value(u32, usize),
-    NotInForm,
-}
-
-#[derive(Clone, Copy)]
-pub enum SignedRead {
-    Value(i32, usize),
-    NotInForm,
-}
-
-// Digits, as far as they go.
-#[derive(Clone, Copy)]
-struct Run {
-    value: u64,
-    next: usize,
-}
+ghost use Rattle.std.specs.Prelude.{◌≡◌, [], ◌∷◌, ◌≤◌, IfSome};
+ghost use Rattle.scheme.specs.Text.Reader.{reads, onward};
+ghost use Rattle.scheme.specs.Text.Pieces.{word, digits, positive, natural, between, count, negative, signed};
+ghost use Rattle.text_pieces.specs.Told.{rest_told, told, follows, saturated};
 
 // Exactly these bytes.
-pub fn word_at(s: &[u8], at: usize, key: &[u8]) -> WordRead
-    ensures { word key.now (drop at s.now) ≡ word_told s.now result }
+pub fn word<'a>(text: &'a [u8], key: &[u8]) -> Option<&'a [u8]>
+    ensures { word key.now text.now ≡ rest_told result }
 {
-    let mut p = at;
-    let mut i: usize = 0;
-    while i < key.len() {
-        if s.len() <= p {
-            return WordRead::NotInForm;
-        }
-        if s[p] != key[i] {
-            return WordRead::NotInForm;
-        }
-        p += 1;
-        i += 1;
-    }
-    WordRead::At(p)
-}
-
-// Exactly this byte.
-fn byte_at(s: &[u8], at: usize, b: u8) -> WordRead
-    ensures { word (b ∷ []) (drop at s.now) ≡ word_told s.now result }
-{
-    if s.len() <= at {
-        return WordRead::NotInForm;
-    }
-    if s[at] != b {
-        return WordRead::NotInForm;
-    }
-    WordRead::At(at + 1)
+    text.strip_prefix(key)
 }
 
 // ---- numbers: decimal, no plus, no leading zero, no -0
 
-fn is_digit(b: u8) -> bool
-    ensures { result ≡ is_digit b }
+// The digits that follow, after digits that say first. Numbers that a u64 cannot hold are not told apart: they lie in no range.
+fn digits(text: &[u8], first: u64) -> (u64, &[u8])
+    ensures { saturated (digits first text.now) ≡ reads result.0 result.1.now }
 {
-    if b < 48 {
-        return false;
-    }
-    b <= 57
-}
-
-// A number with one digit more.
-fn with_digit(v: u64, b: u8) -> u64
-    requires { (v ≤ most) × (48 ≤ b) × (b ≤ 57) }
-    ensures { result ≡ min (10 * v + (b - 48)) most }
-{
-    let x = 10 * v + (b - 48) as u64;
-    if x < 4294967296 { x } else { 4294967296 }
-}
-
-// The digits that follow, after digits that say first.
-fn digits_at(s: &[u8], at: usize, first: u64) -> Run
-    requires { first ≤ most }
-    ensures { capped (digits first (drop at s.now)) ≡ reads result.value (drop result.next s.now) }
-{
-    let mut i = at;
-    let mut v = first;
-    while i < s.len() {
-        let b = s[i];
-        if !is_digit(b) {
-            return Run { value: v, next: i };
+    let mut value = first;
+    let mut left = text;
+    while let Some((digit, rest)) = left.split_first() {
+        if !digit.is_ascii_digit() {
+            break;
         }
-        v = with_digit(v, b);
-        i += 1;
+        value = value
+            .saturating_mul(10)
+            .saturating_add(u64::from(*digit - b'0'));
+        left = rest;
     }
-    Run { value: v, next: i }
+    (value, left)
 }
 
 // A digit from 1 to 9, and all the digits that follow.
-fn positive_at(s: &[u8], at: usize) -> NaturalRead
-    ensures { capped (positive (drop at s.now)) ≡ natural_told s.now result }
+fn positive(text: &[u8]) -> Option<(u64, &[u8])>
+    ensures { saturated (positive text.now) ≡ told result }
 {
-    if s.len() <= at {
-        return NaturalRead::NotInForm;
+    let (first, rest) = text.split_first()?;
+    if !first.is_ascii_digit() || *first == b'0' {
+        return None;
     }
-    let b = s[at];
-    if b < 49 {
-        return NaturalRead::NotInForm;
-    }
-    if 57 < b {
-        return NaturalRead::NotInForm;
-    }
-    let r = digits_at(s, at + 1, (b - 48) as u64);
-    NaturalRead::Value(r.value, r.next)
+    Some(digits(rest, u64::from(*first - b'0')))
 }
 
 // 0, or such a number.
-fn natural_at(s: &[u8], at: usize) -> NaturalRead
-    ensures { capped (natural (drop at s.now)) ≡ natural_told s.now result }
+fn natural(text: &[u8]) -> Option<(u64, &[u8])>
+    ensures { saturated (natural text.now) ≡ told result }
 {
-    if s.len() <= at {
-        return NaturalRead::NotInForm;
+    match word(text, b"0") {
+        Some(rest) => Some((0, rest)),
+        None => positive(text),
     }
-    if s[at] == 48 {
-        return NaturalRead::Value(0, at + 1);
-    }
-    positive_at(s, at)
 }
 
 // What was read, if it lies in low..high.
-fn in_range(n: NaturalRead, low: u32, high: u32) -> UnsignedRead
-    ensures { Lies n low high result }
+fn in_range<'a>(read: Option<(u64, &'a [u8])>, low: u32, high: u32) -> Option<(u32, &'a [u8])>
+    ensures said { onward (told read.entry) (between low high) ≡ told result }
+    ensures in_range { IfSome result (λ number. (low ≤ number.0) × (number.0 ≤ high)) }
 {
-    match n {
-        NaturalRead::Value(v, next) => {
-            if v < low as u64 {
-                return UnsignedRead::NotInForm;
-            }
-            if (high as u64) < v {
-                return UnsignedRead::NotInForm;
-            }
-            UnsignedRead::Value(v as u32, next)
-        }
-        NaturalRead::NotInForm => UnsignedRead::NotInForm,
+    let (value, rest) = read?;
+    if value < u64::from(low) || value > u64::from(high) {
+        return None;
     }
+    Some((value as u32, rest))
 }
 
 // A count, a switch or a u32, in low..high.
-pub fn count_at(s: &[u8], at: usize, low: u32, high: u32) -> UnsignedRead
-    ensures { (count low high (drop at s.now) ≡ unsigned_told s.now result) × Within low high result }
+pub fn count(text: &[u8], low: u32, high: u32) -> Option<(u32, &[u8])>
+    ensures said { count low high text.now ≡ told result }
+    ensures in_range { IfSome result (λ number. (low ≤ number.0) × (number.0 ≤ high)) }
 {
-    in_range(natural_at(s, at), low, high)
+    in_range(natural(text), low, high)
 }
 
 // What follows a minus.
-fn negative_at(s: &[u8], at: usize) -> SignedRead
-    ensures { negative (drop at s.now) ≡ signed_told s.now result }
+fn negative(text: &[u8]) -> Option<(i32, &[u8])>
+    ensures { negative text.now ≡ told result }
 {
-    match in_range(positive_at(s, at), 0, 2147483648) {
-        UnsignedRead::Value(v, next) => SignedRead::Value((-(v as i64)) as i32, next),
-        UnsignedRead::NotInForm => SignedRead::NotInForm,
-    }
+    let (size, rest) = in_range(positive(text), 0, 2147483648)?;
+    Some((-(size as i64) as i32, rest))
 }
 
 // An i32.
-pub fn signed_at(s: &[u8], at: usize) -> SignedRead
-    ensures { signed (drop at s.now) ≡ signed_told s.now result }
+pub fn signed(text: &[u8]) -> Option<(i32, &[u8])>
+    ensures { signed text.now ≡ told result }
 {
-    if s.len() <= at {
-        return SignedRead::NotInForm;
+    if let Some(rest) = word(text, b"-") {
+        return negative(rest);
     }
-    if s[at] == b'-' {
-        return negative_at(s, at + 1);
-    }
-    match count_at(s, at, 0, 2147483647) {
-        UnsignedRead::Value(v, next) => SignedRead::Value(v as i32, next),
-        UnsignedRead::NotInForm => SignedRead::NotInForm,
-    }
+    let (value, rest) = count(text, 0, 2147483647)?;
+    Some((value as i32, rest))
 }
 
-// ---- a number, and the byte that must follow it
-
-pub fn unsigned_before(s: &[u8], n: UnsignedRead, mark: u8) -> UnsignedRead
-    ensures { (follows (unsigned_told s.now n) (word (mark ∷ [])) ≡ unsigned_told s.now result) × ((low high : ℕ) → Within low high n → Within low high result) }
+// A piece that was read, and the byte that must follow it.
+pub fn before<T: Copy>(read: Option<(T, &[u8])>, mark: u8) -> Option<(T, &[u8])>
+    ensures said { follows (told read.entry) (word (mark ∷ [])) ≡ told result }
+    ensures same { IfSome result (λ after. IfSome read.entry (λ first. after.0 ≡ first.0)) }
 {
-    let UnsignedRead::Value(v, at) = n else {
-        return UnsignedRead::NotInForm;
-    };
-    let WordRead::At(next) = byte_at(s, at, mark) else {
-        return UnsignedRead::NotInForm;
-    };
-    UnsignedRead::Value(v, next)
-}
-
-pub fn signed_before(s: &[u8], n: SignedRead, mark: u8) -> SignedRead
-    ensures { follows (signed_told s.now n) (word (mark ∷ [])) ≡ signed_told s.now result }
-{
-    let SignedRead::Value(v, at) = n else {
-        return SignedRead::NotInForm;
-    };
-    let WordRead::At(next) = byte_at(s, at, mark) else {
-        return SignedRead::NotInForm;
-    };
-    SignedRead::Value(v, next)
+    let (value, rest) = read?;
+    Some((value, word(rest, &[mark])?))
 }

@@ -1,3 +1,4 @@
 pub mod Written
+pub mod Puts
 pub mod Rows
 pub mod Signs

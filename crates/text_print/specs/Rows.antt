@@ -1,103 +1,78 @@
--- What is left of a word, of a row and of the rows of a grid, after some of it is put.
-use Prim.Native.Nat.{ℕ, zero, suc, ◌+◌, ◌-◌, ◌*◌, ◌≤◌, ◌<◌}
-use native.Mathlib.Omega.{arith}
-use Rattle.std.proofs.Common.{add-one, sym, ◌∙◌, length-take, drop_of_length-le, drop-drop}
-use Rattle.std.specs.Prelude.{◌≡◌, take, set, get_or}
-use Rattle.std.proofs.Math.Path.{refl, ap}
-use mathlib.Core.List.{List, [], ◌∷◌, ◌++◌, append_assoc}
-use Rattle.std.proofs.Math.ListN.{length, drop, length-append, length-drop}
-use Rattle.std.proofs.Math.Seq.{drop-cons}
-use Rattle.scheme.specs.Text.Pieces.{mark}
-use Rattle.scheme.specs.Text.Printed.{cells, keyed, grid_lines}
-use Rattle.text_print.specs.Written.{Written, Left, room_next, put_next, written_byte, written_then}
-
--- ---- a word
-
-pub word_next : (w : List ℕ) (i : ℕ) → i < length w → drop i w ≡ (get_or w i 0 ∷ []) ++ drop (i + 1) w
-word_next w i h = rw (add-one i, drop-cons w i 0 h)
-
--- ---- a row
-
-pub some_mark : (n : ℕ) → (n ≡ 0 → ⊥) → mark n ≡ 44
-some_mark zero h = absurd (h refl)
-some_mark (suc n) h = refl
-
-module _ {A : Type 0} (shown : A → List ℕ) (o : A) where
-  -- a value and its mark
-  abbrev pub cell : List A → ℕ → List ℕ
-  cell zs i = shown (get_or zs i o) ++ (mark (length zs - 1 - i) ∷ [])
-
-  pub cells_next : (zs : List A) (i : ℕ) → i < length zs → cells shown (drop i zs) ≡ cell zs i ++ cells shown (drop (i + 1) zs)
-  unfolding cells
-  cells_next zs i h =
-      let e : length zs - suc i ≡ length zs - 1 - i = omega arith in
-      rw (add-one i, drop-cons zs i o h, length-drop (suc i) zs, e) (sym (append_assoc (shown (get_or zs i o)) (mark (length zs - 1 - i) ∷ []) (cells shown (drop (suc i) zs))))
-
-  -- a turn of the loop over them
-  module _ (zs : List A) (i : ℕ) (h : i < length zs) {l₀ : List ℕ} {at : ℕ} {l : List ℕ} {p : ℕ} (s : Left l₀ at (cells shown zs) l p (cells shown (drop i zs))) where
-    pub cell_room : at + length (cells shown zs) ≤ length l₀ → p + length (shown (get_or zs i o)) + 1 ≤ length l
-    cell_room r =
-        omega (arith, room_next s (cell zs i) (cells shown (drop (i + 1) zs)) (cells_next zs i h) r, length-append (shown (get_or zs i o)) (mark (length zs - 1 - i) ∷ []))
-
-    pub cell_put : {l' : List ℕ} {q : ℕ} (m : ℕ) → Written l p (shown (get_or zs i o)) l' q → m ≡ mark (length zs - 1 - i)
-        → Left l₀ at (cells shown zs) (set l' q m) (q + 1) (cells shown (drop (i + 1) zs))
-    cell_put {l' = l'} {q = q} m w e = rw e (put_next s (cell zs i) _ (cells_next zs i h) (written_then w (written_byte l' q (mark (length zs - 1 - i)))))
+-- What is left of a row, of a line and of the rows of a grid, after some of it is put.
+use Rattle.std.specs.Prelude.{ℕ, suc, ◌+◌, ◌-◌, ◌*◌, ◌/◌, ◌≤◌, ◌<◌, ◌≡◌, refl, List, [], ◌∷◌, ◌++◌, length, ℤ}
+use Rattle.std.proofs.Common.{arith, add-one, sym, ap, ◌∙◌, drop, get_or, drop_of_length-le, length-append, append_assoc}
+use Rattle.std.proofs.Math.ListN.{length-drop}
+use Rattle.std.proofs.Math.Nat.{add-div_right, div-eq_of_lt, mul-div_right}
+use Rattle.std.proofs.Math.Seq.{drop-cons, take-append_seam, drop-append_seam}
+use Rattle.scheme.specs.Text.{first_two, analysis_text}
+use Rattle.scheme.specs.Text.Pieces.{ascii, mark}
+use Rattle.scheme.specs.Text.Printed.{decimal, integer, cells, keyed, grid_lines}
+use Rattle.scheme.specs.Promises.{slices}
 
 module _ {A : Type 0} (shown : A → List ℕ) where
+  -- ---- a row
+
+  -- the value at i, what follows it, and those after it
+  pub cells_next : (zs : List A) (i : ℕ) (v : A) → i < length zs → v ≡ get_or zs i v → cells shown (drop i zs) ≡ shown v ++ (mark (length zs - 1 - i) ∷ cells shown (drop (i + 1) zs))
+  unfolding cells
+  cells_next zs i v h is =
+      let e : length zs - suc i ≡ length zs - 1 - i = omega arith in
+      rw (add-one i, drop-cons zs i v h, length-drop (suc i) zs, e, ← is)
+
   pub cells_done : (zs : List A) (i : ℕ) → length zs ≤ i → cells shown (drop i zs) ≡ []
   unfolding cells
   cells_done zs i h = rw (drop_of_length-le zs h)
 
-  -- a line with values is its key and their row
-  pub keyed_cells : (key : List ℕ) (zs : List A) → 0 < length zs → keyed key shown zs ≡ key ++ cells shown zs
-  unfolding keyed
-  keyed_cells key [] h = absurd (omega arith)
-  keyed_cells key (z ∷ zs) h = refl
+  -- ---- a line
 
-  pub keyed_none : (key : List ℕ) (zs : List A) → length zs ≡ 0 → keyed key shown zs ≡ key ++ (10 ∷ [])
-  unfolding keyed
-  keyed_none key [] h = refl
-  keyed_none key (z ∷ zs) h = absurd (omega arith)
+  -- what follows its key
+  abbrev pub after_key : List A → List ℕ
+  after_key [] = 10 ∷ []
+  after_key (v ∷ vs) = cells shown (v ∷ vs)
 
-  pub key_inside : (key : List ℕ) (zs : List A) → length key ≤ length (keyed key shown zs)
+  pub key_first : (key : List ℕ) (zs : List A) → keyed key shown zs ≡ key ++ after_key zs
   unfolding keyed
-  key_inside key [] = omega (arith, length-append key (10 ∷ []))
-  key_inside key (z ∷ zs) = omega (arith, length-append key (cells shown (z ∷ zs)))
+  key_first key [] = refl
+  key_first key (z ∷ zs) = refl
+
+  pub none_after : (zs : List A) → length zs ≡ 0 → after_key zs ≡ 10 ∷ []
+  none_after [] h = refl
+  none_after (z ∷ zs) h = absurd (omega arith)
+
+  pub some_after : (zs : List A) → (length zs ≡ 0 → ⊥) → after_key zs ≡ cells shown zs
+  some_after [] h = absurd (h refl)
+  some_after (z ∷ zs) h = refl
 
   pub keyed_one : (key : List ℕ) (z : A) → keyed key shown (z ∷ []) ≡ key ++ (shown z ++ (10 ∷ []))
   unfolding keyed cells
   keyed_one key z = refl
 
--- ---- the rows of a grid
+  -- ---- the rows of a grid
 
--- row j, as code takes its part of the slice
-abbrev pub row_part : {A : Type 0} → ℕ → List A → ℕ → List A
-row_part nx zs j = take (j * nx + nx - j * nx) (drop (j * nx) zs)
+  module _ (key : List ℕ) (nx : ℕ) where
+    -- of as many rows as the values fill
+    abbrev pub rows : List A → List ℕ
+    rows zs = grid_lines key shown nx (length zs / nx) zs
 
-pub row_long : {A : Type 0} (nx j : ℕ) (zs : List A) → j * nx + nx ≤ length zs → length (row_part nx zs j) ≡ nx
-row_long nx j zs h = simp (length-take, length-drop) (omega arith)
+    module _ (h : 0 < nx) where
+      -- a row, and those after it
+      pub rows_next : (zs row more : List A) → zs ≡ row ++ more → length row ≡ nx → rows zs ≡ keyed key shown row ++ rows more
+      unfolding grid_lines
+      rows_next zs row more e n =
+          let m : length (row ++ more) / nx ≡ suc (length more / nx) = ap (λ (k : ℕ). k / nx) (omega (arith, length-append row more)) ∙ add-div_right (length more) h ∙ add-one (length more / nx) in
+          rw (e, m, grid_lines, ← n, take-append_seam row more, drop-append_seam row more)
 
-module _ {A : Type 0} (shown : A → List ℕ) (key : List ℕ) (nx ny : ℕ) (zs : List A) where
-  -- the lines from row j on
-  abbrev pub lines_from : ℕ → List ℕ
-  lines_from j = grid_lines key shown nx (ny - j) (drop (j * nx) zs)
+      pub rows_done : (zs : List A) → length zs < nx → rows zs ≡ []
+      unfolding grid_lines
+      rows_done zs k = rw (div-eq_of_lt k, grid_lines)
 
-  pub lines_begin : lines_from 0 ≡ grid_lines key shown nx ny zs
-  lines_begin =
-      let a : ny - 0 ≡ ny = omega arith in
-      let b : 0 * nx ≡ 0 = omega arith in
-      rw (a, b)
+      pub rows_all : (ny : ℕ) (zs : List A) → ny * nx ≡ length zs → rows zs ≡ grid_lines key shown nx ny zs
+      rows_all ny zs e = let q : length zs / nx ≡ ny = ap (λ (k : ℕ). k / nx) (sym e ∙ omega arith) ∙ mul-div_right ny h in rw q
 
-  pub lines_next : (j : ℕ) → j < ny → lines_from j ≡ keyed key shown (row_part nx zs j) ++ lines_from (j + 1)
-  unfolding grid_lines
-  lines_next j h =
-      let a : ny - j ≡ suc (ny - (j + 1)) = omega arith in
-      let b : j * nx + nx ≡ (j + 1) * nx = omega arith in
-      let e : nx ≡ j * nx + nx - j * nx = omega arith in
-      rw (a, grid_lines)
-      (ap (λ (l : List A). keyed key shown (take nx (drop (j * nx) zs)) ++ grid_lines key shown nx (ny - (j + 1)) l) (drop-drop nx (j * nx) zs ∙ ap (λ (n : ℕ). drop n zs) b)
-      ∙ ap (λ (n : ℕ). keyed key shown (take n (drop (j * nx) zs)) ++ lines_from (j + 1)) e)
+-- ---- the answer
 
-  pub lines_done : (j : ℕ) → ny ≤ j → lines_from j ≡ []
-  unfolding grid_lines
-  lines_done j h = let a : ny - j ≡ 0 = omega arith in rw (a, grid_lines)
+pub answer_parts : (nx ny : ℕ) (grid : List ℤ) (support verdict : List ℕ) → 0 < nx → ny * nx ≡ length grid → ny * nx ≡ length support
+    → analysis_text nx ny (slices grid support verdict) ≡ first_two 0 0 ++ (rows integer (ascii "row=") nx grid ++ (rows decimal (ascii "sup=") nx support ++ keyed (ascii "ver=") decimal verdict))
+unfolding analysis_text
+answer_parts nx ny grid support verdict h g s =
+    rw (rows_all integer (ascii "row=") nx h ny grid g, rows_all decimal (ascii "sup=") nx h ny support s) (simp append_assoc)

@@ -1,203 +1,167 @@
 // The answer text (document 01): numbers, keyed lines and the rows of a grid, put into the caller's bytes from a place on.
-// Each function answers the place after what it put.
+// The two public functions take a place and answer the one after what they put: it is their signature, which may not change.
 #![tactic(auto)]
 
-ghost use Rattle.std.specs.Prelude.{◌≡◌, [], ◌∷◌, ◌+◌, ◌*◌, ◌≤◌, ◌<◌, length, nat_abs};
+ghost use Rattle.std.specs.Prelude.{◌≡◌, ℕ, List, [], ◌∷◌, ◌+◌, ◌*◌, ◌/◌, ◌≤◌, ◌<◌, length};
 ghost use Rattle.scheme.specs.Text.{first_two, analysis_text};
 ghost use Rattle.scheme.specs.Text.Pieces.{ascii, mark};
 ghost use Rattle.scheme.specs.Text.Printed.{decimal, integer, cells, keyed, grid_lines};
 ghost use Rattle.scheme.specs.Promises.{slices};
 ghost use Rattle.text_print.specs.Written.{Written};
+ghost use Rattle.text_print.specs.Puts.{HasRoom, Puts};
 
-// ---- words and numbers
+// A number that a line says, with its text. The digits are written here: printing into lent bytes with room for them cannot fail, and no crate
+// but std is trusted.
+trait Number: Copy {
+    ghost text: { Self → List ℕ };
 
-// The bytes of w.
-fn put_word(out: &mut [u8], at: usize, w: &[u8]) -> usize
-    requires { at + length w.now ≤ length out.old }
-    ensures { Written out.old at w.now out.new result }
-{
-    let mut p = at;
-    let mut i: usize = 0;
-    while i < w.len() {
-        out[p] = w[i];
-        p += 1;
-        i += 1;
+    fn put(self, writer: &mut Writer)
+        requires { HasRoom writer.old (text self) }
+        ensures { Puts writer.old (text self) writer.new };
+}
+
+impl Number for u32 {
+    ghost text = { decimal };
+
+    fn put(self, writer: &mut Writer) {
+        writer.put_decimal(self);
     }
-    p
 }
 
-fn put_digit(out: &mut [u8], at: usize, d: u32) -> usize
-    requires { (d < 10) × (at < length out.old) }
-    ensures { Written out.old at ((48 + d) ∷ []) out.new result }
-{
-    out[at] = 48 + d as u8;
-    at + 1
-}
+impl Number for u8 {
+    ghost text = { decimal };
 
-// n in decimal, the last digit last.
-fn put_digits(out: &mut [u8], at: usize, n: u32) -> usize
-    requires { at + length (decimal n) ≤ length out.old }
-    ensures { Written out.old at (decimal n) out.new result }
-{
-    if n < 10 {
-        return put_digit(out, at, n);
+    fn put(self, writer: &mut Writer) {
+        writer.put_decimal(u32::from(self));
     }
-    let last = put_digits(out, at, n / 10);
-    put_digit(out, last, n % 10)
 }
 
-// The same. A number of one digit, as most supports and verdicts are, is put in place, with no call.
-fn put_decimal(out: &mut [u8], at: usize, n: u32) -> usize
-    requires { at + length (decimal n) ≤ length out.old }
-    ensures { Written out.old at (decimal n) out.new result }
-{
-    if n < 10 {
-        return put_digit(out, at, n);
+impl Number for i32 {
+    ghost text = { integer };
+
+    fn put(self, writer: &mut Writer) {
+        if self < 0 {
+            writer.put_byte(b'-');
+        }
+        writer.put_decimal(self.unsigned_abs());
     }
-    put_digits(out, at, n)
 }
 
-// v without its sign.
-fn size_of(v: i32) -> u32
-    ensures { result ≡ nat_abs v }
-{
-    if v < 0 {
-        return (-(v as i64)) as u32;
-    }
-    v as u32
-}
-
-// v in decimal.
-fn put_integer(out: &mut [u8], at: usize, v: i32) -> usize
-    requires { at + length (integer v) ≤ length out.old }
-    ensures { Written out.old at (integer v) out.new result }
-{
-    let n = size_of(v);
-    if v < 0 {
-        out[at] = b'-';
-        return put_decimal(out, at + 1, n);
-    }
-    put_decimal(out, at, n)
-}
-
-// What follows a value that has so many after it.
+// What follows a value that has so many after it. text_lines has the same line: what reading and printing share is the definition, and no crate.
+// The edit comma_last stands in this one.
 fn mark_of(more: usize) -> u8
     ensures { result ≡ mark more }
 {
     if more == 0 { b'\n' } else { b',' }
 }
 
-// ---- the values of a row, each with its mark
+// The caller's bytes, and the place in them where the next text goes.
+#[derive(Drop)]
+struct Writer<'a> {
+    out: &'a mut [u8],
+    at: usize,
+}
 
-fn put_integers(out: &mut [u8], at: usize, z: &[i32]) -> usize
-    requires { at + length (cells integer z.now) ≤ length out.old }
-    ensures { Written out.old at (cells integer z.now) out.new result }
-{
-    let mut p = at;
-    let mut i: usize = 0;
-    while i < z.len() {
-        let q = put_integer(out, p, z[i]);
-        out[q] = mark_of(z.len() - 1 - i);
-        p = q + 1;
-        i += 1;
+impl Writer<'_> {
+    fn put(&mut self, text: &[u8])
+        requires { HasRoom self.old text.now }
+        ensures { Puts self.old text.now self.new }
+    {
+        let end = self.at + text.len();
+        self.out[self.at..end].copy_from_slice(text);
+        self.at = end;
     }
-    p
-}
 
-fn put_bytes(out: &mut [u8], at: usize, z: &[u8]) -> usize
-    requires { at + length (cells decimal z.now) ≤ length out.old }
-    ensures { Written out.old at (cells decimal z.now) out.new result }
-{
-    let mut p = at;
-    let mut i: usize = 0;
-    while i < z.len() {
-        let q = put_decimal(out, p, z[i] as u32);
-        out[q] = mark_of(z.len() - 1 - i);
-        p = q + 1;
-        i += 1;
+    fn put_byte(&mut self, byte: u8)
+        requires { HasRoom self.old (byte ∷ []) }
+        ensures { Puts self.old (byte ∷ []) self.new }
+    {
+        self.out[self.at] = byte;
+        self.at += 1;
     }
-    p
-}
 
-// ---- lines
-
-// A line that says one number.
-fn number_line(out: &mut [u8], at: usize, key: &[u8], n: u32) -> usize
-    requires { at + length (keyed key.now decimal (n ∷ [])) ≤ length out.old }
-    ensures { Written out.old at (keyed key.now decimal (n ∷ [])) out.new result }
-{
-    let p = put_word(out, at, key);
-    let q = put_decimal(out, p, n);
-    out[q] = b'\n';
-    q + 1
-}
-
-// A row of the grid.
-fn row_line(out: &mut [u8], at: usize, z: &[i32]) -> usize
-    requires { (0 < length z.now) × (at + length (keyed (ascii "row=") integer z.now) ≤ length out.old) }
-    ensures { Written out.old at (keyed (ascii "row=") integer z.now) out.new result }
-{
-    let p = put_word(out, at, b"row=");
-    put_integers(out, p, z)
-}
-
-// A line of bytes. With none, the line feed follows the key.
-fn bytes_line(out: &mut [u8], at: usize, key: &[u8], z: &[u8]) -> usize
-    requires { at + length (keyed key.now decimal z.now) ≤ length out.old }
-    ensures { Written out.old at (keyed key.now decimal z.now) out.new result }
-{
-    let p = put_word(out, at, key);
-    if z.len() == 0 {
-        out[p] = b'\n';
-        return p + 1;
+    // n in decimal, the last digit last.
+    #[tactic(auto, using(scheme::proofs::Decimals::decimal_one))]
+    fn put_digits(&mut self, n: u32)
+        requires { HasRoom self.old (decimal n) }
+        ensures { Puts self.old (decimal n) self.new }
+    {
+        if n < 10 {
+            self.put_byte(b'0' + n as u8);
+        } else {
+            self.put_digits(n / 10);
+            self.put_byte(b'0' + (n % 10) as u8);
+        }
     }
-    put_bytes(out, p, z)
-}
 
-// ---- the rows of a grid, each as a line
-
-fn row_lines(out: &mut [u8], at: usize, nx: usize, ny: usize, z: &[i32]) -> usize
-    requires { (0 < nx) × (ny * nx ≡ length z.now) × (at + length (grid_lines (ascii "row=") integer nx ny z.now) ≤ length out.old) }
-    ensures { Written out.old at (grid_lines (ascii "row=") integer nx ny z.now) out.new result }
-{
-    let mut p = at;
-    let mut j: usize = 0;
-    while j < ny {
-        let a = j * nx;
-        let b = a + nx;
-        p = row_line(out, p, &z[a..b]);
-        j += 1;
+    // The same. A number of one digit, as most supports and verdicts are, is put in place, with no call.
+    #[tactic(auto, using(scheme::proofs::Decimals::decimal_one))]
+    fn put_decimal(&mut self, n: u32)
+        requires { HasRoom self.old (decimal n) }
+        ensures { Puts self.old (decimal n) self.new }
+    {
+        if n < 10 {
+            self.put_byte(b'0' + n as u8);
+        } else {
+            self.put_digits(n);
+        }
     }
-    p
-}
 
-fn sup_lines(out: &mut [u8], at: usize, nx: usize, ny: usize, z: &[u8]) -> usize
-    requires { (ny * nx ≡ length z.now) × (at + length (grid_lines (ascii "sup=") decimal nx ny z.now) ≤ length out.old) }
-    ensures { Written out.old at (grid_lines (ascii "sup=") decimal nx ny z.now) out.new result }
-{
-    let mut p = at;
-    let mut j: usize = 0;
-    while j < ny {
-        let a = j * nx;
-        let b = a + nx;
-        p = bytes_line(out, p, b"sup=", &z[a..b]);
-        j += 1;
+    // The values of a row, each with what follows it.
+    fn put_cells<N: Number>(&mut self, row: &[N])
+        requires { HasRoom self.old (cells N.text row.now) }
+        ensures { Puts self.old (cells N.text row.now) self.new }
+    {
+        for (k, n) in row.iter().enumerate() {
+            n.put(self);
+            self.put_byte(mark_of(row.len() - 1 - k));
+        }
     }
-    p
-}
 
-// ---- the answer
+    // A line: its key and a row. With no values, the line feed follows the key.
+    fn put_line<N: Number>(&mut self, key: &[u8], row: &[N])
+        requires { HasRoom self.old (keyed key.now N.text row.now) }
+        ensures { Puts self.old (keyed key.now N.text row.now) self.new }
+    {
+        self.put(key);
+        if row.is_empty() {
+            self.put_byte(b'\n');
+        } else {
+            self.put_cells(row);
+        }
+    }
+
+    // The rows of a grid nx wide, each as a line.
+    fn put_lines<N: Number>(&mut self, key: &[u8], nx: usize, grid: &[N])
+        requires width { 0 < nx }
+        requires room { HasRoom self.old (grid_lines key.now N.text nx (length grid.now / nx) grid.now) }
+        ensures { Puts self.old (grid_lines key.now N.text nx (length grid.now / nx) grid.now) self.new }
+    {
+        for row in grid.chunks_exact(nx) {
+            self.put_line(key, row);
+        }
+    }
+
+    fn put_first_two(&mut self, number: u32, place: u32)
+        requires { HasRoom self.old (first_two number place) }
+        ensures { Puts self.old (first_two number place) self.new }
+    {
+        self.put_line(b"refusal=", &[number]);
+        self.put_line(b"place=", &[place]);
+    }
+}
 
 // The first two lines, which a refusal prints alone.
 pub fn first_two(out: &mut [u8], at: usize, number: u32, place: u32) -> usize
     requires { at + length (first_two number place) ≤ length out.old }
     ensures { Written out.old at (first_two number place) out.new result }
 {
-    let p = number_line(out, at, b"refusal=", number);
-    number_line(out, p, b"place=", place)
+    let mut answer = Writer { out, at };
+    answer.put_first_two(number, place);
+    answer.at
 }
 
-// The whole answer to a request that was analysed.
+// The whole answer to a request that was analysed. Its rows end with the values, so `ny` stands in the contract alone.
 pub fn analysis_text(
     out: &mut [u8],
     at: usize,
@@ -210,8 +174,10 @@ pub fn analysis_text(
     requires { (0 < nx) × (ny * nx ≡ length grid.now) × (ny * nx ≡ length support.now) × (at + length (analysis_text nx ny (slices grid.now support.now verdict.now)) ≤ length out.old) }
     ensures { Written out.old at (analysis_text nx ny (slices grid.now support.now verdict.now)) out.new result }
 {
-    let p = first_two(out, at, 0, 0);
-    let q = row_lines(out, p, nx, ny, grid);
-    let s = sup_lines(out, q, nx, ny, support);
-    bytes_line(out, s, b"ver=", verdict)
+    let mut answer = Writer { out, at };
+    answer.put_first_two(0, 0);
+    answer.put_lines(b"row=", nx, grid);
+    answer.put_lines(b"sup=", nx, support);
+    answer.put_line(b"ver=", verdict);
+    answer.at
 }

@@ -1,45 +1,46 @@
--- What reading lines answers, as the definitions of the text say it, and what a turn of each loop stores.
-use Rattle.std.specs.Prelude.{ℕ, ◌+◌, ◌<◌, ◌≡◌, List, [], ◌∷◌, ◌++◌, length, drop, get_or, set, ℤ, pos}
-use Rattle.std.proofs.Common.{arith, get_or-set_same, get_or-set_other}
-use Rattle.lists.specs.Tab.{tab, tab_grows}
-use Rattle.scheme.specs.Units.{most_scans, most_stations}
-use Rattle.scheme.specs.Text.Reader.{Result, fails, reads}
-use Rattle.scheme.specs.Text.Lines.{Entry, scan_line, station_line}
-use Rattle.scheme.specs.Text.Order.{lines}
-use Rattle.request.specs.Tables.{station_in}
-use Rattle.text_request.specs.declared.LinesRead.{LinesRead}
-use Rattle.text_request.specs.declared.LinesRead.TheVariants.{Next, NotInForm as NotLines}
+-- What reading lines answers, as the definitions of the text say it.
+use Rattle.std.specs.Prelude.{ℕ, ◌*◌, ◌≤◌, ◌≡◌, List, [], length, take, ℤ, Ok, Err}
+use Rattle.std.specs.Prelude.{Result as Outcome}
+use Rattle.scheme.specs.Units.{least_side, most_side, most_scans, most_stations, round_mode, asking, Request}
+use Rattle.scheme.specs.Accepted.{Ruled}
+use Rattle.scheme.specs.Text.{request_lines}
+use Rattle.scheme.specs.Text.Reader.{fails, reads}
+use Rattle.request.specs.declared.Station.{Station as Row}
+use Rattle.request.specs.declared.Terms.{Terms}
+use Rattle.request.specs.Tables.{stations_in, radii_in, limits_in, buddies_of}
+use Rattle.text_head.specs.declared.Left.{Left}
+use Rattle.text_head.specs.declared.NotInForm.{NotInForm}
+use Rattle.text_head.specs.Left.{Read, left_of}
 
--- ---- lines: what they said, and the number of the line after them
+-- lines that were read, and what they said, or the first of them that is not in form
+abbrev pub all_told : {A : Type 0} → A → Outcome Left NotInForm → Read A
+all_told said (Ok left) = reads said (left_of left)
+all_told said (Err e) = fails e.line
 
-abbrev pub Read : Type 0 → Type 0
-Read A = Result (ℕ × List ℕ) ℕ A
+-- a request that was read, its lists the fronts of what was lent
+abbrev pub request_read : Terms → ℕ → List ℤ → List Row → Request
+request_read t n guess stations =
+    asking t.nx t.ny (take (t.ny * t.nx) guess) (stations_in (take n stations)) t.scans (take t.scans (radii_in t.entries)) (take t.scans (limits_in t.entries)) t.smooth t.mode t.rule
+    (buddies_of t.buddies) t.time t.age
 
-abbrev pub lines_told : {A : Type 0} → List ℕ → A → ℕ → LinesRead → Read A
-lines_told s a after (Next next) = reads a (after, drop next s)
-lines_told s a after (NotLines line) = fails line
+-- its terms are in their ranges, and the fronts lie inside what was lent
+pub record Fits (t : Terms) (n : ℕ) : Type 0 where
+  pub two_columns : least_side ≤ t.nx
+  pub few_columns : t.nx ≤ most_side
+  pub two_rows : least_side ≤ t.ny
+  pub few_rows : t.ny ≤ most_side
+  pub scans_some : 1 ≤ t.scans
+  pub scans_few : t.scans ≤ most_scans
+  pub entries : length t.entries ≡ most_scans
+  pub round : t.mode ≡ round_mode
+  pub ruled : Ruled t.rule
+  pub stations_few : n ≤ most_stations
 
--- ---- scans
+-- a text whose lines say a request, up to its end
+pub record Says (text : List ℕ) (guess : List ℤ) (stations : List Row) (t : Terms) (n after : ℕ) : Type 0 where
+  pub said : request_lines (1, text) ≡ reads (request_read t n guess stations) (after, [])
+  pub fits : Fits t n
 
--- entry m of a plan
-abbrev pub entry_at : List ℤ → List ℤ → ℕ → Entry
-entry_at radius limit m = record { radius = get_or radius m (pos 0); limit = get_or limit m (pos 0) }
-
-pub record ScansAre (s : List ℕ) (at line n : ℕ) (radius limit : List ℤ) (r : LinesRead) : Type 0 where
-  pub said : lines n scan_line (line, drop at s) ≡ lines_told s (tab n (entry_at radius limit)) (line + n) r
-  pub radii : length radius ≡ most_scans
-  pub limits : length limit ≡ most_scans
-
-module _ (n : ℕ) (rs es : List ℤ) (r e : ℤ) (hr : n < length rs) (he : n < length es) where
-  pub entry_stored : tab (n + 1) (entry_at (set rs n r) (set es n e)) ≡ tab n (entry_at rs es) ++ (record { radius = r; limit = e } ∷ [])
-  entry_stored =
-      tab_grows n (entry_at rs es) (entry_at (set rs n r) (set es n e)) (record { radius = r; limit = e })
-      (λ k h. let ne : k ≡ n → ⊥ = λ q. omega arith in rw (get_or-set_other rs n k r (pos 0) ne, get_or-set_other es n k e (pos 0) ne))
-      (rw (get_or-set_same rs n r (pos 0) hr, get_or-set_same es n e (pos 0) he))
-
--- ---- stations
-
-pub record StationRows (s : List ℕ) (at line n : ℕ) (numbers : List (List ℤ)) (minutes : List (List ℕ)) (r : LinesRead) : Type 0 where
-  pub said : lines n station_line (line, drop at s) ≡ lines_told s (tab n (station_in numbers minutes)) (line + n) r
-  pub numbers_long : length numbers ≡ most_stations
-  pub minutes_long : length minutes ≡ most_stations
+abbrev pub RequestIs : List ℕ → List ℤ → List Row → Outcome (Terms × ℕ × ℕ) NotInForm → Type 0
+RequestIs text guess stations (Ok read) = Says text guess stations read.0 read.1 read.2
+RequestIs text guess stations (Err e) = request_lines (1, text) ≡ fails e.line

@@ -1,183 +1,93 @@
-// The request text (document 01): its lines in their order, read into the caller's tables, or the first line not in form.
+// The request text (document 01): its lines in their order, read into terms and what the caller lends, or the first line not in form.
 #![tactic(auto)]
 
-ghost use Rattle.std.specs.Prelude.{◌≡◌, ◌+◌, ◌*◌, ◌≤◌, ◌<◌, ◌^◌, length, take, drop};
-ghost use Rattle.scheme.specs.Units.{most_scans, most_stations};
+ghost use Rattle.std.specs.Prelude.{◌≡◌, ◌+◌, ◌*◌, ◌<◌, ◌^◌, length, map, IfOk};
+ghost use Rattle.scheme.specs.Units.{most_stations};
 ghost use Rattle.scheme.specs.Most.{most_points};
-ghost use Rattle.scheme.specs.Text.Lines.{row_line};
-ghost use Rattle.scheme.specs.Text.Order.{rows};
-ghost use Rattle.text_head.specs.Head.{Limits};
-ghost use Rattle.text_request.specs.Told.{lines_told, ScansAre, StationRows};
-ghost use Rattle.text_request.specs.Whole.{StationsAre, PointsAre, BodyIs, RequestIs};
+ghost use Rattle.scheme.specs.Text.Lines.{scan_line, row_line, station_line};
+ghost use Rattle.scheme.specs.Text.Order.{lines, rows};
+ghost use Rattle.request.specs.Tables.{station_of};
+ghost use Rattle.text_lines.specs.Told.{entry_of};
+ghost use Rattle.text_head.specs.Left.{left_of};
+ghost use Rattle.text_request.specs.Told.{all_told, RequestIs};
 
-use text_head::{Buddy, Head, HeadRead};
-use text_lines::EntryRead;
-use text_pieces::{UnsignedRead, WordRead};
+use request::{Entry, Station, Terms};
+use text_head::{Left, NotInForm};
 
-// Where lines end, or the first of them that is not in form.
-#[derive(Clone, Copy)]
-enum LinesRead {
-    Next(usize),
-    NotInForm(u32),
-}
+// ---- lines of a kind, into what is lent: as many as it is long. Each kind has its loop: one for all would take the reader as a closure and the
+// definition that it meets as a ghost argument, and its contract alone would be longer than a loop.
 
-// What the head and the line of the buddy check say and how many stations there are, or the first line not in form.
-#[derive(Clone, Copy)]
-pub enum RequestRead {
-    Value(Head, Buddy, u32),
-    NotInForm(u32),
-}
-
-// ---- lines of a kind, the first of which is line number line, into the front of what the caller lends
-
-fn scan_lines(
-    s: &[u8],
-    at: usize,
-    line: u32,
-    n: usize,
-    radius: &mut [i32; 6],
-    limit: &mut [i32; 6],
-) -> LinesRead
-    requires { (line + n < 2 ^ 32) × (n ≤ most_scans) × (length radius.old ≡ most_scans) × (length limit.old ≡ most_scans) }
-    ensures { ScansAre s.now at line n radius.new limit.new result }
+fn scan_lines<'a>(left: Left<'a>, entries: &mut [Entry]) -> Result<Left<'a>, NotInForm>
+    requires { left.line + length entries.old < 2 ^ 32 }
+    ensures said { lines (length entries.old) scan_line (left_of left.entry) ≡ all_told (map entry_of entries.new) result }
+    ensures next { IfOk result (λ after. after.line ≡ left.entry.line + length entries.old) }
 {
-    let mut p = at;
-    let mut i: usize = 0;
-    while i < n {
-        let EntryRead::Value(r, e, next) = text_lines::entry_line(s, p, b"scan=") else {
-            return LinesRead::NotInForm(line + i as u32);
-        };
-        radius[i] = r;
-        limit[i] = e;
-        p = next;
-        i += 1;
+    let mut left = left;
+    for entry in entries.iter_mut() {
+        let (scan, after) = left.line(text_lines::entry_line(left.text, b"scan="))?;
+        *entry = scan;
+        left = after;
     }
-    LinesRead::Next(p)
+    Ok(left)
 }
 
-fn row_lines(s: &[u8], at: usize, line: u32, nx: usize, ny: usize, z: &mut [i32]) -> LinesRead
-    requires { (line + ny < 2 ^ 32) × (ny * nx ≤ length z.old) }
-    ensures { rows ny (row_line nx) (line, drop at s.now) ≡ lines_told s.now (take (ny * nx) z.new) (line + ny) result }
+fn station_lines<'a>(left: Left<'a>, stations: &mut [Station]) -> Result<Left<'a>, NotInForm>
+    requires { left.line + length stations.old < 2 ^ 32 }
+    ensures { lines (length stations.old) station_line (left_of left.entry) ≡ all_told (map station_of stations.new) result }
 {
-    let mut p = at;
-    let mut j: usize = 0;
-    while j < ny {
-        let a = j * nx;
-        let b = a + nx;
-        let WordRead::At(next) = text_lines::row_line(s, p, &mut z[a..b]) else {
-            return LinesRead::NotInForm(line + j as u32);
-        };
-        p = next;
-        j += 1;
+    let mut left = left;
+    for station in stations.iter_mut() {
+        let (read, after) = left.line(text_lines::station_line(left.text))?;
+        *station = read;
+        left = after;
     }
-    LinesRead::Next(p)
+    Ok(left)
 }
 
-fn station_lines(
-    s: &[u8],
-    at: usize,
-    line: u32,
-    n: usize,
-    numbers: &mut [[i32; 5]; 512],
-    minutes: &mut [[u32; 3]; 512],
-) -> LinesRead
-    requires { (line + n < 2 ^ 32) × (n ≤ most_stations) × (length numbers.old ≡ most_stations) × (length minutes.old ≡ most_stations) }
-    ensures { StationRows s.now at line n numbers.new minutes.new result }
+fn row_lines<'a>(left: Left<'a>, nx: usize, ny: usize, z: &mut [i32]) -> Result<Left<'a>, NotInForm>
+    requires { (left.line + ny < 2 ^ 32) × (ny * nx ≡ length z.old) }
+    ensures said { rows ny (row_line nx) (left_of left.entry) ≡ all_told z.new result }
+    ensures next { IfOk result (λ after. after.line ≡ left.entry.line + ny) }
 {
-    let mut p = at;
-    let mut i: usize = 0;
-    while i < n {
-        let WordRead::At(next) = text_lines::station_line(s, p, i, numbers, minutes) else {
-            return LinesRead::NotInForm(line + i as u32);
+    let mut left = left;
+    // By its index: of what a loop over chunks_exact_mut leaves in z, a proof would know no more than the length.
+    for j in 0..ny {
+        let at = j * nx;
+        let end = at + nx;
+        let Some(text) = text_lines::row_line(left.text, &mut z[at..end]) else {
+            return Err(NotInForm { line: left.line });
         };
-        p = next;
-        i += 1;
+        left = Left {
+            line: left.line + 1,
+            text,
+        };
     }
-    LinesRead::Next(p)
+    Ok(left)
 }
 
 // ---- the whole request: each part where the one before ended
 
-// The stations, in the lines after the first guess, and nothing after them.
-fn stations_at(
-    s: &[u8],
-    at: usize,
-    h: Head,
-    b: Buddy,
-    numbers: &mut [[i32; 5]; 512],
-    minutes: &mut [[u32; 3]; 512],
-) -> RequestRead
-    requires { Limits h × (b.line ≤ 14) × (length numbers.old ≡ most_stations) × (length minutes.old ≡ most_stations) }
-    ensures { StationsAre s.now at h b numbers.new minutes.new result }
-{
-    let line = b.line + h.ny;
-    let UnsignedRead::Value(count, p) = text_lines::number_line(s, at, b"stations=", 0, 512) else {
-        return RequestRead::NotInForm(line);
-    };
-    match station_lines(s, p, line + 1, count as usize, numbers, minutes) {
-        LinesRead::NotInForm(k) => RequestRead::NotInForm(k),
-        LinesRead::Next(next) => {
-            if next < s.len() {
-                return RequestRead::NotInForm(line + 1 + count);
-            }
-            RequestRead::Value(h, b, count)
-        }
-    }
-}
-
-// The first guess and the stations, after a head and a plan in form.
-fn points_at(
-    s: &[u8],
-    h: Head,
-    b: Buddy,
-    guess: &mut [i32],
-    numbers: &mut [[i32; 5]; 512],
-    minutes: &mut [[u32; 3]; 512],
-) -> RequestRead
-    requires { Limits h × (b.line ≤ 14) × (length guess.old ≡ most_points) × (length numbers.old ≡ most_stations) × (length minutes.old ≡ most_stations) }
-    ensures { PointsAre s.now h b guess.new numbers.new minutes.new result }
-{
-    match row_lines(s, b.next, b.line, h.nx as usize, h.ny as usize, guess) {
-        LinesRead::NotInForm(k) => RequestRead::NotInForm(k),
-        LinesRead::Next(p) => stations_at(s, p, h, b, numbers, minutes),
-    }
-}
-
-// What all lines say, after a head in form.
-fn body(
-    s: &[u8],
-    h: Head,
-    guess: &mut [i32],
-    radius: &mut [i32; 6],
-    limit: &mut [i32; 6],
-    numbers: &mut [[i32; 5]; 512],
-    minutes: &mut [[u32; 3]; 512],
-) -> RequestRead
-    requires { Limits h × (length guess.old ≡ most_points) × (length radius.old ≡ most_scans) × (length limit.old ≡ most_scans) × (length numbers.old ≡ most_stations) × (length minutes.old ≡ most_stations) }
-    ensures { BodyIs s.now h guess.new radius.new limit.new numbers.new minutes.new result }
-{
-    match scan_lines(s, h.next, h.line, h.scans as usize, radius, limit) {
-        LinesRead::NotInForm(k) => RequestRead::NotInForm(k),
-        LinesRead::Next(p) => {
-            let b = text_head::buddy_line(s, p, h.line + h.scans);
-            points_at(s, h, b, guess, numbers, minutes)
-        }
-    }
-}
-
+// Its terms, how many stations it has, and the number of the line after the last. Its first guess goes into the front of guess, and its stations into the front of stations.
 pub fn read_request(
-    s: &[u8],
+    text: &[u8],
     guess: &mut [i32],
-    radius: &mut [i32; 6],
-    limit: &mut [i32; 6],
-    numbers: &mut [[i32; 5]; 512],
-    minutes: &mut [[u32; 3]; 512],
-) -> RequestRead
-    requires { (length guess.old ≡ most_points) × (length radius.old ≡ most_scans) × (length limit.old ≡ most_scans) × (length numbers.old ≡ most_stations) × (length minutes.old ≡ most_stations) }
-    ensures { RequestIs s.now guess.new radius.new limit.new numbers.new minutes.new result }
+    stations: &mut [Station],
+) -> Result<(Terms, usize, u32), NotInForm>
+    requires { (length guess.old ≡ most_points) × (length stations.old ≡ most_stations) }
+    ensures { RequestIs text.now guess.new stations.new result }
 {
-    match text_head::head_lines(s) {
-        HeadRead::NotInForm(k) => RequestRead::NotInForm(k),
-        HeadRead::Value(h) => body(s, h, guess, radius, limit, numbers, minutes),
+    let (head, left) = text_head::head_lines(text)?;
+    let mut entries = [request::NO_ENTRY; 6];
+    let left = scan_lines(left, &mut entries[..head.scans as usize])?;
+    let (buddies, left) = text_head::buddy_line(left);
+    let (nx, ny) = (head.nx as usize, head.ny as usize);
+    let left = row_lines(left, nx, ny, &mut guess[..ny * nx])?;
+    let (count, left) = left.line(text_lines::number_line(left.text, b"stations=", 0, 512))?;
+    let count = count as usize;
+    let left = station_lines(left, &mut stations[..count])?;
+    if !left.text.is_empty() {
+        return Err(NotInForm { line: left.line });
     }
+    let terms = text_head::terms_read(head, entries, buddies);
+    Ok((terms, count, left.line))
 }

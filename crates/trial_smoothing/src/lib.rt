@@ -2,30 +2,21 @@
 // archive of its own, which nobody is handed.
 #![tactic(auto)]
 
-ghost use Rattle.std.specs.Prelude.{◌≡◌, ◌≤◌, length};
-ghost use Rattle.lists.specs.Members.{every};
-ghost use Rattle.scheme.specs.Most.{most_points};
+ghost use Rattle.std.specs.Prelude.{◌≡◌};
+ghost use Rattle.std.specs.List.{list_all};
 ghost use Rattle.trial_smoothing.specs.Trial.{fair, Smooths};
 
 // A value as small as those of an accepted run.
 fn is_fair(v: i32) -> bool
     ensures { result ≡ fair v }
 {
-    (-13000000 <= v) & (v <= 13000000)
+    (-13000000..=13000000).contains(&v)
 }
 
 fn all_fair(field: &[i32]) -> bool
-    requires { length field.now ≤ most_points }
-    ensures { result ≡ every fair field.now }
+    ensures { result ≡ list_all fair field.now }
 {
-    let mut k: usize = 0;
-    while k < field.len() {
-        if !is_fair(field[k]) {
-            return false;
-        }
-        k += 1;
-    }
-    true
+    field.iter().all(|v| is_fair(*v))
 }
 
 // The field is smoothed; or it is no field, or has a larger value, and is left as it was.

@@ -1,11 +1,12 @@
 -- The cut as a request of its own, and the window on it.
-use Rattle.std.specs.Prelude.{ℕ, ◌+◌, ◌-◌, ◌*◌, ◌≤◌, ◌<◌, ◌≡◌, refl, List, [], length, get_or, ℤ, pos}
+use Rattle.std.specs.Prelude.{ℕ, ◌+◌, ◌-◌, ◌*◌, ◌≤◌, ◌<◌, ◌≡◌, refl, List, length, map, ℤ, pos}
 use Rattle.std.proofs.Common.{arith, sym, ap, ap₂, subst, ◌∙◌}
 use Rattle.lists.specs.Tab.{length-tab, get_or_tab}
-use Rattle.scheme.specs.Units.{most_side, Field, stored, guess, Request}
+use Rattle.lists.specs.Keep.{keep}
+use Rattle.scheme.specs.Units.{most_side, most_stations, Field, stored, guess, Request}
 use Rattle.scheme.specs.Refusals.{Span, Window, points_along}
 use Rattle.scheme.specs.Scan.{at_end}
-use Rattle.scheme.specs.Reach.{reach, widened, cut_of, window_of, cut, whole_at}
+use Rattle.scheme.specs.Reach.{reach, widened, cut_of, window_of, on_window, counted, cut, whole_at}
 use Rattle.scheme.specs.Accepted.{Stationed, no_station, Sound, FitsWindow, OnGrid}
 use Rattle.scheme.proofs.Accepted.{same_shape}
 use Rattle.scheme.proofs.Stored.{stored_same}
@@ -13,10 +14,11 @@ use Rattle.scheme.proofs.Cut.{cut_sound}
 use Rattle.scheme.specs.Windows.{OfWindow}
 use Rattle.scheme.proofs.Windows.{window_value, window_support}
 use Rattle.request.specs.declared.Terms.{Terms}
-use Rattle.request.specs.Tables.{station_of, station_in, request_in}
+use Rattle.request.specs.declared.Station.{Station as Row}
+use Rattle.request.specs.Tables.{station_in, stations_in, request_in}
 use Rattle.window_spans.specs.Spans.{Placed}
-use Rattle.window_cut.specs.Kept.{KeepReady, Kept}
-use Rattle.window_cut.specs.Part.{part_of, PartReady, part_ready}
+use Rattle.window_cut.specs.Kept.{KeepReady}
+use Rattle.window_cut.specs.Part.{part_at, part_of, PartReady, part_ready}
 
 -- ---- along one axis of n points: the window lies on the cut, and the cut on the grid
 
@@ -60,7 +62,7 @@ module _ {q : Request} (sound : Sound q) {w : Window} (on : OnGrid q.nx q.ny w) 
       }
 
   pub guess_part : (m : ℕ) → m ≡ points_along here.columns * points_along here.rows
-      → PartReady m (length q.first_guess) q.nx here.columns.first here.rows.first (points_along here.columns) (points_along here.rows)
+      → PartReady m (length q.first_guess) q.nx (part_at here)
   guess_part m long =
       part_ready sound.shape (omega (arith, across.first, across.ordered, across.last, across.inside))
       (omega (arith, down.first, down.ordered, down.last, down.inside)) m long
@@ -96,56 +98,55 @@ module _ (q : Request) (w : Window) (sound : Sound q) (on : OnGrid q.nx q.ny w) 
       let b = window_same (at_end (cut q w)).support (at_end q).support (unfold cut in window_support q w sound on) in
       cc
 
--- ---- the cut as the code has it: a window, a first guess, and the first rows of two tables
+-- ---- the cut as the code has it: its terms, a first guess, and stations
 
-abbrev pub cut_terms : Terms → (wide high stations : ℕ) → Terms
-cut_terms t wide high stations =
+abbrev pub cut_terms : Terms → Window → Terms
+cut_terms t c =
     record {
-      nx = wide;
-      ny = high;
-      stations = stations;
+      nx = points_along c.columns;
+      ny = points_along c.rows;
       scans = t.scans;
-      radius = t.radius;
-      limit = t.limit;
+      entries = t.entries;
       smooth = t.smooth;
       mode = t.mode;
       rule = t.rule;
-      buddy = t.buddy;
-      buddy_radius = t.buddy_radius;
-      buddy_limit = t.buddy_limit;
+      buddies = t.buddies;
       time = t.time;
       age = t.age;
     }
 
-module _ (t : Terms) (guessed : List ℤ) (numbers : List (List ℤ)) (minutes : List (List ℕ)) where
+module _ (t : Terms) (guessed : List ℤ) (stations : List Row) where
   abbrev whole : Request
-  whole = request_in t guessed numbers minutes
+  whole = request_in t guessed stations
 
   module _ (sound : Sound whole) {w : Window} (on : OnGrid t.nx t.ny w) {here : Window} (e : here ≡ cut_of whole w) where
-    rows_long : length whole.stations ≡ t.stations
-    rows_long = length-tab t.stations (station_in numbers minutes)
+    rows_long : length whole.stations ≡ length stations
+    rows_long = length-tab (length stations) (station_in stations)
 
-    pub keep_ready : KeepReady t here numbers
-    keep_ready = record { shape = same_shape sound.shape _ refl; few = omega (arith, rows_long, sound.few_stations); on = small sound on e; placed = placed }
+    pub keep_ready : KeepReady t.nx t.ny here stations
+    keep_ready = record { shape = same_shape sound.shape _ refl; on = small sound on e; placed = placed }
       where
-        station : (k : ℕ) → k < t.stations → Stationed (station_in numbers minutes k)
-        station k h = rw (← get_or_tab t.stations (station_in numbers minutes) k no_station h) (sound.stations k (omega (arith, rows_long)))
+        station : (k : ℕ) → k < length stations → Stationed (station_in stations k)
+        station k h = rw (← get_or_tab (length stations) (station_in stations) k no_station h) (sound.stations k (omega (arith, rows_long)))
 
-        placed : (k : ℕ) → k < t.stations → Placed (get_or numbers k [])
-        placed k h = unfold station_of in record { x = (station k h).x; y = (station k h).y }
+        placed : (k : ℕ) → k < length stations → Placed (station_in stations k)
+        placed k h = record { x = (station k h).x; y = (station k h).y }
+
+    pub few_rows : length stations ≤ most_stations
+    few_rows = omega (arith, rows_long, sound.few_stations)
 
     -- the request that the code makes of it, and the window on it
-    module _ {part : List ℤ} {kept : List (List ℤ)} {times : List (List ℕ)} {m : ℕ} {t' : Terms} {w' : Window}
-        (first_guess : part ≡ stored (points_along here.columns) (points_along here.rows) (part_of (pos 0) t.nx here.columns.first here.rows.first guessed))
-        (stays : Kept t here numbers minutes kept times t.stations m)
-        (terms : t' ≡ cut_terms t (points_along here.columns) (points_along here.rows) m) (window : w' ≡ moved_on here w) where
-      is_cut : request_in t' part kept times ≡ cut whole w
+    module _ (kept : List Row) {part : List ℤ} {t' : Terms} {w' : Window}
+        (first_guess : part ≡ stored (points_along here.columns) (points_along here.rows) (part_of (pos 0) t.nx (part_at here) guessed))
+        (stays : stations_in kept ≡ map (counted here) (keep (on_window t.nx t.ny here) (stations_in stations)))
+        (terms : t' ≡ cut_terms t here) (window : w' ≡ moved_on here w) where
+      is_cut : request_in t' part kept ≡ cut whole w
       unfolding cut window_of guess
-      is_cut = rw (terms, stays.stations, first_guess, e)
+      is_cut = rw (terms, stays, first_guess, e)
 
       -- it is accepted, and answers the numbers of the whole grid
       pub cut_accepted : {grid support : ℕ} → FitsWindow w grid support
-          → Sound (request_in t' part kept times) × OnGrid t'.nx t'.ny w' × FitsWindow w' grid support
+          → Sound (request_in t' part kept) × OnGrid t'.nx t'.ny w' × FitsWindow w' grid support
       cut_accepted fits =
           let x = across sound on e in
           let y = down sound on e in (
@@ -161,5 +162,5 @@ module _ (t : Terms) (guessed : List ℤ) (numbers : List (List ℤ)) (minutes :
                 (record { grid_long = rw (same_points x, same_points y) fits.grid_long; support_long = rw (same_points x, same_points y) fits.support_long }),
           )
 
-      pub cut_answers : whole_at (request_in t' part kept times) w' ≡ whole_at whole w
+      pub cut_answers : whole_at (request_in t' part kept) w' ≡ whole_at whole w
       cut_answers = ap₂ whole_at is_cut (window ∙ ap (λ (v : Window). moved_on v w) e) ∙ cut_whole whole w sound on

@@ -1,19 +1,16 @@
--- The stations of the cut, as a loop keeps them: each is put after those kept, and counted if it is on the cut.
-use Rattle.std.specs.Prelude.{ℕ, ◌+◌, ◌*◌, ◌≤◌, ◌<◌, ◌≡◌, Bool, cond, length, get_or, set, ℤ}
-use Rattle.std.proofs.Common.{arith, sym, ◌∙◌, length-set, get_or-set_other}
-use Rattle.std.proofs.Math.Path.{refl, ap}
-use Rattle.std.proofs.Math.Bool.{true, false}
-use mathlib.Core.List.{List, [], ◌∷◌, ◌++◌, map}
-use Rattle.std.proofs.Math.Seq.{get_or-set_same}
+-- The stations of the cut, as a loop keeps them: each that is on the cut is put after those kept.
+use Rattle.std.specs.Prelude.{ℕ, ◌+◌, ◌*◌, ◌≤◌, ◌<◌, ◌≡◌, refl, Bool, true, false, cond, List, [], ◌∷◌, ◌++◌, length, map, take, set}
+use Rattle.std.proofs.Common.{arith, sym, ap, ◌∙◌, get_or-set_same, get_or-set_other}
+use Rattle.std.proofs.lemmas.List.{length-take-le, get_or-take}
 use Rattle.lists.specs.Tab.{tab, tab_same, tab_more}
 use Rattle.lists.specs.Keep.{keep}
-use Rattle.scheme.specs.Units.{most_side, most_stations, Station}
+use Rattle.scheme.specs.Units.{most_side}
 use Rattle.scheme.specs.Refusals.{Window}
 use Rattle.scheme.specs.Reach.{on_window, counted}
 use Rattle.scheme.specs.Accepted.{Shaped, OnGrid}
-use Rattle.request.specs.declared.Terms.{Terms}
-use Rattle.request.specs.Tables.{station_of, station_in}
-use Rattle.window_spans.specs.Spans.{row_on, Placed, counted_row}
+use Rattle.request.specs.declared.Station.{Station as Row}
+use Rattle.request.specs.Tables.{no_row, station_of, station_in, stations_in}
+use Rattle.window_spans.specs.Spans.{Placed}
 
 -- ---- one element more at the end of a list that is kept
 
@@ -36,72 +33,53 @@ kept_same {A = A} p a (b ∷ l) e = ap (λ (r : List A). cond (p b) (b ∷ r) r)
 -- ---- the loop
 
 -- what it needs
-pub record KeepReady (t : Terms) (w : Window) (numbers : List (List ℤ)) : Type 0 where
-  pub shape : Shaped t.nx t.ny (t.nx * t.ny)
-  pub few : t.stations ≤ most_stations
+pub record KeepReady (nx ny : ℕ) (w : Window) (stations : List Row) : Type 0 where
+  pub shape : Shaped nx ny (nx * ny)
   pub on : OnGrid most_side most_side w
-  pub placed : (k : ℕ) → k < t.stations → Placed (get_or numbers k [])
+  pub placed : (k : ℕ) → k < length stations → Placed (station_in stations k)
 
--- the first m rows of the tables that it fills are the cut of the first k rows
-pub record Kept (t : Terms) (w : Window) (numbers : List (List ℤ)) (minutes : List (List ℕ)) (kept : List (List ℤ)) (times : List (List ℕ)) (k m : ℕ) : Type 0 where
-  pub kept_long : length kept ≡ most_stations
-  pub times_long : length times ≡ most_stations
-  pub no_more : m ≤ k
-  pub stations : tab m (station_in kept times) ≡ map (counted w) (keep (on_window t.nx t.ny w) (tab k (station_in numbers minutes)))
+module _ (nx ny : ℕ) (w : Window) (stations : List Row) where
+  -- the first m rows of those that it fills are the cut of the first k stations
+  pub record Kept (kept : List Row) (k m : ℕ) : Type 0 where
+    pub no_more : m ≤ k
+    pub so : tab m (station_in kept) ≡ map (counted w) (keep (on_window nx ny w) (tab k (station_in stations)))
 
-module _ (t : Terms) (w : Window) (numbers : List (List ℤ)) (minutes : List (List ℕ)) where
-  pub kept_none : (kept : List (List ℤ)) (times : List (List ℕ)) → length kept ≡ most_stations → length times ≡ most_stations → Kept t w numbers minutes kept times 0 0
+  pub kept_none : (kept : List Row) → Kept kept 0 0
   unfolding tab keep
-  kept_none kept times l l' = record { kept_long = l; times_long = l'; no_more = omega arith; stations = refl }
+  kept_none kept = record { no_more = omega arith; so = refl }
 
-  -- a turn: row k is put after those kept
-  module _ {kept : List (List ℤ)} {times : List (List ℕ)} {k m : ℕ} (p : Kept t w numbers minutes kept times k m) (h : m < most_stations)
-      {row : List ℤ} (e : row ≡ counted_row w (get_or numbers k [])) where
-    abbrev here : Station
-    here = station_in numbers minutes k
-
-    abbrev stamps : List ℕ
-    stamps = get_or minutes k []
-
-    abbrev kept' : List (List ℤ)
-    kept' = set kept m row
-
-    abbrev times' : List (List ℕ)
-    times' = set times m stamps
-
-    put_other : (i : ℕ) → i < m → station_in kept' times' i ≡ station_in kept times i
-    put_other i l =
-        let n : i ≡ m → ⊥ = λ (q : i ≡ m). omega arith in
-        rw (get_or-set_other kept m i row [] n, get_or-set_other times m i stamps [] n)
-
-    put_same : station_in kept' times' m ≡ counted w here
-    unfolding station_of counted
-    put_same =
-        rw (get_or-set_same kept m row [] (omega (arith, p.kept_long)), get_or-set_same times m stamps [] (omega (arith, p.times_long)), e)
-
-    before : tab m (station_in kept' times') ≡ map (counted w) (keep (on_window t.nx t.ny w) (tab k (station_in numbers minutes)))
-    before = tab_same m (station_in kept' times') (station_in kept times) put_other ∙ p.stations
-
-    next : (b : Bool) → on_window t.nx t.ny w here ≡ b → Kept t w numbers minutes kept' times' (k + 1) (m + cond b 1 0)
-    next true q =
+  -- a turn: station k is put after those kept, if it is on the cut
+  module _ {kept : List Row} {k m : ℕ} (p : Kept kept k m) where
+    pub kept_put : (row : Row) → m < length kept → on_window nx ny w (station_in stations k) ≡ true → station_of row ≡ counted w (station_in stations k)
+        → Kept (set kept m row) (k + 1) (m + 1)
+    kept_put row room on e =
         record {
-          kept_long = length-set kept m row ∙ p.kept_long;
-          times_long = length-set times m stamps ∙ p.times_long;
           no_more = omega (arith, p.no_more);
-          stations =
-              tab_more m (station_in kept' times')
-              ∙ rw (before, put_same, tab_more k (station_in numbers minutes)) (sym (kept_more (on_window t.nx t.ny w) (counted w) here (tab k (station_in numbers minutes)) q));
+          so =
+              tab_more m (station_in (set kept m row))
+              ∙ rw (before, put, tab_more k (station_in stations)) (sym (kept_more (on_window nx ny w) (counted w) (station_in stations k) (tab k (station_in stations)) on));
         }
-    next false q =
-        let z : m + 0 ≡ m = omega arith in
-        rw z
-        (record {
-          kept_long = length-set kept m row ∙ p.kept_long;
-          times_long = length-set times m stamps ∙ p.times_long;
-          no_more = omega (arith, p.no_more);
-          stations = before ∙ rw (tab_more k (station_in numbers minutes), kept_same (on_window t.nx t.ny w) here (tab k (station_in numbers minutes)) q);
-        })
+      where
+        put : station_in (set kept m row) m ≡ counted w (station_in stations k)
+        put = ap station_of (get_or-set_same kept m row no_row room) ∙ e
 
-    pub kept_turn : {n : ℕ} → n ≡ cond (row_on t.nx t.ny w (get_or numbers k [])) 1 0 → Kept t w numbers minutes kept' times' (k + 1) (m + n)
-    unfolding station_of
-    kept_turn en = rw en (next (row_on t.nx t.ny w (get_or numbers k [])) refl)
+        before : tab m (station_in (set kept m row)) ≡ map (counted w) (keep (on_window nx ny w) (tab k (station_in stations)))
+        before =
+            tab_same m (station_in (set kept m row)) (station_in kept) (λ i l. ap station_of (get_or-set_other kept m i row no_row (λ (q : i ≡ m). omega arith)))
+            ∙ p.so
+
+    pub kept_passed : on_window nx ny w (station_in stations k) ≡ false → Kept kept (k + 1) m
+    kept_passed off =
+        record {
+          no_more = omega (arith, p.no_more);
+          so = rw (tab_more k (station_in stations), kept_same (on_window nx ny w) (station_in stations k) (tab k (station_in stations)) off) p.so;
+        }
+
+  -- all stations
+  pub kept_all : {kept : List Row} {k m : ℕ} → Kept kept k m → k ≡ length stations → m ≤ length kept
+      → stations_in (take m kept) ≡ map (counted w) (keep (on_window nx ny w) (stations_in stations))
+  kept_all {kept = kept} {m = m} p e room =
+      ap (λ (n : ℕ). tab n (station_in (take m kept))) (length-take-le m kept room)
+      ∙ tab_same m (station_in (take m kept)) (station_in kept) (λ i l. ap station_of (get_or-take m kept i no_row l))
+      ∙ p.so
+      ∙ ap (λ (n : ℕ). map (counted w) (keep (on_window nx ny w) (tab n (station_in stations)))) e

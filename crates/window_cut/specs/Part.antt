@@ -1,54 +1,37 @@
 -- A part of a stored field, copied row after row.
-use Rattle.std.specs.Prelude.{ℕ, ◌+◌, ◌-◌, ◌*◌, ◌/◌, ◌%◌, ◌≤◌, ◌<◌, ◌≡◌, List, length, set}
-use native.Mathlib.Omega.{arith}
-use Rattle.std.proofs.Common.{add_comm, mul_comm, mul-le-mul, mul-le-mul_right, sym, ◌∙◌}
-use Rattle.std.proofs.Math.Path.{ap}
+use Rattle.std.specs.Prelude.{ℕ, ◌+◌, ◌-◌, ◌*◌, ◌/◌, ◌%◌, ◌≤◌, ◌<◌, ◌≡◌, ◌⊎◌, List, ◌++◌, length, take, drop, get_or}
+use Rattle.std.proofs.Common.{arith, add_comm, mul_comm, mul-le-mul, mul-le-mul_right, ap, ◌∙◌, inl, inr, length-drop, length-take-le}
+use Rattle.std.proofs.lemmas.List.{get_or-append-add, get_or_append_left, get_or-take, get_or-drop}
 use Rattle.std.proofs.Math.Arith.{digits_div, digits_mod}
-use Rattle.std.proofs.Math.ListN.{get_or}
-use Rattle.lists.specs.Filled.{Filled, filled_none, filled_set, filled_join, filled_all}
+use Rattle.lists.specs.Tests.{lt_or_le}
+use Rattle.lists.specs.Tab.{is_tab}
 use Rattle.scheme.specs.Units.{most_side, Field, stored, field_of}
+use Rattle.scheme.specs.Refusals.{Window, points_along}
 use Rattle.scheme.specs.Most.{most_points}
 use Rattle.scheme.specs.Accepted.{Shaped}
-
--- ---- a row: n elements from one place to another
-
--- what comes to place k of the one list from the other
-abbrev pub copied : {A : Type 0} → A → (at : ℕ) → List A → (place : ℕ) → ℕ → A
-copied past at from place k = get_or from (place + (k - at)) past
-
-pub record CopyReady (to at from place n : ℕ) : Type 0 where
-  pub to_few : to ≤ most_points
-  pub to_room : at + n ≤ to
-  pub from_few : from ≤ most_points
-  pub from_room : place + n ≤ from
-
-module _ {A : Type 0} (past : A) (at : ℕ) (from : List A) (place : ℕ) where
-  pub copied_none : (to : List A) → Filled past (copied past at from place) at (at + 0) to to
-  copied_none to = filled_none past (copied past at from place) at (at + 0) to (omega arith)
-
-  pub copied_next : (to₀ to : List A) (i : ℕ) (v : A) → at + i < length to → v ≡ get_or from (place + i) past
-      → Filled past (copied past at from place) at (at + i) to₀ to → Filled past (copied past at from place) at (at + (i + 1)) to₀ (set to (at + i) v)
-  copied_next to₀ to i v h e p =
-      let k : at + i - at ≡ i = omega arith in
-      filled_set past (copied past at from place) at (at + i) (at + (i + 1)) to₀ to v (omega arith) (omega arith) h (e ∙ ap (λ (n : ℕ). get_or from (place + n) past) (sym k)) p
+use Rattle.window_cut.specs.declared.Part.{Part}
 
 -- ---- the part
 
-abbrev pub part_of : {A : Type 0} → A → (across column row : ℕ) → List A → Field A
-part_of past across column row from i j = field_of past across from (i + column) (j + row)
+-- a window's
+abbrev pub part_at : Window → Part
+part_at w = record { column = w.columns.first; row = w.rows.first; wide = points_along w.columns; high = points_along w.rows }
 
-pub record PartReady (to from across column row wide high : ℕ) : Type 0 where
-  pub to_is : to ≡ wide * high
+abbrev pub part_of : {A : Type 0} → A → (across : ℕ) → Part → List A → Field A
+part_of past across p from i j = field_of past across from (i + p.column) (j + p.row)
+
+pub record PartReady (to from across : ℕ) (p : Part) : Type 0 where
+  pub to_is : to ≡ p.wide * p.high
   pub to_few : to ≤ most_points
   pub from_few : from ≤ most_points
-  pub columns : column + wide ≤ across
-  pub few_rows : row + high ≤ most_side
-  pub rows : (row + high) * across ≤ from
+  pub columns : p.column + p.wide ≤ across
+  pub few_rows : p.row + p.high ≤ most_side
+  pub rows : (p.row + p.high) * across ≤ from
 
 -- of a grid of that many columns
-pub part_ready : {from across down column row wide high : ℕ} → Shaped across down from → column + wide ≤ across → row + high ≤ down
-    → (to : ℕ) → to ≡ wide * high → PartReady to from across column row wide high
-part_ready {from = from} {across = across} {down = down} {row = row} {wide = wide} {high = high} s c r to e =
+pub part_ready : {from across down : ℕ} {p : Part} → Shaped across down from → p.column + p.wide ≤ across → p.row + p.high ≤ down
+    → (to : ℕ) → to ≡ p.wide * p.high → PartReady to from across p
+part_ready {from = from} {across = across} {down = down} {p = p} s c r to e =
     record {
       to_is = e;
       to_few = rw e (mul-le-mul narrow low);
@@ -58,54 +41,75 @@ part_ready {from = from} {across = across} {down = down} {row = row} {wide = wid
       rows = omega (arith, mul-le-mul_right across r, s.whole, mul_comm across down);
     }
   where
-    narrow : wide ≤ most_side
+    narrow : p.wide ≤ most_side
     narrow = omega (arith, s.few_columns)
 
-    low : high ≤ most_side
+    low : p.high ≤ most_side
     low = omega (arith, s.few_rows)
 
--- what the part has at place k
-abbrev pub part_k : {A : Type 0} → A → (across column row wide : ℕ) → List A → ℕ → A
-part_k past across column row wide from k = part_of past across column row from (k % wide) (k / wide)
+-- ---- its rows, one after the other
 
-module _ {A : Type 0} (past : A) (across column row wide high : ℕ) (from : List A) where
-  abbrev part_at : ℕ → A
-  part_at = part_k past across column row wide from
+module _ {A : Type 0} (across : ℕ) (p : Part) (from : List A) where
+  -- where row j begins in the part, and in the field
+  abbrev in_part : ℕ → ℕ
+  in_part j = j * p.wide
 
-  -- row j
-  pub row_ready : {to : ℕ} → PartReady to (length from) across column row wide high → (j : ℕ) → j < high → CopyReady to (j * wide) (length from) ((row + j) * across + column) wide
-  row_ready p j h =
-      record {
-        to_few = p.to_few;
-        to_room = omega (arith, p.to_is, mul-le-mul_right wide h, mul_comm wide high);
-        from_few = p.from_few;
-        from_room = omega (arith, p.columns, p.rows, mul-le-mul_right across (below j h));
-      }
-    where
-      below : (j : ℕ) → j < high → row + j + 1 ≤ row + high
-      below j h = omega arith
+  abbrev in_field : ℕ → ℕ
+  in_field j = (p.row + j) * across + p.column
 
-  pub part_none : (to : List A) → Filled past part_at 0 (0 * wide) to to
-  part_none to = filled_none past part_at 0 (0 * wide) to (omega arith)
+  -- the first j rows are copied
+  abbrev pub Copied : ℕ → List A → Type 0
+  Copied j to = (past : A) (k : ℕ) → k < in_part j → get_or to k past ≡ part_of past across p from (k % p.wide) (k / p.wide)
 
-  pub part_next : (to₀ to to' : List A) (j : ℕ) → Filled past part_at 0 (j * wide) to₀ to
-      → Filled past (copied past (j * wide) from ((row + j) * across + column)) (j * wide) (j * wide + wide) to to' → Filled past part_at 0 ((j + 1) * wide) to₀ to'
+  pub copied_none : (to : List A) → Copied 0 to
+  copied_none to past k h = absurd (omega (arith, h))
+
+  -- a row more: so many of the field's from its place on, in the place of as many of the part's
+  pub copied_next : (j : ℕ) (to : List A) {row : List A} (m n : ℕ) → m ≡ p.wide → n ≡ p.wide → in_part j + p.wide ≤ length to → in_field j + p.wide ≤ length from
+      → row ≡ take n (drop (in_field j) from) → Copied j to → Copied (j + 1) (take (in_part j) to ++ (row ++ drop m (drop (in_part j) to)))
   unfolding field_of
-  part_next to₀ to to' j p q =
-      let e : (j + 1) * wide ≡ j * wide + wide = omega arith in
-      rw e (filled_join past part_at _ 0 (j * wide) (j * wide + wide) to₀ to to' (omega arith) (omega arith) same p q)
+  copied_next j to {row = row} m n em en room inside e passed past k h = go (lt_or_le k (in_part j))
     where
-      same : (k : ℕ) → j * wide ≤ k → k < j * wide + wide → copied past (j * wide) from ((row + j) * across + column) k ≡ part_at k
-      same k h m =
-          let i = k - j * wide in
-          let e : k ≡ j * wide + i = omega arith in
-          let a : k % wide ≡ i = ap (λ (n : ℕ). n % wide) e ∙ digits_mod j (omega arith) in
-          let b : k / wide ≡ j = ap (λ (n : ℕ). n / wide) e ∙ digits_div j (omega arith) in
-          let s : (row + j) * across + column + i ≡ (j + row) * across + (i + column) = omega (arith, ap (λ (n : ℕ). n * across) (add_comm row j)) in
-          rw (a, b) (ap (λ (n : ℕ). get_or from n past) s)
+      rest : List A
+      rest = row ++ drop m (drop (in_part j) to)
 
-  pub part_all : (to₀ to : List A) → length to₀ ≡ wide * high → Filled past part_at 0 (high * wide) to₀ to → to ≡ stored wide high (part_of past across column row from)
+      head : length (take (in_part j) to) ≡ in_part j
+      head = length-take-le (in_part j) to (omega (arith, room))
+
+      long : length row ≡ p.wide
+      long = ap length e ∙ length-take-le n (drop (in_field j) from) (rw (length-drop (in_field j) from, en) (omega (arith, inside))) ∙ en
+
+      go : (k < in_part j) ⊎ (in_part j ≤ k) → get_or (take (in_part j) to ++ rest) k past ≡ part_of past across p from (k % p.wide) (k / p.wide)
+      go (inl q) = get_or_append_left (take (in_part j) to) rest past k (omega (arith, head, q)) ∙ get_or-take (in_part j) to k past q ∙ passed past k q
+      go (inr q) =
+          let i = k - in_part j in
+          let inrow : i < p.wide = omega (arith, h, q) in
+          let at : k ≡ length (take (in_part j) to) + i = omega (arith, head, q) in
+          let here : k ≡ j * p.wide + i = omega (arith, q) in
+          let a : k % p.wide ≡ i = ap (λ (l : ℕ). l % p.wide) here ∙ digits_mod j inrow in
+          let b : k / p.wide ≡ j = ap (λ (l : ℕ). l / p.wide) here ∙ digits_div j inrow in
+          let s : in_field j + i ≡ (j + p.row) * across + (i + p.column) = omega (arith, ap (λ (l : ℕ). l * across) (add_comm p.row j)) in
+          ap (λ (l : ℕ). get_or (take (in_part j) to ++ rest) l past) at
+          ∙ get_or-append-add (take (in_part j) to) rest i past
+          ∙ get_or_append_left row (drop m (drop (in_part j) to)) past i (omega (arith, long, inrow))
+          ∙ ap (λ (l : List A). get_or l i past) e
+          ∙ get_or-take n (drop (in_field j) from) i past (omega (arith, inrow, en))
+          ∙ get_or-drop (in_field j) from i past
+          ∙ ap (λ (l : ℕ). get_or from l past) s
+          ∙ rw (a, b)
+
+  -- all rows
+  pub copied_all : (j : ℕ) (to : List A) → j ≡ p.high → length to ≡ p.wide * p.high → Copied j to → (past : A) → to ≡ stored p.wide p.high (part_of past across p from)
   unfolding stored
-  part_all to₀ to e p =
-      let h = rw (mul_comm high wide) at p in
-      filled_all past part_at (wide * high) to₀ to e h
+  copied_all j to e long passed past =
+      is_tab past (p.wide * p.high) _ to long (λ k h. passed past k (omega (arith, h, mul_comm p.wide p.high, ap (λ (n : ℕ). n * p.wide) e)))
+
+  -- row j lies in both
+  pub row_ready : {to j : ℕ} → PartReady to (length from) across p → j < p.high → (in_part j + p.wide ≤ to) × (in_field j + p.wide ≤ length from)
+  row_ready {j = j} r h = (
+    omega (arith, r.to_is, mul-le-mul_right p.wide h, mul_comm p.wide p.high),
+    omega (arith, r.columns, r.rows, mul-le-mul_right across (below j h)),
+  )
+    where
+      below : (j : ℕ) → j < p.high → p.row + j + 1 ≤ p.row + p.high
+      below j h = omega arith

@@ -5,84 +5,68 @@
 ghost use Rattle.std.specs.Prelude.{◌≡◌, ◌*◌, length};
 ghost use Rattle.scheme.specs.Refusals.{in_order};
 ghost use Rattle.scheme.specs.Reach.{reach, whole_at_each};
-ghost use Rattle.scheme.specs.Promises.{tile, Settles};
+ghost use Rattle.scheme.specs.Promises.{tile};
 ghost use Rattle.scheme.specs.Accepted.{Shaped, Planned, Sound, from_six, Formed, FitsScreen};
-ghost use Rattle.request.specs.Tables.{plan_in, request_in, windows_in, OnScreen};
+ghost use Rattle.request.specs.Tables.{plan_in, request_of, windows_in, OnScreen};
+ghost use Rattle.refusal.specs.Row.{SettlesAs};
 ghost use Rattle.window_screen.specs.Cuts.{points_of_cuts};
 
+use refusal::Refusal;
+use request::{Request, Terms, Window};
+
 // The points of all cuts together.
-fn points_of_cuts(t: request::Terms, screen: request::Screen) -> usize
-    requires { Shaped t.nx t.ny (t.nx * t.ny) × Planned (plan_in t) × OnScreen t.nx t.ny screen }
-    ensures { result ≡ points_of_cuts (reach (plan_in t)) t.nx t.ny (windows_in screen) }
+fn points_of_cuts(t: &Terms, windows: &[Window]) -> usize
+    requires { Shaped t.now.nx t.now.ny (t.now.nx * t.now.ny) × Planned (plan_in t.now) × OnScreen t.now.nx t.now.ny windows.now }
+    ensures { result ≡ points_of_cuts (reach (plan_in t.now)) t.now.nx t.now.ny (windows_in windows.now) }
 {
     let reach = window_spans::reach(t);
-    let mut points: usize = 0;
-    let mut k: usize = 0;
-    while k < screen.count {
-        let cut = window_spans::widened(reach, t.nx, t.ny, screen.windows[k]);
-        points += request::points_of(cut);
-        k += 1;
+    let mut points = 0;
+    for w in windows {
+        let cut = window_spans::widened(reach, t.nx, t.ny, *w);
+        points += cut.points();
     }
     points
 }
 
-// Each window by its cut, into the part of the results that is its own.
-fn by_cuts(
-    t: request::Terms,
-    screen: request::Screen,
-    guess: &[i32],
-    numbers: &[[i32; 5]; 512],
-    minutes: &[[u32; 3]; 512],
-    grid: &mut [i32],
-    support: &mut [u8],
-)
-    requires { Sound (request_in t guess.now numbers.now minutes.now) × OnScreen t.nx t.ny screen × FitsScreen (windows_in screen) (length grid.old) (length support.old) }
-    ensures { tile grid.new support.new ≡ whole_at_each (request_in t guess.now numbers.now minutes.now) (windows_in screen) }
+// Each window by its cut, into the part of the results that is its own: a loop as that of window_tile, with other work in it and the same
+// invariant. One loop for both would take the work as a closure, with a contract longer than the loop.
+fn by_cuts(request: &Request, windows: &[Window], grid: &mut [i32], support: &mut [u8])
+    requires { Sound (request_of request.now) × OnScreen request.now.terms.nx request.now.terms.ny windows.now × FitsScreen (windows_in windows.now) (length grid.old) (length support.old) }
+    ensures { tile grid.new support.new ≡ whole_at_each (request_of request.now) (windows_in windows.now) }
 {
     let mut part = [0i32; 4096];
-    let mut at: usize = 0;
-    let mut k: usize = 0;
-    while k < screen.count {
-        let w = screen.windows[k];
-        let end = at + request::points_of(w);
+    let mut at = 0;
+    for w in windows {
+        let end = at + w.points();
         window::work(
-            t,
-            w,
-            guess,
-            numbers,
-            minutes,
+            request,
+            *w,
             &mut part,
             &mut grid[at..end],
             &mut support[at..end],
         );
         at = end;
-        k += 1;
     }
 }
 
-// Rows 6 to 8 of the refusal table, which are all that is left to test; then the work. It answers refusal·65,536 + place.
+// Rows 6 to 8 of the refusal table, which are all that is left to test; then the work.
 pub fn settled(
-    t: request::Terms,
-    screen: request::Screen,
-    guess: &[i32],
-    numbers: &[[i32; 5]; 512],
-    minutes: &[[u32; 3]; 512],
+    request: &Request,
+    windows: &[Window],
     grid: &mut [i32],
     support: &mut [u8],
-) -> u32
-    requires { Formed (request_in t guess.now numbers.now minutes.now) × OnScreen t.nx t.ny screen × FitsScreen (windows_in screen) (length grid.old) (length support.old) }
-    ensures { Settles (in_order (from_six (request_in t guess.now numbers.now minutes.now)))
-        (whole_at_each (request_in t guess.now numbers.now minutes.now) (windows_in screen))
+) -> Result<(), Refusal>
+    requires { Formed (request_of request.now) × OnScreen request.now.terms.nx request.now.terms.ny windows.now × FitsScreen (windows_in windows.now) (length grid.old) (length support.old) }
+    ensures { SettlesAs (in_order (from_six (request_of request.now)))
+        (whole_at_each (request_of request.now) (windows_in windows.now))
         (tile grid.old support.old) result (tile grid.new support.new) }
 {
-    let refused = refusal::of_request(t, guess, numbers, minutes);
-    if refused != 0 {
-        return refused;
-    }
-    if t.nx * t.ny < points_of_cuts(t, screen) {
-        window_tile::whole_at_each(t, screen, guess, numbers, minutes, grid, support);
+    refusal::of_request(request)?;
+    let t = request.terms;
+    if t.nx * t.ny < points_of_cuts(&t, windows) {
+        window_tile::whole_at_each(request, windows, grid, support);
     } else {
-        by_cuts(t, screen, guess, numbers, minutes, grid, support);
+        by_cuts(request, windows, grid, support);
     }
-    0
+    Ok(())
 }

@@ -1,12 +1,12 @@
--- The reach, as a loop over the plan adds it up, and a station's row on the cut.
-use Prim.Native.Nat.{ℕ, ◌+◌, ◌-◌, ◌*◌, ◌/◌, ◌≤◌}
+-- The reach, as a loop over the plan adds it up, and a station's positions.
+use Prim.Native.Nat.{ℕ, ◌+◌, ◌-◌, ◌/◌, ◌≤◌}
 use Rattle.std.proofs.Common.{arith, sym, ◌∙◌}
-use Rattle.std.specs.Prelude.{◌≡◌, Bool, true, false, cond, ◌&&◌, List, [], ◌∷◌, get_or, ℤ, pos, nat_abs, ◌-ℤ◌}
+use Rattle.std.specs.Prelude.{◌≡◌, Bool, true, false, cond, nat_abs}
 use Rattle.std.proofs.Math.Path.{refl, ap}
 use Rattle.lists.specs.Sums.{up_to, up_to_next}
-use Rattle.scheme.specs.Units.{step, most_position, Plan, R, B}
-use Rattle.scheme.specs.Refusals.{Span, Window}
-use Rattle.scheme.specs.Reach.{steps, reach, on_span}
+use Rattle.scheme.specs.Units.{step, most_position, Station, Plan, R, B}
+use Rattle.scheme.specs.Refusals.{Span}
+use Rattle.scheme.specs.Reach.{steps, reach}
 
 abbrev pub from_to : ℕ → ℕ → Span
 from_to first last = record { first = first; last = last }
@@ -35,21 +35,9 @@ pub one_most : (b : Bool) → cond b 1 0 ≤ 1
 one_most true = omega arith
 one_most false = omega arith
 
--- ---- the numbers of a station's row: whether it is on the cut, and where it is there
-
-abbrev pub row_on : (nx ny : ℕ) → Window → List ℤ → Bool
-row_on nx ny w numbers = on_span nx w.columns (get_or numbers 0 (pos 0)) && on_span ny w.rows (get_or numbers 1 (pos 0))
-
-abbrev pub counted_row : Window → List ℤ → List ℤ
-counted_row w numbers =
-    (get_or numbers 0 (pos 0) -ℤ pos (step * w.columns.first))
-    ∷ (get_or numbers 1 (pos 0) -ℤ pos (step * w.rows.first))
-    ∷ get_or numbers 2 (pos 0)
-    ∷ get_or numbers 3 (pos 0)
-    ∷ get_or numbers 4 (pos 0)
-    ∷ []
+-- ---- a station
 
 -- positions as a station's may be
-pub record Placed (numbers : List ℤ) : Type 0 where
-  pub x : nat_abs (get_or numbers 0 (pos 0)) ≤ most_position
-  pub y : nat_abs (get_or numbers 1 (pos 0)) ≤ most_position
+pub record Placed (s : Station) : Type 0 where
+  pub x : nat_abs s.x ≤ most_position
+  pub y : nat_abs s.y ≤ most_position

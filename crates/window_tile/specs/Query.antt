@@ -9,7 +9,7 @@ use Rattle.scheme.specs.Promises.{slices, tile}
 use Rattle.scheme.specs.Accepted.{Shaped, OnGrid, FitsWindow}
 use Rattle.scheme.proofs.Stored.{length-stored, field_stored, stored_same}
 use Rattle.scheme.proofs.Lengths.{grid_long, support_long}
-use Rattle.window_cut.specs.Part.{part_of, PartReady, part_ready}
+use Rattle.window_cut.specs.Part.{part_at, part_of, PartReady, part_ready}
 
 -- ---- a lent prefix of n elements, and the array with what comes back in its place
 
@@ -33,8 +33,8 @@ module _ (q : Request) {values : List ℤ} {bits verdict : List ℕ} (e : slices
 -- the window's part of a grid and its support, stored in rows of nx
 abbrev pub tile_from : ℕ → List ℤ → List ℕ → Window → Tile
 tile_from nx values bits w =
-    tile (stored (points_along w.columns) (points_along w.rows) (part_of (pos 0) nx w.columns.first w.rows.first values))
-    (stored (points_along w.columns) (points_along w.rows) (part_of 0 nx w.columns.first w.rows.first bits))
+    tile (stored (points_along w.columns) (points_along w.rows) (part_of (pos 0) nx (part_at w) values))
+    (stored (points_along w.columns) (points_along w.rows) (part_of 0 nx (part_at w) bits))
 
 pub tile_long : (nx : ℕ) (values : List ℤ) (bits : List ℕ) (w : Window) → FitsWindow w (length (tile_from nx values bits w).grid) (length (tile_from nx values bits w).support)
 tile_long nx values bits w =
@@ -45,12 +45,12 @@ tile_long nx values bits w =
 
 -- a slice of the grid has it
 pub window_part : {nx ny n : ℕ} → Shaped nx ny n → (w : Window) → OnGrid nx ny w → (m : ℕ) → m ≡ points_of w
-    → PartReady m n nx w.columns.first w.rows.first (points_along w.columns) (points_along w.rows)
+    → PartReady m n nx (part_at w)
 window_part s w on m e = part_ready s (omega (arith, on.across, on.right)) (omega (arith, on.down, on.bottom)) m e
 
 module _ (q : Request) (w : Window) (on : OnGrid q.nx q.ny w) where
   window-of : {A : Type 0} (past : A) (f : Field A) (l : List A) → l ≡ stored q.nx q.ny f
-      → stored (points_along w.columns) (points_along w.rows) (part_of past q.nx w.columns.first w.rows.first l) ≡ window_of w f
+      → stored (points_along w.columns) (points_along w.rows) (part_of past q.nx (part_at w) l) ≡ window_of w f
   unfolding window_of
   window-of past f l e =
       rw e

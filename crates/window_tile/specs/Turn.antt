@@ -12,35 +12,31 @@ use Rattle.scheme.specs.Most.{most_points}
 use Rattle.scheme.specs.Accepted.{Shaped, OnGrid, FitsWindow, FitsScreen}
 use Rattle.scheme.proofs.Accepted.{few_points}
 use Rattle.scheme.proofs.Stored.{length-stored}
-use Rattle.request.specs.declared.Screen.{Screen}
-use Rattle.request.specs.Tables.{window_no, windows_in, OnScreen}
+use Rattle.request.specs.declared.Window.{Window as Ends}
+use Rattle.request.specs.Tables.{window_in, window_no, windows_in, OnScreen}
 
 -- the points of the first k windows
-abbrev pub points_before : Screen → ℕ → ℕ
-points_before s k = sum_to k (λ m. points_of (window_no s m))
+abbrev pub points_before : List Ends → ℕ → ℕ
+points_before ws k = sum_to k (λ m. points_of (window_no ws m))
 
 -- of windows on a grid they are few, all together
-pub all_few : {nx ny len : ℕ} → Shaped nx ny len → (s : Screen) → OnScreen nx ny s → points_of_all (windows_in s) ≤ most_windows * most_points
-all_few shape s on =
-    rw (sum_tab points_of s.count (window_no s))
-    (le_trans (sum_most most_points s.count _ (λ k h. few_points (on.on k h) shape.few_columns shape.few_rows)) (mul-le-mul_right most_points on.few))
+all_few : {nx ny len : ℕ} → Shaped nx ny len → (ws : List Ends) → OnScreen nx ny ws → points_of_all (windows_in ws) ≤ most_windows * most_points
+all_few shape ws on =
+    rw (sum_tab points_of (length ws) (window_no ws))
+    (le_trans (sum_most most_points (length ws) _ (λ k h. few_points (on.on k h) shape.few_columns shape.few_rows)) (mul-le-mul_right most_points on.few))
 
 -- a screen of one window
-module _ (s : Screen) {w : Window} (one : (s.count ≡ 1) × (window_no s 0 ≡ w)) where
-  alone : windows_in s ≡ w ∷ []
-  unfolding tab
-  alone = rw one.0 (ap (λ (v : Window). v ∷ []) one.1)
+module _ (w : Ends) where
+  pub on_alone : {nx ny : ℕ} → OnGrid nx ny (window_in w) → OnScreen nx ny (w ∷ [])
+  on_alone on = record { few = omega arith; on = λ k h. (let e : k ≡ 0 = omega arith in rw e on) }
 
-  pub on_alone : {nx ny : ℕ} → OnGrid nx ny w → OnScreen nx ny s
-  on_alone on = record { few = omega (arith, one.0); on = λ k h. (let e : k ≡ 0 = omega (arith, one.0) in rw (e, one.1) on) }
+  pub fits_alone : {grid support : ℕ} → FitsWindow (window_in w) grid support → FitsScreen (windows_in (w ∷ [])) grid support
+  unfolding tab total
+  fits_alone f = record { grid_long = omega (arith, f.grid_long); support_long = omega (arith, f.support_long) }
 
-  pub fits_alone : {grid support : ℕ} → FitsWindow w grid support → FitsScreen (windows_in s) grid support
-  unfolding total
-  fits_alone f = rw alone (record { grid_long = omega (arith, f.grid_long); support_long = omega (arith, f.support_long) })
-
-  pub turn_alone : (has : Window → Tile) → in_turn has (windows_in s) ≡ has w
-  unfolding total
-  turn_alone has = rw alone (ap₂ tile (append-nil (has w).grid) (append-nil (has w).support))
+  pub turn_alone : (has : Window → Tile) → in_turn has (windows_in (w ∷ [])) ≡ has (window_in w)
+  unfolding tab total
+  turn_alone has = ap₂ tile (append-nil (has (window_in w)).grid) (append-nil (has (window_in w)).support)
 
 -- the numbers of the whole grid at a window are as many as it has points
 pub whole_long : (q : Request) (w : Window) → FitsWindow w (length (whole_at q w).grid) (length (whole_at q w).support)
@@ -52,17 +48,17 @@ whole_long q w =
     }
 
 -- what each window has, which is as long as it is
-module _ (has : Window → Tile) (long : (w : Window) → FitsWindow w (length (has w).grid) (length (has w).support)) (s : Screen) where
+module _ (has : Window → Tile) (long : (w : Window) → FitsWindow w (length (has w).grid) (length (has w).support)) (ws : List Ends) where
   abbrev grid_to : ℕ → List ℤ
-  grid_to k = join_to k (λ m. (has (window_no s m)).grid)
+  grid_to k = join_to k (λ m. (has (window_no ws m)).grid)
 
   abbrev support_to : ℕ → List ℕ
-  support_to k = join_to k (λ m. (has (window_no s m)).support)
+  support_to k = join_to k (λ m. (has (window_no ws m)).support)
 
   -- results of g and u elements, in which k windows are written
   module _ (g u : ℕ) where
     pub record Turned (k at : ℕ) (grid : List ℤ) (support : List ℕ) : Type 0 where
-      pub at_is : at ≡ points_before s k
+      pub at_is : at ≡ points_before ws k
       pub grid_so : Written g (grid_to k) at grid
       pub support_so : Written u (support_to k) at support
 
@@ -70,18 +66,22 @@ module _ (has : Window → Tile) (long : (w : Window) → FitsWindow w (length (
   unfolding up_to
   turned_none grid support = record { at_is = refl; grid_so = written_none grid; support_so = written_none support }
 
-  module _ {g u : ℕ} (fits : FitsScreen (windows_in s) g u) where
-    all_points : points_of_all (windows_in s) ≡ points_before s s.count
-    all_points = sum_tab points_of s.count (window_no s)
+  module _ {g u : ℕ} (fits : FitsScreen (windows_in ws) g u) where
+    all_points : points_of_all (windows_in ws) ≡ points_before ws (length ws)
+    all_points = sum_tab points_of (length ws) (window_no ws)
 
     -- the next window has room
-    pub room : (k : ℕ) → k < s.count → points_before s k + points_of (window_no s k) ≤ points_of_all (windows_in s)
-    room k h = rw all_points (sum_room s.count k (λ m. points_of (window_no s m)) h)
+    pub room : (k : ℕ) → k < (length ws) → points_before ws k + points_of (window_no ws k) ≤ points_of_all (windows_in ws)
+    room k h = rw all_points (sum_room (length ws) k (λ m. points_of (window_no ws m)) h)
 
-    module _ {k at m : ℕ} {grid : List ℤ} {support : List ℕ} (t : Turned g u k at grid support) (h : k < s.count) (points : m ≡ points_of (window_no s k)) where
+    module _ {k at m : ℕ} {grid : List ℤ} {support : List ℕ} (t : Turned g u k at grid support) (h : k < (length ws)) (points : m ≡ points_of (window_no ws k)) where
       -- its points are the m from `at` on
-      pub enough : at + m ≤ points_of_all (windows_in s)
+      enough : at + m ≤ points_of_all (windows_in ws)
       enough = omega (arith, t.at_is, points, room k h)
+
+      -- which are few
+      pub small : {nx ny len : ℕ} → Shaped nx ny len → OnScreen nx ny ws → at + m ≤ most_windows * most_points
+      small shape on = le_trans enough (all_few shape ws on)
 
       pub in_grid : at + m ≤ length grid
       in_grid = omega (arith, enough, t.grid_so.same_length, fits.grid_long)
@@ -89,7 +89,7 @@ module _ (has : Window → Tile) (long : (w : Window) → FitsWindow w (length (
       pub in_support : at + m ≤ length support
       in_support = omega (arith, enough, t.support_so.same_length, fits.support_long)
 
-      pub its_part : FitsWindow (window_no s k) (length (take m (drop at grid))) (length (take m (drop at support)))
+      pub its_part : FitsWindow (window_no ws k) (length (take m (drop at grid))) (length (take m (drop at support)))
       its_part =
           record {
             grid_long = length-take-le m (drop at grid) (rw (length-drop at grid) (omega (arith, in_grid))) ∙ points;
@@ -97,24 +97,24 @@ module _ (has : Window → Tile) (long : (w : Window) → FitsWindow w (length (
           }
 
       -- one window more
-      pub turned_more : {end : ℕ} {ys : List ℤ} {us : List ℕ} → end ≡ at + m → tile ys us ≡ has (window_no s k)
+      pub turned_more : {end : ℕ} {ys : List ℤ} {us : List ℕ} → end ≡ at + m → tile ys us ≡ has (window_no ws k)
           → Turned g u (k + 1) end (take at grid ++ (ys ++ drop m (drop at grid))) (take at support ++ (us ++ drop m (drop at support)))
       turned_more {end} {ys} {us} e same =
           record {
-            at_is = e ∙ ap₂ ◌+◌ t.at_is points ∙ sym (up_to_next 0 ◌+◌ k (λ i. points_of (window_no s i)));
+            at_is = e ∙ ap₂ ◌+◌ t.at_is points ∙ sym (up_to_next 0 ◌+◌ k (λ i. points_of (window_no ws i)));
             grid_so =
-                rw (e, up_to_next [] ◌++◌ k (λ i. (has (window_no s i)).grid), ← ap (λ (x : Tile). x.grid) same)
-                (written_more t.grid_so m ys (ap (λ (x : Tile). length x.grid) same ∙ (long (window_no s k)).grid_long ∙ sym points) (omega (arith, in_grid, t.grid_so.same_length)));
+                rw (e, up_to_next [] ◌++◌ k (λ i. (has (window_no ws i)).grid), ← ap (λ (x : Tile). x.grid) same)
+                (written_more t.grid_so m ys (ap (λ (x : Tile). length x.grid) same ∙ (long (window_no ws k)).grid_long ∙ sym points) (omega (arith, in_grid, t.grid_so.same_length)));
             support_so =
-                rw (e, up_to_next [] ◌++◌ k (λ i. (has (window_no s i)).support), ← ap (λ (x : Tile). x.support) same)
-                (written_more t.support_so m us (ap (λ (x : Tile). length x.support) same ∙ (long (window_no s k)).support_long ∙ sym points) (omega (arith, in_support, t.support_so.same_length)));
+                rw (e, up_to_next [] ◌++◌ k (λ i. (has (window_no ws i)).support), ← ap (λ (x : Tile). x.support) same)
+                (written_more t.support_so m us (ap (λ (x : Tile). length x.support) same ∙ (long (window_no ws k)).support_long ∙ sym points) (omega (arith, in_support, t.support_so.same_length)));
           }
 
     -- all windows
-    pub turned_all : {k at : ℕ} {grid : List ℤ} {support : List ℕ} → Turned g u k at grid support → k ≡ s.count
-        → tile grid support ≡ in_turn has (windows_in s)
+    pub turned_all : {k at : ℕ} {grid : List ℤ} {support : List ℕ} → Turned g u k at grid support → k ≡ (length ws)
+        → tile grid support ≡ in_turn has (windows_in ws)
     turned_all {k} {at} {grid} {support} t e =
-        let end : at ≡ points_of_all (windows_in s) = t.at_is ∙ ap (points_before s) e ∙ sym all_points in
-        let a = written_all t.grid_so (end ∙ sym fits.grid_long) ∙ ap grid_to e ∙ sym (join_tab (λ w. (has w).grid) s.count (window_no s)) in
-        let b = written_all t.support_so (end ∙ sym fits.support_long) ∙ ap support_to e ∙ sym (join_tab (λ w. (has w).support) s.count (window_no s)) in
+        let end : at ≡ points_of_all (windows_in ws) = t.at_is ∙ ap (points_before ws) e ∙ sym all_points in
+        let a = written_all t.grid_so (end ∙ sym fits.grid_long) ∙ ap grid_to e ∙ sym (join_tab (λ w. (has w).grid) (length ws) (window_no ws)) in
+        let b = written_all t.support_so (end ∙ sym fits.support_long) ∙ ap support_to e ∙ sym (join_tab (λ w. (has w).support) (length ws) (window_no ws)) in
         cc

@@ -1,39 +1,24 @@
 -- `field_value::spot_of` meets its contract: the cell is on the grid, and the position in it. Assumes nothing.
-use native.Mathlib.Omega.{arith}
-use Rattle.field_value.specs.Corners.{InCell, in_cell}
+use Rattle.std.proofs.Common.{◌≤◌, ◌+◌, ◌-◌, ◌*◌, arith, mul-le-mul}
+use Rattle.scheme.specs.Units.{step}
+use Rattle.scheme.specs.Most.{most_points}
+use Rattle.field_value.specs.Corners.{Spotted, spotted}
 use Rattle.field_value.proofs.spot_of.Goals as goal
 use Rattle.field_value.proofs.spot_of.Goals.{After-cell-n}
 
--- where the cell stands, known from the two calls on
-at : (c : After-cell-n) → (let a = c.before.before.args in InCell a.nx a.ny a.x a.y c.before.cell-m.result c.cell-n.result)
-at c =
-    let s = c.before.before in
-    in_cell s.args.nx s.args.ny s.args.x s.args.y s.requires.0 s.requires.1 s.requires.2 c.before.cell-m.result c.cell-n.result
-    c.before.cell-m.ensures c.cell-n.ensures
+module _ (c : After-cell-n) where
+  spot : Spotted c.args.nx c.args.ny c.args.x c.args.y (c.cell-n.result * c.args.nx + c.cell-m.result) (c.args.x - step * c.cell-m.result)
+      (c.args.y - step * c.cell-n.result)
+  spot = spotted c.args.nx c.args.ny c.args.x c.args.y c.requires.0 c.requires.1 c.requires.2 _ _ c.cell-m.ensures.value c.cell-n.ensures.value
+
+  few : c.args.nx * c.args.ny ≤ most_points
+  few = mul-le-mul c.requires.0.few_columns c.requires.0.few_rows
 
 pub overflow_mul-result : goal.overflow_mul-result
-overflow_mul-result c = let f = at c in omega (arith, f.spot.last)
+overflow_mul-result c = omega (arith, (spot c).last, few c)
 
 pub overflow_add-result : goal.overflow_add-result
-overflow_add-result c = let f = at c in omega (arith, f.spot.last)
-
-pub overflow_cast-result : goal.overflow_cast-result
-overflow_cast-result c = let f = at c in omega arith
-
-pub overflow_mul-result-2 : goal.overflow_mul-result-2
-overflow_mul-result-2 c = let f = at c in omega arith
-
-pub overflow_sub-result : goal.overflow_sub-result
-overflow_sub-result c = let f = at c in omega arith
-
-pub overflow_cast-result-2 : goal.overflow_cast-result-2
-overflow_cast-result-2 c = let f = at c in omega arith
-
-pub overflow_mul-result-3 : goal.overflow_mul-result-3
-overflow_mul-result-3 c = let f = at c in omega arith
-
-pub overflow_sub-result-2 : goal.overflow_sub-result-2
-overflow_sub-result-2 c = let f = at c in omega arith
+overflow_add-result c = omega (arith, (spot c).last, few c)
 
 pub returns : goal.returns
-returns c = (at c).spot
+returns c = spot c

@@ -1,17 +1,14 @@
--- `refusal_checks::first_bad_scan` meets its contract. The loop's invariant: the entries passed are good. Assumes nothing.
-use native.Mathlib.Omega.{arith}
-use mathlib.Core.Path.{◌≡◌, sym, ◌∙◌}
-use Rattle.lists.specs.First.{ends_at, ends_past}
+-- `refusal_checks::first_bad_scan` meets its contract: a `find` over the places of the entries is the definition's search of them. Assumes nothing.
+use borrow.Author.Tests.{tests}
+use Rattle.std.proofs.Common.{rules, ◌≡◌, true, false}
+use Rattle.std.proofs.lemmas.Iterator.{first_from_Range}
+use Rattle.scheme.specs.Refusals.{bad_scan}
+use Rattle.request.specs.Tables.{plan_in}
+use Rattle.refusal_checks.specs.Found.{found_first}
 use Rattle.refusal_checks.proofs.first_bad_scan.Goals as goal
-
-pub returns-then-scan_bad : goal.returns-then-scan_bad
-returns-then-scan_bad c =
-    let t = c.before.before in
-    let l = t.before.before.loop-m in
-    ends_at _ _ l.m t.loop-m-test.true l.invariant.1 (sym c.before.scan_bad.ensures ∙ c.if-scan_bad.true)
 
 pub returns : goal.returns
 returns c =
-    let l = c.before.before.loop-m in
-    let e : l.m ≡ c.before.before.before.args.t.scans = omega arith in
-    ends_past _ _ l.m (omega arith) (rw e at l.invariant.1)
+    let bad = bad_scan (plan_in c.args.t.now) in
+    found_first _ bad _
+    (first_from_Range _ _ _ _ (λ m. bad m ≡ true) (λ m. bad m ≡ false) c.find.ensures.ran (λ x q k. search (rules, tests)) (λ x q k. search (rules, tests)))

@@ -1,9 +1,8 @@
--- `request::load` meets its contract: the rows of both tables are those of the columns. Assumes nothing.
+-- `request::load` meets its contract: the stations are those of the columns. Assumes nothing.
+use Rattle.std.proofs.Common.{arith}
+use Rattle.request.specs.Lent.{columns_of}
 use Rattle.request.specs.Loaded.{loads}
 use Rattle.request.proofs.load.Goals as goal
 
 pub returns : goal.returns
-returns c =
-    let n = c.before.before in
-    let s = n.before.before.before.before.before in
-    loads _ _ _ _ _ _ _ _ _ _ _ _ s.requires.0.observed n.load_numbers.ensures c.load_minutes.ensures
+returns c = loads (columns_of c.args.columns.now) c.loop-k.stations (omega arith) (λ k h. c.loop-k.invariant k (omega arith))

@@ -1,66 +1,60 @@
 -- `scan_buddies::cell_of` meets its contract: cells are few along both axes. Assumes nothing.
-use Prim.Native.Nat.{ℕ, ◌+◌, ◌≤◌}
-use native.Mathlib.Omega.{arith}
-use mathlib.Core.Path.{◌≡◌, ap, ◌∙◌}
-use lib.IntN.{ℤ}
-use mir.Syntax.{w32}
-use mir.Val.{to_z, of_z}
+use Rattle.std.proofs.Common.{arith, ℕ, ◌+◌, ◌≤◌, ◌≡◌, ap, ◌∙◌, ℤ, w32, to_z, of_z}
 use Rattle.integers.specs.Words.{bits_back}
-use Rattle.scan_buddies.specs.Aside.{x_of, y_of}
+use Rattle.request.specs.Tables.{station_of}
+use Rattle.scan_buddies.specs.Aside.{OnAxis}
 use Rattle.scan_buddies.specs.Cells.{least_side, across, side_of, cell_along, cell_of, side_least, axis_small, along_in_row}
+use Rattle.scan_buddies.specs.Nine.{cell_framed}
 use Rattle.scan_buddies.proofs.cell_of.Goals as goal
-use Rattle.scan_buddies.proofs.cell_of.Goals.{After-cell_along, After-cell_along-2, After-side_of-side, Start}
 
-module _ (s : Start) where
-  abbrev x : ℤ
-  x = x_of s.args.row
+-- a position as the code reads it
+back : (x : ℤ) → OnAxis x → to_z w32 (of_z w32 x) ≡ x
+back x on = bits_back w32 x (omega (arith, axis_small x on))
 
-  abbrev y : ℤ
-  y = y_of s.args.row
+-- the place along one axis, by the side that was found
+module _ (radius side along : ℕ) (x : ℤ) (on : OnAxis x) (side_is : side ≡ side_of radius) (along_is : along ≡ cell_along side (to_z w32 (of_z w32 x))) where
+  wide : least_side ≤ side
+  wide = rw side_is (side_least radius)
 
-  x-back : to_z w32 (of_z w32 x) ≡ x
-  x-back = bits_back w32 x (omega (arith, axis_small x s.requires.0))
+  is : along ≡ cell_along (side_of radius) x
+  is = rw (back x on) at along_is ∙ ap (λ (s : ℕ). cell_along s x) side_is
 
-  y-back : to_z w32 (of_z w32 y) ≡ y
-  y-back = bits_back w32 y (omega (arith, axis_small y s.requires.1))
-
-module _ (g : After-side_of-side) where
-  wide : least_side ≤ g.side_of-side.result
-  wide = rw g.side_of-side.ensures (side_least g.before.args.radius)
-
--- the place along y, and along x
-module _ (c : After-cell_along) where
-  abbrev start : Start
-  start = c.before.before.before
-
-  y-is : c.cell_along.result ≡ cell_along (side_of start.args.radius) (y start)
-  y-is = rw (y-back start) at c.cell_along.ensures ∙ ap (λ (side : ℕ). cell_along side (y start)) c.before.before.side_of-side.ensures
-
-  y-few : c.cell_along.result + 2 ≤ across
-  y-few = rw y-is (along_in_row _ (side_least start.args.radius) (y start) start.requires.1).most
-
-module _ (c : After-cell_along-2) where
-  abbrev start' : Start
-  start' = start c.before.before
-
-  x-is : c.cell_along-2.result ≡ cell_along (side_of start'.args.radius) (x start')
-  x-is = rw (x-back start') at c.cell_along-2.ensures ∙ ap (λ (side : ℕ). cell_along side (x start')) c.before.before.before.before.side_of-side.ensures
-
-  x-few : c.cell_along-2.result + 2 ≤ across
-  x-few = rw x-is (along_in_row _ (side_least start'.args.radius) (x start') start'.requires.0).most
+  few : along + 2 ≤ across
+  few = rw is (along_in_row _ (side_least radius) x on).most
 
 pub cell_along-requires : goal.cell_along-requires
-cell_along-requires c = (wide c.before, rw (y-back c.before.before) c.before.before.requires.1)
+cell_along-requires c = (rw c.side_of-side.ensures (side_least c.args.radius), rw (back _ c.requires.1) c.requires.1)
 
 pub overflow_mul-result : goal.overflow_mul-result
-overflow_mul-result c = record { fits = omega (arith, y-few c) }
+overflow_mul-result c = record { fits = omega (arith, few c.args.radius _ _ c.args.station.y c.requires.1 c.side_of-side.ensures c.cell_along.ensures) }
 
 pub cell_along-requires-2 : goal.cell_along-requires-2
-cell_along-requires-2 c = let s = start c.before in (wide c.before.before.before, rw (x-back s) s.requires.0)
+cell_along-requires-2 c = (rw c.side_of-side.ensures (side_least c.args.radius), rw (back _ c.requires.0) c.requires.0)
 
 pub overflow_add-result : goal.overflow_add-result
-overflow_add-result c = record { fits = omega (arith, y-few c.before.before, x-few c) }
+overflow_add-result c =
+    record {
+      fits =
+          omega (
+            arith,
+            few c.args.radius _ _ c.args.station.y c.requires.1 c.side_of-side.ensures c.cell_along.ensures,
+            few c.args.radius _ _ c.args.station.x c.requires.0 c.side_of-side.ensures c.cell_along-2.ensures,
+          );
+    }
 
-pub returns : goal.returns
+pub returns-clause-is : goal.returns-clause-is
 unfolding cell_of
-returns c = rw (y-is c.before.before, x-is c)
+returns-clause-is c =
+    rw (
+      is c.args.radius _ _ c.args.station.y c.requires.1 c.side_of-side.ensures c.cell_along.ensures,
+      is c.args.radius _ _ c.args.station.x c.requires.0 c.side_of-side.ensures c.cell_along-2.ensures,
+    )
+
+pub returns-clause-framed : goal.returns-clause-framed
+unfolding cell_of
+returns-clause-framed c =
+    rw (
+      is c.args.radius _ _ c.args.station.y c.requires.1 c.side_of-side.ensures c.cell_along.ensures,
+      is c.args.radius _ _ c.args.station.x c.requires.0 c.side_of-side.ensures c.cell_along-2.ensures,
+    )
+    (cell_framed c.args.radius (station_of c.args.station) c.requires.0 c.requires.1)

@@ -1,33 +1,12 @@
--- `scan_buddies::set_aside` meets its contract. The loop's invariant: the rows passed have their verdicts after the check, and the others are as they
--- were; the chains hold the survivors that the call found. Assumes nothing.
-use Prim.Native.Nat.{ℕ, ◌+◌, ◌<◌}
-use native.Mathlib.Omega.{arith}
-use mathlib.Core.Path.{◌≡◌, refl}
-use lib.ListN.{length, get_or, length-replicate, get_or-replicate}
+-- `scan_buddies::set_aside` meets its contract. The loop's invariant: the stations passed have their verdicts after the check, and the others are as
+-- they were; the chains hold the survivors that the call found. Assumes nothing.
+use Rattle.std.proofs.Common.{arith, refl, ℕ, ◌+◌, ◌≡◌, get_or}
+use lib.ListN.{length-replicate, get_or-replicate}
 use Rattle.lists.specs.Filled.{filled_set}
 use Rattle.scheme.specs.Units.{most_stations}
 use Rattle.scan_buddies.specs.Aside.{aside_at}
 use Rattle.scan_buddies.specs.Cells.{kinds}
 use Rattle.scan_buddies.proofs.set_aside.Goals as goal
-use Rattle.scan_buddies.proofs.set_aside.Goals.{In-loop-k, Start}
-
--- a turn, at row k
-module _ (c : In-loop-k) where
-  abbrev start : Start
-  start = c.before.before.before.before.before.before.before
-
-  abbrev k : ℕ
-  k = c.before.loop-k.k
-
-  few : k < most_stations
-  few = omega (arith, start.requires.few, c.loop-k-test.true)
-
-  in-verdict : k < length c.before.loop-k.verdict
-  in-verdict = omega (arith, start.requires.len_st, c.before.loop-k.invariant.1.same_length, c.loop-k-test.true)
-
-  -- the row's verdict is the one that the call found
-  verdict_is : get_or c.before.loop-k.verdict k 0 ≡ get_or start.args.verdict.now k 0
-  verdict_is = c.before.loop-k.invariant.1.rest k (omega arith)
 
 pub chain-requires : goal.chain-requires
 chain-requires c =
@@ -43,12 +22,11 @@ chain-requires c =
 pub loop-k-preserved : goal.loop-k-preserved
 unfolding aside_at
 loop-k-preserved c =
-    let t = (goal.at.loop-k-preserved c).In-loop-k in
-    let s = start t in
-    let l = c.loop-k in (
-      omega (arith, t.loop-k-test.true),
-      filled_set 0 (aside_at s.args.scan s.args.radius s.args.limit s.args.numbers.now s.args.verdict.now s.args.d.now s.args.stations) 0 (k t) (k t + 1)
-          s.args.verdict.now l.verdict _ refl (omega arith) (in-verdict t)
-          (rw (verdict_is t) at (c.verdict_beside.ensures s.args.stations s.args.verdict.now l.invariant.2)) l.invariant.1,
-      l.invariant.2,
+    let a = c.args in
+    let l = c.loop-k in
+    -- the verdict is the one that the call found
+    let found : get_or l.verdict l.k 0 ≡ get_or a.verdict.now l.k 0 = l.invariant.0.rest l.k (omega arith) in (
+      filled_set 0 (aside_at a.scan a.radius a.limit a.stations.now a.verdict.now a.d.now) 0 l.k (l.k + 1) a.verdict.now l.verdict _ refl (omega arith) (omega arith)
+          (rw found at (c.verdict_beside.ensures a.verdict.now l.invariant.1)) l.invariant.0,
+      l.invariant.1,
     )

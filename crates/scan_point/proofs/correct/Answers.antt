@@ -1,48 +1,54 @@
 -- `scan_point::correct` meets its contract. The loop's invariant: the rows passed are corrected. Assumes nothing.
-use Prim.Native.Nat.{ℕ, ◌*◌}
+use Prim.Native.Nat.{◌*◌}
 use native.Mathlib.Omega.{arith}
 use mathlib.Core.Path.{◌≡◌}
-use Rattle.scheme.specs.Units.{round_mode}
+use Rattle.std.proofs.Common.{take}
 use Rattle.scan_point.specs.Near.{stations_with}
-use Rattle.scan_point.specs.Round.{round_slight}
+use Rattle.scan_point.specs.Entries.{slight_share, gathered, gathered_length}
 use Rattle.scan_point.specs.Pass.{RowPass, row_pass, row_ready, row_values, row_supports, next_z, next_s, all_z, all_s}
 use Rattle.scan_point.proofs.correct.Goals as goal
-use Rattle.scan_point.proofs.correct.Goals.{In-loop-j, Start}
+use Rattle.scan_point.proofs.correct.Goals.{After-correct_row_by, After-near_row-n, In-loop-j, Start}
 
 -- a turn, at row j
-module _ (c : In-loop-j) where
-  abbrev start : Start
-  start = c.before.before.before.before.before.before
+module _ (g : _) (c : In-loop-j g) where
+  abbrev start : Start g
+  start = c.before.before.before.before.before
 
-  abbrev j : ℕ
-  j = c.loop-j.j
-
-  ready : RowPass c.loop-j.z c.loop-j.support start.args.t.nx start.args.t.ny (stations_with round_mode start.args.t.stations start.args.numbers.now start.args.verdict.now start.args.d.now) (start.args.radius * start.args.radius) start.args.bit j
-  ready = row_pass start.requires.0 start.args.t.rule c.loop-j-test.true c.loop-j.invariant.2 c.loop-j.invariant.3
+  ready : RowPass c.before.loop-j.z c.before.loop-j.support start.args.t.nx start.args.t.ny (stations_with g.row.MODE start.args.stations.now start.args.verdict.now start.args.d.now) (start.args.radius * start.args.radius) start.args.bit c.before.loop-j.j
+  ready = row_pass start.requires start.args.t.rule c.loop-j-test.true c.before.loop-j.invariant.0 c.before.loop-j.invariant.1
 
 pub correct_row_by-requires : goal.correct_row_by-requires
-correct_row_by-requires c =
-    let p = ready (goal.at.correct_row_by-requires c).In-loop-j in
-    let near = c.near_row-n.ensures.1 in
-    (row_ready p (λ i t. round_slight _ _ _ _ i t) near, p.close, near.sized)
+correct_row_by-requires g c =
+    let t = (goal.at.correct_row_by-requires g c).In-loop-j in
+    let o = (goal.at.correct_row_by-requires g c).After-near_row-n.near_row-n in
+    let a = (start g t).args in
+    let r2 = a.radius * a.radius in
+    let p = ready g t in
+    let near = gathered o.new.room o.ensures in
+    rw (gathered_length o.new.room o.result o.array_long (omega (arith, near.no_more, p.stations.few)))
+    (row_ready p (λ i t. slight_share (take o.result o.new.room) r2 i t) near, p.close, near.sized)
 
 pub loop-j-preserved : goal.loop-j-preserved
-loop-j-preserved c =
-    let t = (goal.at.loop-j-preserved c).In-loop-j in
-    let i = c.loop-j.invariant in
-    let p = (start t).requires.0 in
+loop-j-preserved g c =
+    let t = (goal.at.loop-j-preserved g c).In-loop-j in
+    let o = (goal.at.loop-j-preserved g c).After-near_row-n.near_row-n in
+    let r = (goal.at.loop-j-preserved g c).After-correct_row_by.correct_row_by.ensures in
+    let a = (start g t).args in
+    let r2 = a.radius * a.radius in
+    let s = (start g t).requires in
+    let i = t.before.loop-j.invariant in
+    let p = ready g t in
     let h = t.loop-j-test.true in
-    let near = c.near_row-n.ensures.1 in
-    let r = c.correct_row_by in (
-      omega (arith, h),
-      c.near_row-n.ensures.0,
-      next_z p (start t).args.t.rule h i.2 i.3 _ (row_values (ready t) (λ i t. round_slight _ _ _ _ i t) near (start t).args.t.rule r.ensures.0),
-      next_s p (start t).args.t.rule h i.2 i.3 _ (row_supports (ready t) (λ i t. round_slight _ _ _ _ i t) near r.ensures.1),
+    let near = gathered o.new.room o.ensures in
+    let many = gathered_length o.new.room o.result o.array_long (omega (arith, near.no_more, p.stations.few)) in (
+      next_z s a.t.rule h i.0 i.1 _ (row_values p (λ i t. slight_share (take o.result o.new.room) r2 i t) near a.t.rule (rw many at r.0)),
+      next_s s a.t.rule h i.0 i.1 _ (row_supports p (λ i t. slight_share (take o.result o.new.room) r2 i t) near (rw many at r.1)),
     )
 
 pub returns : goal.returns
-returns c =
-    let o = c.before.before in
-    let s = o.before.before.before in
-    let e : o.loop-j.j ≡ s.args.t.ny = omega arith in
-    (o.loop-j.invariant.1, all_z s.requires.0 s.args.t.rule o.loop-j.z (rw e at o.loop-j.invariant.2), all_s s.requires.0 o.loop-j.support (rw e at o.loop-j.invariant.3))
+returns g c =
+    let o = (goal.at.returns g c).Start in
+    let a = o.args in
+    let l = c.before.loop-j in
+    let e : l.j ≡ a.t.ny = (let h = c.loop-j-test.false in omega (arith, l.auto.j-end)) in
+    (all_z o.requires a.t.rule l.z (rw e at l.invariant.0), all_s o.requires l.support (rw e at l.invariant.1))

@@ -1,16 +1,11 @@
-use Prim.Native.Nat.{◌-◌, ◌*◌, ◌≤◌}
+use Prim.Native.Nat.{◌*◌}
 use lib.IntN.{pos}
 use Rattle.lists.specs.Filled.{Filled}
-use Rattle.scheme.specs.Units.{round_mode}
 use Rattle.scan_point.specs.Near.{stations_with}
-use Rattle.scan_point.specs.Round.{Roomy}
 use Rattle.scan_point.specs.Pass.{pass_z, pass_s}
 use Rattle.scan_point.proofs.correct.Given as goal
 
 abbrev pub invariant-loop-j : goal.invariant-loop-j
-invariant-loop-j l =
-    (l.j ≤ l.t.ny) × Roomy l.lx l.ly l.ld × Filled (pos 0) (pass_z l.t.rule l.initial.z l.t.nx (stations_with round_mode l.t.stations l.numbers l.verdict l.d) (l.radius * l.radius)) 0 (l.j * l.t.nx) l.initial.z l.z
-    × Filled 0 (pass_s l.initial.support l.t.nx (stations_with round_mode l.t.stations l.numbers l.verdict l.d) (l.radius * l.radius) l.bit) 0 (l.j * l.t.nx) l.initial.support l.support
-
-abbrev pub decreases-loop-j : goal.decreases-loop-j
-decreases-loop-j l = l.t.ny - l.j
+invariant-loop-j g l =
+    Filled (pos 0) (pass_z l.t.rule l.initial.z l.t.nx (stations_with g.row.MODE l.stations l.verdict l.d) (l.radius * l.radius)) 0 (l.j * l.t.nx) l.initial.z l.z
+    × Filled 0 (pass_s l.initial.support l.t.nx (stations_with g.row.MODE l.stations l.verdict l.d) (l.radius * l.radius) l.bit) 0 (l.j * l.t.nx) l.initial.support l.support

@@ -1,15 +1,12 @@
-use Prim.Native.Nat.{◌+◌, ◌-◌, ◌≤◌}
+use Prim.Native.Nat.{◌+◌}
 use lib.IntN.{pos}
+use Rattle.std.proofs.Common.{length}
 use Rattle.lists.specs.Filled.{Filled}
-use Rattle.scheme.specs.Units.{equation_rule}
-use Rattle.scan_point.specs.Round.{near_share}
+use Rattle.scan_point.specs.Entries.{near_share}
 use Rattle.scan_point.specs.Pass.{row_z, row_s}
 use Rattle.scan_point.proofs.correct_row.Given as goal
 
 abbrev pub invariant-loop-i : goal.invariant-loop-i
-invariant-loop-i l =
-    (l.i ≤ l.nx) × Filled (pos 0) (row_z equation_rule l.initial.z (near_share l.lx l.ly l.ld l.r2) l.n l.base) l.base (l.base + l.i) l.initial.z l.z
-    × Filled 0 (row_s l.initial.support (near_share l.lx l.ly l.ld l.r2) l.n l.bit l.base) l.base (l.base + l.i) l.initial.support l.support
-
-abbrev pub decreases-loop-i : goal.decreases-loop-i
-decreases-loop-i l = l.nx - l.i
+invariant-loop-i g l =
+    Filled (pos 0) (row_z g.row.RULE l.initial.z (near_share l.near l.r2) (length l.near) l.base) l.base (l.base + l.i) l.initial.z l.z
+    × Filled 0 (row_s l.initial.support (near_share l.near l.r2) (length l.near) l.bit l.base) l.base (l.base + l.i) l.initial.support l.support

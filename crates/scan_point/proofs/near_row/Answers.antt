@@ -1,47 +1,52 @@
 -- `scan_point::near_row` meets its contract. The loop's invariant: the stations gathered give what the rows passed give. Assumes nothing.
 use Prim.Native.Nat.{ℕ, ◌<◌}
 use native.Mathlib.Omega.{arith}
-use borrow.Author.Rules.{sfits_of}
-use mathlib.Core.Path.{refl, ap, ◌∙◌}
-use lib.IntN.{ℤ}
-use mir.Syntax.{w32, w64}
-use mir.Facts.{to_z-of_z}
-use Rattle.scheme.specs.Units.{most_stations, round_mode}
-use Rattle.scan_point.specs.Near.{Stations, stations_with, x_at, y_at, verdict_at, d_at, row_gap, near_none}
-use Rattle.scan_point.specs.Round.{near_turn}
+use mir.Syntax.{w64}
+use Rattle.integers.specs.Words.{bits_back}
+use mathlib.Core.Path.{refl, sym, ◌∙◌}
+use Rattle.std.proofs.Common.{length-set}
+use Rattle.scan_point.specs.Near.{Stations, stations_with, y_at, verdict_at, d_at, row_gap, near_none, near_is_accepted, far_passed}
+use Rattle.scan_point.specs.Entries.{next_gathered}
 use Rattle.scan_point.proofs.near_row.Goals as goal
-use Rattle.scan_point.proofs.near_row.Goals.{In-loop-k, Start}
+use Rattle.scan_point.proofs.near_row.Goals.{In-loop-k, Start, then-gap-r2, else-gap-r2}
 
 -- a turn, at row k
-module _ (c : In-loop-k) where
-  abbrev start : Start
+module _ (g : _) (c : In-loop-k g) where
+  abbrev start : Start g
   start = c.before.before.before.before
 
   abbrev all : Stations
-  all = stations_with round_mode start.args.stations start.args.numbers.now start.args.verdict.now start.args.d.now
+  all = stations_with g.row.MODE start.args.stations.now start.args.verdict.now start.args.d.now
 
   abbrev k : ℕ
   k = c.before.loop-k.k
 
-  few : k < most_stations
-  few = omega (arith, c.loop-k-test.true, start.requires.2.few)
-
-  room : c.before.loop-k.n < most_stations
-  room = omega (arith, few, c.before.loop-k.invariant.2.no_more)
-
 pub loop-k-init : goal.loop-k-init
-loop-k-init c =
-    let a = c.before.args in
-    (omega arith, c.before.requires.3, near_none _ _ (stations_with round_mode a.stations a.numbers.now a.verdict.now a.d.now) a.r2 a.j)
+loop-k-init g c =
+    let a = (goal.at.loop-k-init g c).Start.args in
+    near_none _ _ (stations_with g.row.MODE a.stations.now a.verdict.now a.d.now) a.r2 a.j
+
+pub gathered-requires : goal.gathered-requires
+gathered-requires g c =
+    let t = (goal.at.gathered-requires g c).In-loop-k in
+    let p = (start g t).requires in
+    let i = p.3.inside (k g t) t.loop-k-test.true (near_is_accepted (verdict_at (all g t) (k g t)) (y_at (all g t) (k g t)) (start g t).args.j (start g t).args.r2 (omega (arith, c.if-gap-r2.true, c.before.row_gap-gap.ensures))).0 in
+    (p.2, i.y_small, i.wind_fair)
 
 pub loop-k-preserved : goal.loop-k-preserved
-loop-k-preserved c =
-    let t = (goal.at.loop-k-preserved c).In-loop-k in
+loop-k-preserved g c =
+    let t = (goal.at.loop-k-preserved g c).In-loop-k in
+    let p = (start g t).requires in
     let l = t.before.loop-k in
-    let p = (start t).requires in
-    let y-is = to_z-of_z {w = w32} (sfits_of {z = y_at (all t) (k t)} c.row_gap-arg-1.given) in
-    let (roomy, near) =
-    near_turn (all t) (start t).args.r2 (start t).args.j p.0 p.2 l.lx l.ly l.ld l.invariant.1 l.n (k t) t.loop-k-test.true l.invariant.2.no_more refl l.invariant.2
-    (to_z-of_z {w = w32} (sfits_of {z = x_at (all t) (k t)} c.lx-1.given)) (to_z-of_z {w = w64} (sfits_of {z = d_at (all t) (k t)} c.ld-1.given))
-    (c.row_gap-gap.ensures ∙ ap (λ (y : ℤ). row_gap (verdict_at (all t) (k t)) y (start t).args.j (start t).args.r2) y-is) c.one_if_below-n.ensures in
-    (omega (arith, t.loop-k-test.true), roomy, near)
+    let is = c.row_gap-gap.ensures in
+    elim c.if-gap-r2.branch [
+      | then-gap-r2 w ↦
+          let long = sym (length-set l.room l.n _) ∙ rw w.room-is at c.if-gap-r2.array_long in
+          let close : row_gap (verdict_at (all g t) (k g t)) (y_at (all g t) (k g t)) (start g t).args.j (start g t).args.r2 < (start g t).args.r2 = omega (arith, w.if-gap-r2.true, is) in
+          let i = p.3.inside (k g t) t.loop-k-test.true (near_is_accepted _ _ _ _ close).0 in
+          let d-back = bits_back w64 (d_at (all g t) (k g t)) (omega (arith, i.d_small)) in
+          rw (w.room-is, w.n-is)
+          (rw (w.gathered.ensures, is, d-back)
+          (next_gathered (all g t) (start g t).args.r2 (start g t).args.j p.1 p.3 p.0 l.room long l.n (k g t) t.loop-k-test.true l.invariant.no_more close l.invariant))
+      | else-gap-r2 w ↦ rw (w.room-is, w.n-is) (far_passed l.invariant (λ i t h. refl) (λ t h s. s) (omega (arith, w.if-gap-r2.false, is)))
+    ]

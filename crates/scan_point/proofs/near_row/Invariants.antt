@@ -1,12 +1,9 @@
-use Prim.Native.Nat.{◌-◌, ◌≤◌}
-use Rattle.scheme.specs.Units.{round_mode}
-use Rattle.scan_point.specs.Near.{stations_with, Near}
-use Rattle.scan_point.specs.Round.{near_share, Sized, Roomy}
+use Rattle.std.proofs.Common.{get_or}
+use Rattle.scan_lone.specs.Inside.{nobody}
+use Rattle.scan_point.specs.Near.{stations_with, Gathered}
+use Rattle.scan_point.specs.Entries.{near_share, Sized}
 use Rattle.scan_point.proofs.near_row.Given as goal
 
 abbrev pub invariant-loop-k : goal.invariant-loop-k
-invariant-loop-k l =
-    (l.k ≤ l.stations) × Roomy l.lx l.ly l.ld × Near (near_share l.lx l.ly l.ld l.r2) (Sized l.lx l.ly l.ld) l.n (stations_with round_mode l.stations l.numbers l.verdict l.d) l.r2 l.j l.k
-
-abbrev pub decreases-loop-k : goal.decreases-loop-k
-decreases-loop-k l = l.stations - l.k
+invariant-loop-k g l =
+    Gathered (near_share l.room l.r2) (λ t. Sized g.row.MODE (get_or l.room t nobody)) l.n (stations_with g.row.MODE l.stations l.verdict l.d) l.r2 l.j l.k

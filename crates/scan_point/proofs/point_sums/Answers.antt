@@ -1,129 +1,119 @@
--- `scan_point::point_sums` meets its contract. The loop's invariant: the sums are those of the stations behind. Assumes nothing.
+-- `scan_point::point_sums` meets its contract. The loops' invariant: the sums are those of the stations passed. Assumes nothing.
 use Prim.Native.Nat.{ℕ, ◌+◌, ◌-◌, ◌≤◌, ◌<◌}
 use native.Mathlib.Omega.{arith}
-use mathlib.Core.Path.{◌≡◌}
+use mathlib.Core.Path.{◌≡◌, subst}
 use mathlib.Core.List.{List}
-use lib.IntN.{ℤ, nat_abs}
-use mir.Syntax.{w64}
-use mir.Val.{to_z, of_z}
-use Rattle.integers.specs.Words.{bits_back}
-use Rattle.scheme.specs.Units.{most_side, most_stations}
+use lib.IntN.{pos, nat_abs, ◌+ℤ◌}
+use Rattle.std.proofs.Common.{length, get_or, take, drop}
+use Rattle.scheme.specs.Units.{most_side}
 use Rattle.scheme.specs.Most.{most_square, most_weights, most_pulls}
-use Rattle.scheme.specs.Correction.{Sums}
-use Rattle.scan_point.specs.Near.{Slight, Down, Added, down_small, down_next}
-use Rattle.scan_point.specs.Round.{near_share, Sized, round_slight}
+use Rattle.scan_lone.specs.Inside.{nobody}
+use Rattle.scan_lone.specs.declared.Near.{Near}
+use Rattle.scan_point.specs.declared.Sums.{Sums}
+use Rattle.scan_point.specs.Near.{Summed, summed_none}
+use Rattle.scan_point.specs.Entries.{near_share, share_of, Sized, Behind, behind_all, behind_next, turn_sized, turn_small, turn_next}
 use Rattle.scan_point.proofs.point_sums.Goals as goal
-use Rattle.scan_point.proofs.point_sums.Goals.{After-with_near-s, After-with_near-s-in-loop-t, After-with_near-s-in-loop-t-2, After-with_near-s-in-loop-t-3, In-loop-t, Start}
+use Rattle.scan_point.proofs.point_sums.Goals.{then-this-eq-ROUND+in_default, else-this-eq-ROUND, In-len4-up, After-with_near-s, After-with_near-s-in-len4-up, After-with_near-s-in-len4-up-2, After-with_near-s-in-len4-up-3, Start}
 
-module _ (s : Start) where
-  abbrev lx : List ℤ
-  lx = s.args.lx.now
+-- a turn of four: the sums before each, and after the last
+module _ (g : _) (c : In-len4-up g) where
+  abbrev s : Start g
+  s = c.before.before.before
 
-  abbrev ly : List ℕ
-  ly = s.args.ly.now
+  abbrev near : List Near
+  near = s.args.near.now
 
-  abbrev ld : List ℤ
-  ld = s.args.ld.now
+  abbrev rest : List Near
+  rest = c.before.loop-rest.rest.now
 
-  abbrev n : ℕ
-  n = s.args.n
+  abbrev At : ℕ → Sums → Type 0
+  At k sums = Summed (near_share near s.args.r2 s.args.i) (length near - length rest + k) sums.w sums.wd
 
-  abbrev i : ℕ
-  i = s.args.i
+  inside : (k : ℕ) → k < 4 → k < length rest
+  inside k h = omega (arith, h, c.in-len4-up.len_at_least)
 
-  abbrev r2 : ℕ
-  r2 = s.args.r2
+  asked : (k : ℕ) → k < 4 → (sums : Sums) → At k sums
+      → (sums.w ≤ most_weights) × (nat_abs sums.wd ≤ most_pulls) × (s.args.i < most_side) × (s.args.r2 ≤ most_square) × Sized g.row.MODE (get_or rest k nobody)
+  asked k h sums a =
+      let p = s.requires in
+      let b = c.before.loop-rest.invariant.0 in
+      let few = turn_small s.args.r2 s.args.i p.0 p.3 b k (inside k h) a in
+      (few.0, few.1, p.1, p.2, turn_sized s.args.r2 s.args.i p.0 p.3 b k (inside k h) a)
 
-  abbrev give : ℕ → Sums
-  give = near_share lx ly ld r2 i
+  next : (k : ℕ) → k < 4 → (sums sums' : Sums) → At k sums
+      → (sums'.w ≡ sums.w + (share_of (get_or rest k nobody) s.args.r2 s.args.i).weights) × (sums'.wd ≡ sums.wd +ℤ (share_of (get_or rest k nobody) s.args.r2 s.args.i).pulls)
+      → At (k + 1) sums'
+  next k h sums sums' a e =
+      let p = s.requires in
+      turn_next s.args.r2 s.args.i p.0 p.3 c.before.loop-rest.invariant.0 k (inside k h) a e
 
-  slight : (t : ℕ) → t < n → Slight (give t)
-  slight t h = round_slight lx ly ld r2 i t (s.requires.3 t h)
+  none : At 0 c.before.loop-rest.s
+  none = c.before.loop-rest.invariant.1
 
-  -- the sums w and wd of the stations behind
-  module _ (w : ℕ) (wd : ℤ) (above : ℕ) (behind : Down give n above w wd) where
-    w-small : w ≤ most_weights
-    w-small = omega (arith, down_small give n above w wd slight behind, s.requires.0)
+one : (g : _) (o : After-with_near-s g) → At g o.before 1 o.with_near-s.result
+one g o = next g o.before 0 (omega arith) _ _ (none g o.before) o.with_near-s.ensures
 
-    wd-small : nat_abs wd ≤ most_pulls
-    wd-small = omega (arith, w-small, behind.kept)
+two : (g : _) (o : After-with_near-s-in-len4-up g) → At g o.before.before 2 o.with_near-s-in-len4-up.result
+two g o = next g o.before.before 1 (omega arith) _ _ (one g o.before) o.with_near-s-in-len4-up.ensures
 
-    wd-back : to_z w64 (of_z w64 wd) ≡ wd
-    wd-back = bits_back w64 wd (omega (arith, wd-small))
+three : (g : _) (o : After-with_near-s-in-len4-up-2 g) → At g o.before.before.before 3 o.with_near-s-in-len4-up-2.result
+three g o = next g o.before.before.before 2 (omega arith) _ _ (two g o.before) o.with_near-s-in-len4-up-2.ensures
 
-  -- the station t is added to them
-  module _ (t : ℕ) (w : ℕ) (wd : ℤ) (above : ℕ) (next_is : above ≡ t + 1) (inside : above ≤ n) (behind : Down give n above w wd) where
-    here : Sized lx ly ld t
-    here = s.requires.3 t (omega arith)
+four : (g : _) (o : After-with_near-s-in-len4-up-3 g) → At g o.before.before.before.before 4 o.with_near-s-in-len4-up-3.result
+four g o = next g o.before.before.before.before 3 (omega arith) _ _ (three g o.before) o.with_near-s-in-len4-up-3.ensures
 
-    ready : (w ≤ most_weights) × (nat_abs (to_z w64 (of_z w64 wd)) ≤ most_pulls) × (t < most_stations) × (i < most_side) × (r2 ≤ most_square) × Sized lx ly ld t
-    ready = (w-small w wd above behind, rw (wd-back w wd above behind) (wd-small w wd above behind), omega (arith, s.requires.0), s.requires.1, s.requires.2, here)
+-- before the first station
+module _ (g : _) (c : Start g) where
+  abbrev all : List Near
+  all = c.args.near.now
 
-    next : (w' : ℕ) (wd' : ℤ) → Added give t w (to_z w64 (of_z w64 wd)) w' wd' → Down give n t w' wd'
-    next w' wd' h = down_next give n t (slight t (omega arith)) w w' wd wd' (rw next_is at behind) (rw (wd-back w wd above behind) at h)
+  begun : Behind all all × Summed (near_share all c.args.r2 c.args.i) (length all - length all + 0) 0 (pos 0)
+  begun =
+      let e : 0 ≡ length all - length all + 0 = omega arith in
+      (behind_all all, subst (λ (t : ℕ). Summed (near_share all c.args.r2 c.args.i) t 0 (pos 0)) e (summed_none _))
 
--- the sums after each station of a turn
-after-1 : (c : After-with_near-s) → (let s = c.before.before.before.before in Down (give s) (n s) (c.before.before.before.loop-t.t - 1) c.with_near-s.result.w c.with_near-s.result.wd)
-after-1 c =
-    let l = c.before.before.before.loop-t in
-    let h = c.before.before.loop-t-test.true in
-    next c.before.before.before.before (l.t - 1) l.s.w l.s.wd l.t (omega arith) l.invariant.0 l.invariant.1 _ _ c.with_near-s.ensures
+pub loop-rest-init : goal.loop-rest-init
+loop-rest-init g c = begun g (goal.at.loop-rest-init g c).Start
 
-after-2 : (c : After-with_near-s-in-loop-t) → (let f = c.before.before in let s = f.before.before.before.before in Down (give s) (n s) (f.before.before.before.loop-t.t - 2) c.with_near-s-in-loop-t.result.w c.with_near-s-in-loop-t.result.wd)
-after-2 c =
-    let f = c.before.before in
-    let l = f.before.before.before.loop-t in
-    let h = f.before.before.loop-t-test.true in
-    next f.before.before.before.before (l.t - 2) _ _ (l.t - 1) (omega arith) (omega (arith, l.invariant.0)) (after-1 f) _ _ c.with_near-s-in-loop-t.ensures
-
-after-3 : (c : After-with_near-s-in-loop-t-2) → (let f = c.before.before.before.before in let s = f.before.before.before.before in Down (give s) (n s) (f.before.before.before.loop-t.t - 3) c.with_near-s-in-loop-t-2.result.w c.with_near-s-in-loop-t-2.result.wd)
-after-3 c =
-    let g = c.before.before in
-    let f = g.before.before in
-    let l = f.before.before.before.loop-t in
-    let h = f.before.before.loop-t-test.true in
-    next f.before.before.before.before (l.t - 3) _ _ (l.t - 2) (omega arith) (omega (arith, l.invariant.0)) (after-2 g) _ _ c.with_near-s-in-loop-t-2.ensures
-
-after-4 : (c : After-with_near-s-in-loop-t-3) → (let f = c.before.before.before.before.before.before in let s = f.before.before.before.before in Down (give s) (n s) (f.before.before.before.loop-t.t - 4) c.with_near-s-in-loop-t-3.result.w c.with_near-s-in-loop-t-3.result.wd)
-after-4 c =
-    let g = c.before.before in
-    let f = g.before.before.before.before in
-    let l = f.before.before.before.loop-t in
-    let h = f.before.before.loop-t-test.true in
-    next f.before.before.before.before (l.t - 4) _ _ (l.t - 3) (omega arith) (omega (arith, l.invariant.0)) (after-3 g) _ _ c.with_near-s-in-loop-t-3.ensures
-
--- the turn that ends
-abbrev turn : After-with_near-s-in-loop-t-3 → In-loop-t
-turn c = c.before.before.before.before.before.before.before.before
+pub loop-station-init : goal.loop-station-init
+loop-station-init g c =
+    elim c.if-this-eq-ROUND.branch [
+      | then-this-eq-ROUND+in_default w ↦ rw (w.rest-is, w.s-is) w.loop-rest.invariant
+      | else-this-eq-ROUND w ↦ rw (w.rest-is, w.s-is) (begun g (goal.at.loop-station-init g c).Start)
+    ]
 
 pub with_near-s-requires : goal.with_near-s-requires
-with_near-s-requires c =
-    let l = c.before.before.loop-t in
-    let h = c.before.loop-t-test.true in
-    ready c.before.before.before.before (l.t - 1) l.s.w l.s.wd l.t (omega arith) l.invariant.0 l.invariant.1
+with_near-s-requires g c = asked g c 0 (omega arith) _ (none g c)
 
-pub with_near-s-requires-in-loop-t : goal.with_near-s-requires-in-loop-t
-with_near-s-requires-in-loop-t c =
-    let f = c.before.before in
-    let l = f.before.before.before.loop-t in
-    let h = f.before.before.loop-t-test.true in
-    ready f.before.before.before.before (l.t - 2) _ _ (l.t - 1) (omega arith) (omega (arith, l.invariant.0)) (after-1 f)
+pub with_near-s-requires-in-len4-up : goal.with_near-s-requires-in-len4-up
+with_near-s-requires-in-len4-up g c = asked g c.before 1 (omega arith) _ (one g c)
 
-pub with_near-s-requires-in-loop-t-2 : goal.with_near-s-requires-in-loop-t-2
-with_near-s-requires-in-loop-t-2 c =
-    let g = c.before.before in
-    let f = g.before.before in
-    let l = f.before.before.before.loop-t in
-    let h = f.before.before.loop-t-test.true in
-    ready f.before.before.before.before (l.t - 3) _ _ (l.t - 2) (omega arith) (omega (arith, l.invariant.0)) (after-2 g)
+pub with_near-s-requires-in-len4-up-2 : goal.with_near-s-requires-in-len4-up-2
+with_near-s-requires-in-len4-up-2 g c = asked g c.before.before 2 (omega arith) _ (two g c)
 
-pub with_near-s-requires-in-loop-t-3 : goal.with_near-s-requires-in-loop-t-3
-with_near-s-requires-in-loop-t-3 c =
-    let g = c.before.before in
-    let f = g.before.before.before.before in
-    let l = f.before.before.before.loop-t in
-    let h = f.before.before.loop-t-test.true in
-    ready f.before.before.before.before (l.t - 4) _ _ (l.t - 3) (omega arith) (omega (arith, l.invariant.0)) (after-3 g)
+pub with_near-s-requires-in-len4-up-3 : goal.with_near-s-requires-in-len4-up-3
+with_near-s-requires-in-len4-up-3 g c = asked g c.before.before.before 3 (omega arith) _ (three g c)
 
-pub loop-t-preserved : goal.loop-t-preserved
-loop-t-preserved c = (omega (arith, (turn c).before.loop-t.invariant.0), after-4 c)
+pub loop-rest-preserved : goal.loop-rest-preserved
+loop-rest-preserved g c =
+    let t = c.before.before.before.before in
+    let b = t.before.loop-rest.invariant.0 in
+    let more = behind_next 4 t.in-len4-up.len_at_least b in
+    let sums = c.with_near-s-in-len4-up-3.result in
+    let e : length (near g t) - length (rest g t) + 4 ≡ length (near g t) - length (take (length (rest g t) - 4) (drop 4 (rest g t))) + 0 = omega (arith, more.0, b.no_more, t.in-len4-up.len_at_least) in
+    (more.1, subst (λ (m : ℕ). Summed (near_share (near g t) (s g t).args.r2 (s g t).args.i) m sums.w sums.wd) e (four g c))
+
+pub with_near-s-requires-in-loop-station : goal.with_near-s-requires-in-loop-station
+with_near-s-requires-in-loop-station g c =
+    let s = (goal.at.with_near-s-requires-in-loop-station g c).Start in
+    let p = s.requires in
+    let l = c.before.loop-station in
+    let few = turn_small s.args.r2 s.args.i p.0 p.3 l.invariant.0 l.station-index c.loop-station-test.true l.invariant.1 in
+    (few.0, few.1, p.1, p.2, turn_sized s.args.r2 s.args.i p.0 p.3 l.invariant.0 l.station-index c.loop-station-test.true l.invariant.1)
+
+pub loop-station-preserved : goal.loop-station-preserved
+loop-station-preserved g c =
+    let s = (goal.at.loop-station-preserved g c).Start in
+    let p = s.requires in
+    let l = c.before.before.loop-station in
+    (l.invariant.0, turn_next s.args.r2 s.args.i p.0 p.3 l.invariant.0 l.station-index c.before.loop-station-test.true l.invariant.1 c.with_near-s-in-loop-station.ensures)

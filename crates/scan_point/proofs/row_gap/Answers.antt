@@ -6,11 +6,12 @@ use mathlib.Core.Path.{◌≡◌}
 use lib.IntN.{pos}
 use mir.Syntax.{w32}
 use mir.Val.{to_z}
-use mir.Facts.{to_z-of_z, to_z_pos}
+use mir.Facts.{to_z_pos}
+use Rattle.integers.specs.Words.{bits_back}
 use Rattle.scheme.specs.Units.{step}
 use Rattle.scan_point.specs.Near.{row_gap}
 use Rattle.scan_point.proofs.row_gap.Goals as goal
-use Rattle.scan_point.proofs.row_gap.Goals.{Start}
+use Rattle.scan_point.proofs.row_gap.Goals.{Start, Then-verdict-eq0}
 
 -- where the grid row stands
 row_at : (s : Start) → to_z w32 (step * s.args.j) ≡ pos (step * s.args.j)
@@ -19,8 +20,10 @@ row_at s = to_z_pos w32 {n = step * s.args.j} (omega (arith, s.requires.0))
 pub returns-then-verdict-eq0 : goal.returns-then-verdict-eq0
 unfolding row_gap
 returns-then-verdict-eq0 c =
-    let s = c.before.before in
-    rw (eq-eqb _ _ c.before.if-verdict-eq0.true) (rw (to_z-of_z s.ranges.y, row_at s) at c.square_apart.ensures.0)
+    let s = (goal.at.returns-then-verdict-eq0 c).Start in
+    let e = (goal.at.returns-then-verdict-eq0 c).Then-verdict-eq0.if-verdict-eq0.true in
+    let y = s.args.station.now.y in
+    rw (eq-eqb _ _ e) (rw (bits_back w32 y (omega (arith, s.requires.1 e)), row_at s) at c.square_apart.ensures.0)
 
 pub returns-else-verdict-eq0 : goal.returns-else-verdict-eq0
 unfolding row_gap

@@ -1,46 +1,31 @@
--- `scan_point::with_near` meets its contract: positions, distance and difference come back from their bits as they were. Assumes nothing.
-use Prim.Native.Nat.{◌*◌}
+-- `scan_point::with_near` meets its contract: a station beyond the radius adds nothing, and the weight of another is at most the scale. Assumes nothing.
 use native.Mathlib.Omega.{arith}
-use mathlib.Core.Path.{◌≡◌}
-use lib.ListN.{get_or}
-use lib.IntN.{ℤ, pos}
-use mir.Syntax.{w32, w64}
-use mir.Val.{to_z, of_z}
-use mir.Facts.{to_z_pos, to_z-of_z}
+use native.Mathlib.Nat.{add-zero}
+use mathlib.Core.Path.{sym, ap, ◌∙◌}
+use lib.IntN.{ℤ, pos, ◌+ℤ◌, ◌-ℤ◌, zero-*ℤ, +ℤ_idr}
+use mir.Syntax.{w64}
+use Rattle.std.proofs.Common.{◌*◌}
 use Rattle.integers.specs.Words.{bits_back}
 use Rattle.scheme.specs.Units.{step}
-use Rattle.scan_point.specs.Round.{near_share, Sized}
+use Rattle.scan_weight.specs.Along.{beyond, weight_by_most}
+use Rattle.scan_along.specs.Streak.{q_at}
+use Rattle.scan_lone.specs.Inside.{distance}
 use Rattle.scan_point.proofs.with_near.Goals as goal
-use Rattle.scan_point.proofs.with_near.Goals.{Start}
+use Rattle.scan_point.proofs.with_near.Goals.{After-weight, Start}
 
-module _ (s : Start) where
-  here : Sized s.args.lx.now s.args.ly.now s.args.ld.now s.args.t
-  here = s.requires.5
+pub returns-then-r2-d2 : goal.returns-then-r2-d2
+returns-then-r2-d2 g c =
+    let s = (goal.at.returns-then-r2-d2 g c).Start in
+    let near = s.args.near.now in
+    let e = beyond s.args.r2 (distance near s.args.i) near.streak.strength (q_at near.streak (near.x -ℤ pos (step * s.args.i))) (omega (arith, c.before.squared_distance-d2.ensures, c.if-r2-d2.true)) in
+    rw e (sym (add-zero s.args.s.w), sym (ap (λ (z : ℤ). s.args.s.wd +ℤ z) (zero-*ℤ near.d) ∙ +ℤ_idr s.args.s.wd))
 
-  abbrev x : ℤ
-  x = get_or s.args.lx.now s.args.t (pos 0)
-
-  abbrev d : ℤ
-  d = get_or s.args.ld.now s.args.t (pos 0)
-
-  x-back : to_z w32 (of_z w32 x) ≡ x
-  x-back = bits_back w32 x (omega (arith, here.x_small))
-
-  d-back : to_z w64 (of_z w64 d) ≡ d
-  d-back = bits_back w64 d (omega (arith, here.d_small))
-
-  px-is : to_z w32 (step * s.args.i) ≡ pos (step * s.args.i)
-  px-is = to_z_pos w32 {n = step * s.args.i} (omega (arith, s.requires.3))
-
-  wd-back : to_z w64 (of_z w64 s.args.wd) ≡ s.args.wd
-  wd-back = to_z-of_z s.ranges.wd
-
-pub returns : goal.returns
-unfolding near_share
-returns c =
-    let s = (goal.at.returns c).Start in
-    let g-is = rw (x-back s, px-is s) at c.squared_distance.ensures in
-    record {
-      weights = rw g-is at c.more.ensures.0;
-      pulls = rw (g-is, d-back s, wd-back s) at c.more.ensures.1;
-    }
+pub added-requires : goal.added-requires
+added-requires g c =
+    let s = (goal.at.added-requires g c).Start in
+    let near = s.args.near.now in
+    let p = s.requires in
+    let most = weight_by_most s.args.r2 (distance near s.args.i) near.streak.strength (q_at near.streak (near.x -ℤ pos (step * s.args.i))) in
+    let w = (goal.at.added-requires g c).After-weight in
+    let at-distance = rw w.before.before.squared_distance-d2.ensures at w.weight.ensures in
+    (p.0, p.1, omega (arith, most, at-distance), rw (bits_back w64 near.d (omega (arith, p.4.d_small))) p.4.d_small)

@@ -32,18 +32,17 @@ module _ (l : List ℤ) (p : ℕ) (small : SmallFrom p l) (b a : ℕ) (s : ℤ) 
 
 pub loop-a-init : goal.loop-a-init
 unfolding up_to
-loop-a-init c = (omega arith, refl)
+loop-a-init c = refl
 
-pub overflow_add-s-in-loop-a : goal.overflow_add-s-in-loop-a
-overflow_add-s-in-loop-a c =
-    sum_fits c.args.z.now c.args.p c.requires.3 c.args.b c.loop-a.a _ (omega arith) c.loop-a.invariant.1
+pub overflow_add-sum-in-loop-a : goal.overflow_add-sum-in-loop-a
+overflow_add-sum-in-loop-a c =
+    sum_fits c.args.z.now c.args.p c.requires.3 c.args.b c.loop-a.a _ (omega arith) c.loop-a.invariant
 
 pub loop-a-preserved : goal.loop-a-preserved
-loop-a-preserved c =
-    (omega arith, next c.args.z.now c.args.p c.requires.3 c.args.b c.loop-a.a _ (omega arith) c.loop-a.invariant.1)
+loop-a-preserved c = next c.args.z.now c.args.p c.requires.3 c.args.b c.loop-a.a _ (omega arith) c.loop-a.invariant
 
 pub returns : goal.returns
 unfolding row_at
 returns c =
     let e : c.loop-a.a ≡ 3 = omega arith in
-    rw e at c.loop-a.invariant.1
+    rw e at c.loop-a.invariant

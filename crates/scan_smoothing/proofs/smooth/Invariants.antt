@@ -1,10 +1,6 @@
 -- The loop's invariant of `scan_smoothing::smooth`: rows 0 to j are new, those from j + 1 on are old, and the row that is kept is the old row j.
-use Rattle.std.proofs.Common.{◌+◌, ◌-◌, ◌≤◌}
 use Rattle.scan_smoothing.specs.Pass.{Room, Kept, NewTo}
 use Rattle.scan_smoothing.proofs.smooth.Given as goal
 
 abbrev pub invariant-loop-j : goal.invariant-loop-j
-invariant-loop-j l = (l.j + 2 ≤ l.ny) × NewTo l.initial.z l.nx l.ny l.j l.z × Kept l.initial.z l.nx l.j l.above × Room l.nx l.here
-
-abbrev pub decreases-loop-j : goal.decreases-loop-j
-decreases-loop-j l = l.ny - l.j
+invariant-loop-j l = NewTo l.initial.z l.nx l.ny l.j l.z × Kept l.initial.z l.nx l.j l.above × Room l.nx l.here

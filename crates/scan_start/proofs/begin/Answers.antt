@@ -1,6 +1,5 @@
 -- `scan_start::begin` meets its contract: the first guess, no support and the first verdicts are the run's start. Assumes nothing.
-use native.Mathlib.Omega.{arith}
-use mathlib.Core.Path.{refl, ◌∙◌}
+use Rattle.std.proofs.Common.{arith, rules, refl, ◌≡◌, ◌∙◌, length, replicate}
 use Rattle.lists.specs.Tab.{length-tab}
 use Rattle.scheme.proofs.Accepted.{same_shape}
 use Rattle.request.specs.Tables.{station_in}
@@ -9,11 +8,12 @@ use Rattle.scan_start.proofs.begin.Goals as goal
 
 pub first_verdicts-requires : goal.first_verdicts-requires
 first_verdicts-requires c =
-    let s = c.before.before.before.before.before.before.before.before.before.before in
-    let rows = length-tab s.args.t.stations (station_in s.args.numbers.now s.args.minutes.now) in
-    (same_shape s.requires.0.shape _ refl, omega (arith, rows, s.requires.0.few_stations), s.requires.1.verdict_long ∙ rows)
+    let stations = c.args.request.now.stations.now in
+    let rows = length-tab (length stations) (station_in stations) in
+    (same_shape c.requires.0.shape _ refl, omega (arith, rows, c.requires.0.few_stations), c.requires.1.verdict_long ∙ rows)
 
 pub returns : goal.returns
 returns c =
-    let s = c.before.before.before.before.before.before.before.before.before.before.before.before.before in
-    begun _ _ _ _ s.requires.0 _ c.before.before.first_verdicts.ensures c.before.before.before.before.before.before.before.before.before.copy.ensures s.requires.1.support_long c.before.before.before.before.before.before.clear.ensures
+    let r = c.args.request.now in
+    let none : c.fill.new.self ≡ replicate (length c.args.support.now) 0 = search rules in
+    begun r.terms r.guess.now r.stations.now c.requires.0 _ c.first_verdicts.ensures c.copy_from_slice.ensures.after c.requires.1.support_long none

@@ -1,10 +1,6 @@
-use Prim.Native.Nat.{◌-◌, ◌≤◌}
-use Rattle.lists.specs.Filled.{Filled}
+use Rattle.std.proofs.Common.{◌≡◌, ℕ, ◌<◌, get_or}
 use Rattle.scan_start.specs.Start.{first_at}
 use Rattle.scan_start.proofs.first_verdicts.Given as goal
 
 abbrev pub invariant-loop-k : goal.invariant-loop-k
-invariant-loop-k l = (l.k ≤ l.t.stations) × Filled 0 (first_at l.t l.numbers l.minutes) 0 l.k l.initial.verdict l.verdict
-
-abbrev pub decreases-loop-k : goal.decreases-loop-k
-decreases-loop-k l = l.t.stations - l.k
+invariant-loop-k l = (i : ℕ) → i < l.k → get_or l.verdict i 0 ≡ first_at l.terms l.stations i

@@ -3,6 +3,4 @@ use Rattle.scans.specs.Ready.{left_alone}
 use Rattle.scans.proofs.buddies_if.Goals as goal
 
 pub returns-else-t : goal.returns-else-t
-returns-else-t c =
-    let s = c.before.before in
-    left_alone s.args.t s.args.numbers.now s.args.scan s.args.verdict.now s.args.d.now c.if-t.false
+returns-else-t c = left_alone c.args.t.now c.args.stations.now c.args.scan c.args.verdict.now c.args.d.now c.if-t.false

@@ -20,22 +20,25 @@ verdict_front n h = front_long n most_stations (replicate {A = ℕ} 512 0) h (om
 
 pub slice_bounds-verdict-end : goal.slice_bounds-verdict-end
 slice_bounds-verdict-end c =
-    omega (arith, length-tab c.args.t.stations (station_in c.args.numbers.now c.args.minutes.now), c.requires.0.few_stations)
+    let ss = c.args.request.now.stations.now in
+    omega (arith, length-tab (length ss) (station_in ss), c.requires.0.few_stations)
 
 pub slice_bounds-answered-end-3 : goal.slice_bounds-answered-end-3
 slice_bounds-answered-end-3 c =
-    verdict_front c.args.t.stations (omega (arith, length-tab c.args.t.stations (station_in c.args.numbers.now c.args.minutes.now), c.requires.0.few_stations))
+    let ss = c.args.request.now.stations.now in
+    verdict_front (length ss) (omega (arith, length-tab (length ss) (station_in ss), c.requires.0.few_stations))
 
 pub answered-requires : goal.answered-requires
 answered-requires c =
-    let a = c.args in
-    let points : a.t.nx * a.t.ny ≤ most_points = mul-le-mul c.requires.0.shape.few_columns c.requires.0.shape.few_rows in
-    let stations : a.t.stations ≤ most_stations = omega (arith, length-tab a.t.stations (station_in a.numbers.now a.minutes.now), c.requires.0.few_stations) in (
+    let t = c.args.request.now.terms in
+    let ss = c.args.request.now.stations.now in
+    let points : t.nx * t.ny ≤ most_points = mul-le-mul c.requires.0.shape.few_columns c.requires.0.shape.few_rows in
+    let stations : length ss ≤ most_stations = omega (arith, length-tab (length ss) (station_in ss), c.requires.0.few_stations) in (
       c.requires.0,
       record {
-        grid_long = sym (points_front (a.t.nx * a.t.ny) points);
-        support_long = sym (support_front (a.t.nx * a.t.ny) points);
-        verdict_long = sym (verdict_front a.t.stations stations) ∙ sym (length-tab a.t.stations (station_in a.numbers.now a.minutes.now));
+        grid_long = sym (points_front (t.nx * t.ny) points);
+        support_long = sym (support_front (t.nx * t.ny) points);
+        verdict_long = sym (verdict_front (length ss) stations) ∙ sym (length-tab (length ss) (station_in ss));
       },
       c.requires.1,
     )

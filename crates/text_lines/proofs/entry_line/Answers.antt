@@ -1,26 +1,25 @@
 -- `text_lines::entry_line` meets its contract: piece after piece, each read where the one before ended. Assumes nothing.
-use borrow.Author.Rules.{rules}
-use mir.Syntax.{w32}
+use Rattle.std.proofs.Common.{rules, to_z-of_z}
+use Rattle.std.specs.Int.{w32}
 use mir.Val.{SFits}
-use mir.Facts.{to_z-of_z}
 use Rattle.scheme.specs.Text.Lines.{entry_line}
 use Rattle.text_lines.proofs.entry_line.Goals as goal
 
-pub returns-in_default : goal.returns-in_default
+pub returns-in_err-rest : goal.returns-in_err-rest
 unfolding entry_line
-returns-in_default c = rw c.in_default.ensures
+returns-in_err-rest c = rw (c.in_err-rest.ensures, c.from_residual.ensures)
 
-pub returns-in_default-signed_in_line : goal.returns-in_default-signed_in_line
+pub returns-in_err-radius : goal.returns-in_err-radius
 unfolding entry_line
-returns-in_default-signed_in_line c = rw (c.in-At.ensures, c.in_default-signed_in_line.ensures)
+returns-in_err-radius c = rw (c.in_ok-rest.ensures, c.in_err-radius.ensures, c.from_residual-in_err-radius.ensures)
 
-pub returns-in_default-signed_in_line-2 : goal.returns-in_default-signed_in_line-2
+pub returns-in_err-limit : goal.returns-in_err-limit
 unfolding entry_line
-returns-in_default-signed_in_line-2 c = rw (c.in-At.ensures, c.in-Value.ensures, c.in_default-signed_in_line-2.ensures)
+returns-in_err-limit c = rw (c.in_ok-rest.ensures, c.in_ok-radius.ensures, c.in_err-limit.ensures, c.from_residual-in_err-limit.ensures)
 
 pub returns : goal.returns
 unfolding entry_line
 returns c =
-    let r : SFits w32 c.in-Value.radius = search rules in
-    let l : SFits w32 c.in-Value-signed_in_line.limit = search rules in
-    rw (c.in-At.ensures, c.in-Value.ensures, c.in-Value-signed_in_line.ensures, to_z-of_z r, to_z-of_z l)
+    let r : SFits w32 c.in_ok-radius.radius = search rules in
+    let l : SFits w32 c.in_ok-limit.limit = search rules in
+    rw (c.in_ok-rest.ensures, c.in_ok-radius.ensures, c.in_ok-limit.ensures, to_z-of_z r, to_z-of_z l)

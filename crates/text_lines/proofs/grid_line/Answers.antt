@@ -2,21 +2,18 @@
 use Rattle.scheme.specs.Text.Lines.{grid_line}
 use Rattle.text_lines.proofs.grid_line.Goals as goal
 
-pub returns-in_default : goal.returns-in_default
+pub returns-in_err-rest-clause-said : goal.returns-in_err-rest-clause-said
 unfolding grid_line
-returns-in_default c = rw c.in_default.ensures
+returns-in_err-rest-clause-said c = rw (c.in_err-rest.ensures, c.from_residual.ensures)
 
-pub returns-in_default-count_in_line : goal.returns-in_default-count_in_line
+pub returns-in_err-nx-clause-said : goal.returns-in_err-nx-clause-said
 unfolding grid_line
-returns-in_default-count_in_line c = rw (c.in-At.ensures, c.in_default-count_in_line.ensures.0)
+returns-in_err-nx-clause-said c = rw (c.in_ok-rest.ensures, c.in_err-nx.ensures.said, c.from_residual-in_err-nx.ensures)
 
-pub returns-in_default-count_in_line-2 : goal.returns-in_default-count_in_line-2
+pub returns-in_err-ny-clause-said : goal.returns-in_err-ny-clause-said
 unfolding grid_line
-returns-in_default-count_in_line-2 c = rw (c.in-At.ensures, c.in-Value.ensures.0, c.in_default-count_in_line-2.ensures.0)
+returns-in_err-ny-clause-said c = rw (c.in_ok-rest.ensures, c.in_ok-nx.ensures.said, c.in_err-ny.ensures.said, c.from_residual-in_err-ny.ensures)
 
-pub returns : goal.returns
+pub returns-clause-said : goal.returns-clause-said
 unfolding grid_line
-returns c =
-    let w = c.in-Value.ensures.1 in
-    let u = c.in-Value-count_in_line.ensures.1 in
-    record { said = rw (c.in-At.ensures, c.in-Value.ensures.0, c.in-Value-count_in_line.ensures.0); two_columns = w.0; few_columns = w.1; two_rows = u.0; few_rows = u.1 }
+returns-clause-said c = rw (c.in_ok-rest.ensures, c.in_ok-nx.ensures.said, c.in_ok-ny.ensures.said)

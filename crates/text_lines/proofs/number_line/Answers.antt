@@ -2,10 +2,10 @@
 use Rattle.scheme.specs.Text.Lines.{number}
 use Rattle.text_lines.proofs.number_line.Goals as goal
 
-pub returns-in_default : goal.returns-in_default
+pub returns-in_err-rest-clause-said : goal.returns-in_err-rest-clause-said
 unfolding number
-returns-in_default c = (rw c.in_default.ensures, tt)
+returns-in_err-rest-clause-said c = rw (c.in_err-rest.ensures, c.from_residual.ensures)
 
-pub returns : goal.returns
+pub returns-clause-said : goal.returns-clause-said
 unfolding number
-returns c = (rw c.in-At.ensures c.count_in_line.ensures.0, c.count_in_line.ensures.1)
+returns-clause-said c = rw c.in_ok-rest.ensures c.count_before.ensures.said

@@ -2,10 +2,10 @@
 use Rattle.scheme.specs.Text.Lines.{row_line}
 use Rattle.text_lines.proofs.row_line.Goals as goal
 
-pub returns-in_default : goal.returns-in_default
+pub returns-in_err-rest : goal.returns-in_err-rest
 unfolding row_line
-returns-in_default c = rw c.in_default.ensures
+returns-in_err-rest c = rw (c.in_err-rest.ensures, c.from_residual.ensures)
 
 pub returns : goal.returns
 unfolding row_line
-returns c = rw c.in-At.ensures c.values_at.ensures
+returns c = rw c.in_ok-rest.ensures c.values.ensures

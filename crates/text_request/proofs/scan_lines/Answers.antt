@@ -1,54 +1,40 @@
 -- `text_request::scan_lines` meets its contract. Assumes nothing.
-use borrow.Author.Rules.{rules}
-use native.Mathlib.Omega.{arith}
-use mathlib.Core.Path.{◌≡◌, refl, ◌∙◌}
-use lib.ListN.{drop, length-set}
-use mir.Syntax.{w32}
-use mir.Val.{SFits}
-use mir.Facts.{to_z-of_z}
-use Rattle.lists.specs.Tab.{tab}
+use Rattle.std.proofs.Common.{arith, ap, sym, ◌∙◌, length, map, take, set, ◌+◌, ◌∷◌, []}
+use Rattle.scheme.specs.Text.Reader.{reads}
 use Rattle.scheme.specs.Text.Lines.{scan_line}
-use Rattle.text_request.specs.Told.{entry_stored}
-use Rattle.text_request.specs.Turns.{begin, turn, stop, done, lines_more, lines_stop, lines_none}
-use Rattle.text_request.proofs.scan_lines.Invariants.{scans}
+use Rattle.scheme.specs.Text.Order.{lines}
+use Rattle.text_lines.specs.Told.{entry_of}
+use Rattle.text_head.specs.Left.{left_of}
+use Rattle.text_head.proofs.Lines.{line_as, handed_on, next_line}
+use Rattle.text_request.specs.Told.{all_told}
+use Rattle.text_request.proofs.Turns.{begin, turn, stop, done, lines_more, lines_stop, lines_none, stored, all_stored}
 use Rattle.text_request.proofs.scan_lines.Goals as goal
 
-pub loop-i-init : goal.loop-i-init
-unfolding tab
-loop-i-init c = let a = c.args in (omega arith, c.requires.2, c.requires.3, begin scans a.s.now (drop a.at a.s.now) a.n a.line a.at refl)
+pub loop-entry-init : goal.loop-entry-init
+loop-entry-init c = (omega arith, begin (λ n. lines n scan_line) (length c.args.entries.now) (left_of c.args.left))
 
-pub returns-in_default : goal.returns-in_default
-returns-in_default c =
+pub returns-in_err-scan-clause-said : goal.returns-in_err-scan-clause-said
+returns-in_err-scan-clause-said c =
     let a = c.args in
-    let l = c.loop-i in
-    record {
-      said = stop scans a.s.now (drop a.at a.s.now) a.n a.line l.i l.p _ (omega arith) l.invariant.3 (lines_stop scan_line (drop l.p a.s.now) c.in_default.ensures);
-      radii = l.invariant.1;
-      limits = l.invariant.2;
-    }
+    let l = c.loop-entry in
+    let off = line_as scan_line entry_of l.left c.entry_line.result c.entry_line.ensures _ c.in_err-scan.ensures in
+    stop (λ n. lines n scan_line) (length a.entries.now) (left_of a.left) l.entry-index (map entry_of (take l.entry-index l.entries)) (left_of l.left) l.invariant.1 (omega arith) c.in_err-scan.field-0.0.line (lines_stop scan_line (left_of l.left) c.in_err-scan.field-0.0.line off)
+    ∙ ap (all_told _) (sym (handed_on c.from_residual.result c.in_err-scan.field-0.0 c.from_residual.ensures.1))
 
-pub loop-i-preserved : goal.loop-i-preserved
-loop-i-preserved c =
+pub loop-entry-preserved : goal.loop-entry-preserved
+loop-entry-preserved c =
     let a = c.args in
-    let l = c.loop-i in
-    let v = c.in-Value in
-    let f : SFits w32 v.r = search rules in
-    let g : SFits w32 v.e = search rules in
-    simp to_z-of_z (
-      omega arith,
-      length-set l.radius l.i v.r ∙ l.invariant.1,
-      length-set l.limit l.i v.e ∙ l.invariant.2,
-      turn scans a.s.now (drop a.at a.s.now) a.n a.line l.i l.p _ (omega arith) l.invariant.3 v.next _ _ (lines_more scan_line (drop l.p a.s.now) (drop v.next a.s.now) _ v.ensures)
-          (entry_stored l.i l.radius l.limit v.r v.e (omega arith) (omega arith)),
+    let l = c.loop-entry in
+    let v = c.in_ok-scan in
+    let on = line_as scan_line entry_of l.left c.entry_line.result c.entry_line.ensures _ v.ensures in (
+      omega (arith, next_line l.left c.entry_line.result (v.scan, v.after) v.ensures),
+      turn (λ n. lines n scan_line) (length a.entries.now) (left_of a.left) l.entry-index (map entry_of (take l.entry-index l.entries)) (left_of l.left) l.invariant.1 (omega arith) (entry_of v.scan ∷ []) (map entry_of (take (l.entry-index + 1) (set l.entries l.entry-index v.scan))) (left_of v.after) (lines_more scan_line (left_of l.left) (entry_of v.scan) (left_of v.after) on)
+          (stored entry_of l.entries l.entry-index v.scan (omega arith)),
     )
 
-pub returns : goal.returns
-returns c =
+pub returns-clause-said : goal.returns-clause-said
+returns-clause-said c =
     let a = c.args in
-    let l = c.loop-i in
-    let e : l.i ≡ a.n = omega arith in
-    record {
-      said = rw e at (done scans a.s.now (drop a.at a.s.now) a.n a.line l.i l.p _ e (lines_none scan_line) l.invariant.3);
-      radii = l.invariant.1;
-      limits = l.invariant.2;
-    }
+    let l = c.loop-entry in
+    done (λ n. lines n scan_line) (length a.entries.now) (left_of a.left) l.entry-index (map entry_of (take l.entry-index l.entries)) (left_of l.left) l.invariant.1 (omega arith) (lines_none scan_line (left_of l.left))
+    ∙ ap (λ w. reads w (left_of l.left)) (all_stored entry_of l.entries l.entry-index (omega arith))

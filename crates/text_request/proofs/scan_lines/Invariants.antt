@@ -1,21 +1,13 @@
--- What is read so far, before what is still to read, is the whole.
-use Prim.Native.Nat.{ℕ, ◌-◌, ◌≤◌}
-use mathlib.Core.Path.{◌≡◌}
-use mathlib.Core.List.{List}
-use lib.ListN.{length, drop}
-use Rattle.lists.specs.Tab.{tab}
-use Rattle.scheme.specs.Units.{most_scans}
-use Rattle.scheme.specs.Text.Lines.{Entry, scan_line}
-use Rattle.scheme.specs.Text.Order.{Text, lines}
-use Rattle.text_request.specs.Told.{entry_at}
-use Rattle.text_request.specs.Turns.{Reached}
+-- The loop of `text_request::scan_lines`: what is read so far, before what is still to read, is the whole.
+use Rattle.std.proofs.Common.{◌≡◌, ◌+◌, length, map, take}
+use Rattle.scheme.specs.Text.Lines.{scan_line}
+use Rattle.scheme.specs.Text.Order.{lines}
+use Rattle.text_lines.specs.Told.{entry_of}
+use Rattle.text_head.specs.Left.{left_of}
+use Rattle.text_request.proofs.Turns.{Reached}
 use Rattle.text_request.proofs.scan_lines.Given as goal
 
-abbrev pub scans : ℕ → Text (List Entry)
-scans n = lines n scan_line
-
-abbrev pub invariant-loop-i : goal.invariant-loop-i
-invariant-loop-i l = (l.i ≤ l.n) × (length l.radius ≡ most_scans) × (length l.limit ≡ most_scans) × Reached scans l.s (drop l.at l.s) l.n l.line l.i l.p (tab l.i (entry_at l.radius l.limit))
-
-abbrev pub decreases-loop-i : goal.decreases-loop-i
-decreases-loop-i l = l.n - l.i
+abbrev pub invariant-loop-entry : goal.invariant-loop-entry
+invariant-loop-entry l =
+    (l.left.line ≡ l.initial.left.line + l.entry-index)
+    × Reached (λ n. lines n scan_line) (length l.fn.entries) (left_of l.initial.left) l.entry-index (map entry_of (take l.entry-index l.entries)) (left_of l.left)

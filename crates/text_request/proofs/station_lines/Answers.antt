@@ -1,51 +1,40 @@
 -- `text_request::station_lines` meets its contract. Assumes nothing.
-use native.Mathlib.Omega.{arith}
-use mathlib.Core.Path.{◌≡◌, refl}
-use mathlib.Core.List.{[], ◌∷◌}
-use lib.ListN.{drop}
-use Rattle.lists.specs.Tab.{tab, tab_grows}
+use Rattle.std.proofs.Common.{arith, ap, sym, ◌∙◌, length, map, take, set, ◌+◌, ◌∷◌, []}
+use Rattle.scheme.specs.Text.Reader.{reads}
 use Rattle.scheme.specs.Text.Lines.{station_line}
-use Rattle.request.specs.Tables.{station_in}
-use Rattle.text_request.specs.Turns.{begin, turn, stop, done, lines_more, lines_stop, lines_none}
-use Rattle.text_request.proofs.station_lines.Invariants.{stations}
+use Rattle.scheme.specs.Text.Order.{lines}
+use Rattle.request.specs.Tables.{station_of}
+use Rattle.text_head.specs.Left.{left_of}
+use Rattle.text_head.proofs.Lines.{line_as, handed_on, next_line}
+use Rattle.text_request.specs.Told.{all_told}
+use Rattle.text_request.proofs.Turns.{begin, turn, stop, done, lines_more, lines_stop, lines_none, stored, all_stored}
 use Rattle.text_request.proofs.station_lines.Goals as goal
 
-pub loop-i-init : goal.loop-i-init
-unfolding tab
-loop-i-init c = let a = c.args in (omega arith, c.requires.2, c.requires.3, begin stations a.s.now (drop a.at a.s.now) a.n a.line a.at refl)
+pub loop-station-init : goal.loop-station-init
+loop-station-init c = (omega arith, begin (λ n. lines n station_line) (length c.args.stations.now) (left_of c.args.left))
 
-pub returns-in_default : goal.returns-in_default
-returns-in_default c =
+pub returns-in_err-read : goal.returns-in_err-read
+returns-in_err-read c =
     let a = c.args in
-    let l = c.loop-i in
-    let r = c.in_default.ensures in
-    record {
-      said = stop stations a.s.now (drop a.at a.s.now) a.n a.line l.i l.p _ (omega arith) l.invariant.3 (lines_stop station_line (drop l.p a.s.now) r.said);
-      numbers_long = r.numbers_long;
-      minutes_long = r.minutes_long;
-    }
+    let l = c.loop-station in
+    let off = line_as station_line station_of l.left c.station_line.result c.station_line.ensures _ c.in_err-read.ensures in
+    stop (λ n. lines n station_line) (length a.stations.now) (left_of a.left) l.station-index (map station_of (take l.station-index l.stations)) (left_of l.left) l.invariant.1 (omega arith) c.in_err-read.field-0.0.line (lines_stop station_line (left_of l.left) c.in_err-read.field-0.0.line off)
+    ∙ ap (all_told _) (sym (handed_on c.from_residual.result c.in_err-read.field-0.0 c.from_residual.ensures.1))
 
-pub loop-i-preserved : goal.loop-i-preserved
-loop-i-preserved c =
+pub loop-station-preserved : goal.loop-station-preserved
+loop-station-preserved c =
     let a = c.args in
-    let l = c.loop-i in
-    let r = c.in-At.ensures in
-    let k = station_in c.station_line.new.numbers c.station_line.new.minutes l.i in (
-      omega arith,
-      r.numbers_long,
-      r.minutes_long,
-      turn stations a.s.now (drop a.at a.s.now) a.n a.line l.i l.p (tab l.i (station_in l.numbers l.minutes)) (omega arith) l.invariant.3 c.in-At.next (k ∷ []) _
-          (lines_more station_line (drop l.p a.s.now) (drop c.in-At.next a.s.now) k r.said)
-          (tab_grows l.i (station_in l.numbers l.minutes) _ k r.earlier refl),
+    let l = c.loop-station in
+    let v = c.in_ok-read in
+    let on = line_as station_line station_of l.left c.station_line.result c.station_line.ensures _ v.ensures in (
+      omega (arith, next_line l.left c.station_line.result (v.read, v.after) v.ensures),
+      turn (λ n. lines n station_line) (length a.stations.now) (left_of a.left) l.station-index (map station_of (take l.station-index l.stations)) (left_of l.left) l.invariant.1 (omega arith) (station_of v.read ∷ []) (map station_of (take (l.station-index + 1) (set l.stations l.station-index v.read))) (left_of v.after) (lines_more station_line (left_of l.left) (station_of v.read) (left_of v.after) on)
+          (stored station_of l.stations l.station-index v.read (omega arith)),
     )
 
 pub returns : goal.returns
 returns c =
     let a = c.args in
-    let l = c.loop-i in
-    let e : l.i ≡ a.n = omega arith in
-    record {
-      said = rw e at (done stations a.s.now (drop a.at a.s.now) a.n a.line l.i l.p _ e (lines_none station_line) l.invariant.3);
-      numbers_long = l.invariant.1;
-      minutes_long = l.invariant.2;
-    }
+    let l = c.loop-station in
+    done (λ n. lines n station_line) (length a.stations.now) (left_of a.left) l.station-index (map station_of (take l.station-index l.stations)) (left_of l.left) l.invariant.1 (omega arith) (lines_none station_line (left_of l.left))
+    ∙ ap (λ w. reads w (left_of l.left)) (all_stored station_of l.stations l.station-index (omega arith))

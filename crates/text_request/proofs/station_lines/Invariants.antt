@@ -1,21 +1,13 @@
--- What is read so far, before what is still to read, is the whole.
-use Prim.Native.Nat.{ℕ, ◌-◌, ◌≤◌}
-use mathlib.Core.Path.{◌≡◌}
-use mathlib.Core.List.{List}
-use lib.ListN.{length, drop}
-use Rattle.lists.specs.Tab.{tab}
-use Rattle.scheme.specs.Units.{most_stations, Station}
+-- The loop of `text_request::station_lines`: what is read so far, before what is still to read, is the whole.
+use Rattle.std.proofs.Common.{◌≡◌, ◌+◌, length, map, take}
 use Rattle.scheme.specs.Text.Lines.{station_line}
-use Rattle.scheme.specs.Text.Order.{Text, lines}
-use Rattle.request.specs.Tables.{station_in}
-use Rattle.text_request.specs.Turns.{Reached}
+use Rattle.scheme.specs.Text.Order.{lines}
+use Rattle.request.specs.Tables.{station_of}
+use Rattle.text_head.specs.Left.{left_of}
+use Rattle.text_request.proofs.Turns.{Reached}
 use Rattle.text_request.proofs.station_lines.Given as goal
 
-abbrev pub stations : ℕ → Text (List Station)
-stations n = lines n station_line
-
-abbrev pub invariant-loop-i : goal.invariant-loop-i
-invariant-loop-i l = (l.i ≤ l.n) × (length l.numbers ≡ most_stations) × (length l.minutes ≡ most_stations) × Reached stations l.s (drop l.at l.s) l.n l.line l.i l.p (tab l.i (station_in l.numbers l.minutes))
-
-abbrev pub decreases-loop-i : goal.decreases-loop-i
-decreases-loop-i l = l.n - l.i
+abbrev pub invariant-loop-station : goal.invariant-loop-station
+invariant-loop-station l =
+    (l.left.line ≡ l.initial.left.line + l.station-index)
+    × Reached (λ n. lines n station_line) (length l.fn.stations) (left_of l.initial.left) l.station-index (map station_of (take l.station-index l.stations)) (left_of l.left)

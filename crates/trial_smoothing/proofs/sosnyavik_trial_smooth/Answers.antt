@@ -1,20 +1,11 @@
 -- `trial_smoothing::sosnyavik_trial_smooth` meets its contract: past both tests, the field is one that smoothing takes.
-use Rattle.std.proofs.Common.{ℕ, ◌≤◌, ◌∙◌, sym, mul-le-mul}
-use Rattle.scheme.specs.Accepted.{Shaped}
-use Rattle.scheme.specs.Most.{most_points}
+use Rattle.std.proofs.Common.{◌∙◌, sym}
 use Rattle.scheme.proofs.Accepted.{shaped}
 use Rattle.trial_smoothing.specs.Trial.{all_fair_small, no_grid, unfair, smooth}
 use Rattle.trial_smoothing.proofs.sosnyavik_trial_smooth.Goals as goal
 
-few_points : (nx ny n : ℕ) → Shaped nx ny n → n ≤ most_points
-few_points nx ny n h = rw h.whole (mul-le-mul h.few_columns h.few_rows)
-
 pub returns-then-shape_bad : goal.returns-then-shape_bad
 returns-then-shape_bad c = no_grid c.args.nx c.args.ny c.args.field.now (sym c.shape_bad.ensures ∙ c.if-shape_bad.true)
-
-pub all_fair-requires : goal.all_fair-requires
-all_fair-requires c =
-    few_points c.args.nx c.args.ny _ (shaped c.args.nx c.args.ny _ (sym c.shape_bad.ensures ∙ c.if-shape_bad.false))
 
 pub returns-then-not-all_fair : goal.returns-then-not-all_fair
 returns-then-not-all_fair c =

@@ -1,10 +1,7 @@
--- `window::settled` meets its contract: a refusal found before anything is written, or the work. Assumes nothing.
-use mathlib.Core.Path.{refl}
+-- `window::settled` meets its contract: past the tests the request is sound. Assumes nothing.
+use Rattle.std.proofs.Common.{refl, sym}
 use Rattle.scheme.proofs.Accepted.{formed_sound}
 use Rattle.window.proofs.settled.Goals as goal
 
 pub work-requires : goal.work-requires
-work-requires c =
-    let e = c.before.before.before in
-    let s = e.before.before.before in
-    (formed_sound _ s.requires.0 (e.before.of_request-refused.ensures.only e.if-refused-ne0.false), s.requires.1, refl, s.requires.2)
+work-requires c = (formed_sound _ c.requires.0 (sym c.in_ok-of_request.ensures), c.requires.1, refl, c.requires.2)

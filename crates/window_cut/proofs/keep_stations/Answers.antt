@@ -1,15 +1,19 @@
--- `window_cut::keep_stations` meets its contract: a row is put where there is room, and a turn keeps the cut of one row more.
-use Rattle.std.proofs.Common.{◌<◌, arith}
-use Rattle.scheme.specs.Units.{most_stations}
+-- `window_cut::keep_stations` meets its contract: a turn keeps the cut of one station more. Assumes nothing.
+use Rattle.std.proofs.Common.{arith, sym, ◌∙◌}
 use Rattle.request.specs.Tables.{window_in}
-use Rattle.window_cut.specs.Kept.{kept_none, kept_turn}
+use Rattle.window_cut.specs.Kept.{kept_none, kept_put, kept_passed, kept_all}
 use Rattle.window_cut.proofs.keep_stations.Goals as goal
+use Rattle.window_cut.proofs.keep_stations.Goals.{then-is_on_cut, else-is_on_cut}
 
-pub loop-k-init : goal.loop-k-init
-loop-k-init c = (omega arith, kept_none c.args.t (window_in c.args.c) c.args.numbers.now c.args.minutes.now _ _ c.requires.1 c.requires.2)
+pub loop-station-init : goal.loop-station-init
+loop-station-init c = kept_none c.args.nx c.args.ny (window_in c.args.c) c.args.stations.now c.args.kept.now
 
-pub loop-k-preserved : goal.loop-k-preserved
-loop-k-preserved c =
-    let a = c.args in
-    let room : c.loop-k.m < most_stations = omega (arith, c.requires.0.few, c.loop-k.invariant.1.no_more) in
-    (omega arith, kept_turn a.t (window_in a.c) a.numbers.now a.minutes.now c.loop-k.invariant.1 room c.counted-moved.ensures c.one_if_on_cut-m.ensures)
+pub loop-station-preserved : goal.loop-station-preserved
+loop-station-preserved c =
+    elim c.if-is_on_cut.branch [
+      | then-is_on_cut w ↦ rw (w.kept-is, w.m-is) (kept_put _ _ _ _ c.loop-station.invariant _ (omega arith) (sym c.is_on_cut.ensures ∙ w.if-is_on_cut.true) w.counted-moved.ensures)
+      | else-is_on_cut w ↦ rw (w.kept-is, w.m-is) (kept_passed _ _ _ _ c.loop-station.invariant (sym c.is_on_cut.ensures ∙ w.if-is_on_cut.false))
+    ]
+
+pub returns-clause-kept : goal.returns-clause-kept
+returns-clause-kept c = kept_all _ _ _ _ c.loop-station.invariant (omega arith) (omega (arith, c.loop-station.invariant.no_more, c.requires.1))

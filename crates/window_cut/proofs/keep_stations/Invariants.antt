@@ -1,11 +1,7 @@
--- The loop's invariant of `window_cut::keep_stations`: the first m rows are the cut of the rows passed.
-use Prim.Native.Nat.{◌-◌, ◌≤◌}
+-- The loop's invariant of `window_cut::keep_stations`: the first m rows are the cut of the stations passed.
 use Rattle.request.specs.Tables.{window_in}
 use Rattle.window_cut.specs.Kept.{Kept}
 use Rattle.window_cut.proofs.keep_stations.Given as goal
 
-abbrev pub invariant-loop-k : goal.invariant-loop-k
-invariant-loop-k l = (l.k ≤ l.t.stations) × Kept l.t (window_in l.c) l.numbers l.minutes l.kept l.times l.k l.m
-
-abbrev pub decreases-loop-k : goal.decreases-loop-k
-decreases-loop-k l = l.t.stations - l.k
+abbrev pub invariant-loop-station : goal.invariant-loop-station
+invariant-loop-station l = Kept l.nx l.ny (window_in l.c) l.stations l.kept l.station-index l.m

@@ -1,50 +1,42 @@
 -- `window_screen::by_cuts` meets its contract. The loop's invariant: the windows passed are written, one after the other. Assumes nothing.
-use Prim.Native.Nat.{ℕ, ◌+◌, ◌-◌, ◌*◌, ◌≤◌}
-use native.Mathlib.Omega.{arith}
-use native.Mathlib.Nat.{le_trans}
-use borrow.Author.Rules.{rules}
-use mathlib.Core.Path.{◌≡◌, refl, ◌∙◌}
+use Rattle.std.proofs.Common.{ℕ, ◌+◌, ◌-◌, ◌*◌, ◌≤◌, ◌≡◌, arith, ◌∙◌}
 use Rattle.scheme.specs.Refusals.{most_windows, points_of}
 use Rattle.scheme.specs.Most.{most_points}
 use Rattle.request.specs.Tables.{window_no}
-use Rattle.window_tile.specs.Turn.{all_few, turned_none, enough, in_grid, turned_more, turned_all}
+use Rattle.window_tile.specs.Turn.{turned_none, small, in_grid, turned_more, turned_all}
 use Rattle.window_screen.proofs.by_cuts.Goals as goal
-use Rattle.window_screen.proofs.by_cuts.Goals.{After-points_of}
+use Rattle.window_screen.proofs.by_cuts.Goals.{After-points}
 
--- in a turn: the window, and the part of the results that is its own
-module _ (c : After-points_of) where
+-- in a turn: the window's points, and the places that they end at
+module _ (c : After-points) where
   abbrev long : ℕ
-  long = c.loop-k.at + c.points_of.result - c.loop-k.at
+  long = c.loop-w.at + c.points.result - c.loop-w.at
 
-  points : long ≡ points_of (window_no c.args.screen c.loop-k.k)
-  points = let e : long ≡ c.points_of.result = omega arith in e ∙ c.points_of.ensures
+  points : long ≡ points_of (window_no c.args.windows.now c.loop-w.w-index)
+  points = let e : long ≡ c.points.result = omega arith in e ∙ c.points.ensures
 
-  small : c.loop-k.at + long ≤ most_windows * most_points
-  small = le_trans (enough _ _ c.args.screen c.requires.2 c.loop-k.invariant.2 c.loop-k-test.true points) (all_few c.requires.0.shape c.args.screen c.requires.1)
+  few : c.loop-w.at + long ≤ most_windows * most_points
+  few = small _ _ c.args.windows.now c.requires.2 c.loop-w.invariant c.loop-w-test.true points c.requires.0.shape c.requires.1
 
-pub loop-k-init : goal.loop-k-init
-loop-k-init c = (omega arith, refl, turned_none _ _ _ _ _)
+pub loop-w-init : goal.loop-w-init
+loop-w-init c = turned_none _ _ _ _ _
 
 pub overflow_add-end : goal.overflow_add-end
-overflow_add-end c =
-    let e : c.loop-k.at + c.points_of.result - c.loop-k.at ≡ c.points_of.result = omega arith in
-    let below = le_trans (enough _ _ c.args.screen c.requires.2 c.loop-k.invariant.2 c.loop-k-test.true (e ∙ c.points_of.ensures)) (all_few c.requires.0.shape c.args.screen c.requires.1) in
-    record { fits = omega (arith, below) }
+overflow_add-end c = record { fits = omega (arith, few (goal.at.overflow_add-end c).After-points) }
 
 pub offset_bounds-grid-at : goal.offset_bounds-grid-at
-offset_bounds-grid-at c = record { fits = omega (arith, small (goal.at.offset_bounds-grid-at c).After-points_of) }
+offset_bounds-grid-at c = record { fits = omega (arith, few (goal.at.offset_bounds-grid-at c).After-points) }
 
-pub slice_bounds-work-end-in-loop-k : goal.slice_bounds-work-end-in-loop-k
-slice_bounds-work-end-in-loop-k c =
-    let b = (goal.at.slice_bounds-work-end-in-loop-k c).After-points_of in
-    let e : c.loop-k.at + c.points_of.result ≡ c.loop-k.at + long b = omega arith in
-    rw e (in_grid _ _ c.args.screen c.requires.2 c.loop-k.invariant.2 c.loop-k-test.true (points b))
+pub slice_bounds-work-end-in-loop-w : goal.slice_bounds-work-end-in-loop-w
+slice_bounds-work-end-in-loop-w c =
+    let b = (goal.at.slice_bounds-work-end-in-loop-w c).After-points in
+    let e : c.loop-w.at + c.points.result ≡ c.loop-w.at + long b = omega arith in
+    rw e (in_grid _ _ c.args.windows.now c.requires.2 c.loop-w.invariant c.loop-w-test.true (points b))
 
-pub loop-k-preserved : goal.loop-k-preserved
-loop-k-preserved c =
-    let b = (goal.at.loop-k-preserved c).After-points_of in
-    let l = c.loop-k in
-    (omega arith, search (rules, l.invariant.1), turned_more _ _ c.args.screen c.requires.2 l.invariant.2 c.loop-k-test.true (points b) (omega arith) c.work.ensures)
+pub loop-w-preserved : goal.loop-w-preserved
+loop-w-preserved c =
+    let b = (goal.at.loop-w-preserved c).After-points in
+    turned_more _ _ c.args.windows.now c.requires.2 c.loop-w.invariant c.loop-w-test.true (points b) (omega arith) c.work.ensures
 
 pub returns : goal.returns
-returns c = turned_all _ _ c.args.screen c.requires.2 c.loop-k.invariant.2 (omega arith)
+returns c = turned_all _ _ c.args.windows.now c.requires.2 c.loop-w.invariant (omega arith)

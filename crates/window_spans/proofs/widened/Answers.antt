@@ -4,7 +4,4 @@ use Rattle.window_spans.proofs.widened.Goals as goal
 
 pub returns : goal.returns
 unfolding widened
-returns c =
-    let top = c.before.before in
-    let right = top.before in
-    rw (right.before.before.less.ensures, right.lower.ensures, top.less-2.ensures, c.lower-2.ensures)
+returns c = rw (c.saturating_sub.ensures, c.min.ensures, c.saturating_sub-2.ensures, c.min-2.ensures)

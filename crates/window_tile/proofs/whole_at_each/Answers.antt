@@ -1,19 +1,13 @@
 -- `window_tile::whole_at_each` meets its contract: the analysis fills prefixes of the local arrays, and the windows' parts are copied from them.
 -- Assumes nothing.
-use Prim.Native.Nat.{ℕ, ◌*◌, ◌≤◌}
-use native.Mathlib.Omega.{arith}
-use native.Mathlib.Nat.{mul-le-mul}
-use mathlib.Core.Path.{◌≡◌, sym, ◌∙◌}
-use mathlib.Core.List.{List}
-use lib.ListN.{length, take, replicate, length-replicate}
-use lib.IntN.{ℤ, pos}
-use lib.Seq.{length-take-le}
+use Rattle.std.proofs.Common.{ℕ, ◌*◌, ◌≤◌, ◌≡◌, List, ℤ, pos, length, take, replicate, arith, mul-le-mul, sym, ◌∙◌, length-take-le}
+use lib.ListN.{length-replicate}
 use Rattle.lists.specs.Tab.{length-tab}
 use Rattle.scheme.specs.Units.{most_stations, Request}
 use Rattle.scheme.specs.Scan.{analysis}
 use Rattle.scheme.specs.Promises.{slices}
 use Rattle.scheme.specs.Most.{most_points}
-use Rattle.request.specs.Tables.{station_in, request_in, window_no, turn_same}
+use Rattle.request.specs.Tables.{station_in, request_of, window_no, turn_same}
 use Rattle.window_tile.specs.Query.{prefix_back, values_long, bits_long, whole_part}
 use Rattle.window_tile.proofs.whole_at_each.Goals as goal
 use Rattle.window_tile.proofs.whole_at_each.Goals.{Start}
@@ -31,19 +25,19 @@ verdict₀ = replicate most_stations 0
 -- the request, and the prefixes that its analysis is lent
 module _ (s : Start) where
   abbrev q : Request
-  q = let a = s.args in request_in a.t a.guess.now a.numbers.now a.minutes.now
+  q = request_of s.args.request.now
 
   abbrev points : ℕ
   points = q.nx * q.ny
 
   abbrev rows : ℕ
-  rows = s.args.t.stations
+  rows = length s.args.request.now.stations.now
 
   few : points ≤ most_points
   few = mul-le-mul s.requires.0.shape.few_columns s.requires.0.shape.few_rows
 
   rows_long : length q.stations ≡ rows
-  rows_long = length-tab rows (station_in s.args.numbers.now s.args.minutes.now)
+  rows_long = length-tab rows (station_in s.args.request.now.stations.now)
 
   few_rows : rows ≤ most_stations
   few_rows = omega (arith, rows_long, s.requires.0.few_stations)
@@ -75,4 +69,4 @@ returns c =
     let long = values_long (q s) done in
     let long' = bits_long (q s) done in
     let e = rw (prefix_back (points s) c.run.new.grid values₀ long, prefix_back (points s) c.run.new.support bits₀ long') at c.tiles_of.ensures in
-    e ∙ turn_same _ _ c.args.screen (λ m h. whole_part (q s) (window_no c.args.screen m) (c.requires.1.on m h) done)
+    e ∙ turn_same _ _ c.args.windows.now (λ m h. whole_part (q s) (window_no c.args.windows.now m) (c.requires.1.on m h) done)

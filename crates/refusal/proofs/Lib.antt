@@ -1,0 +1,2 @@
+-- Where a search that found something ended.
+pub mod Places

@@ -1,0 +1,2 @@
+-- The numbers of the verdicts. Proved.
+pub mod Numbers
