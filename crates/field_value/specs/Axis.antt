@@ -17,13 +17,14 @@ at_most a b = is_some_and is_le (Some (int_cmp a b))
 at_most_is : (a b : ℤ) → at_most a b ≡ le_z a b
 at_most_is a b = grind (arith, ints)
 
-pub near_is : (beyond n : ℕ) (x low high : ℤ) → low ≡ pos 0 -ℤ pos beyond → high ≡ pos (step * (n - 1)) +ℤ pos beyond → at_most low x && at_most x high ≡ near_axis beyond n x
+pub near_is : (beyond n : ℕ) (x : ℤ) → le_z (pos 0 -ℤ pos beyond) x && le_z x (pos (step * (n - 1)) +ℤ pos beyond) ≡ near_axis beyond n x
 unfolding near_axis
-near_is beyond n x low high l h = rw (at_most_is low x, at_most_is x high, l, h) (between x)
-  where
-    between : (x : ℤ) → le_z (pos 0 -ℤ pos beyond) x && le_z x (pos (step * (n - 1)) +ℤ pos beyond) ≡ near_axis beyond n x
-    between (pos x) = grind (arith, ints)
-    between (negsuc x) = grind (arith, ints)
+near_is beyond n (pos x) = grind (arith, ints)
+near_is beyond n (negsuc x) = grind (arith, ints)
+
+-- the same, as std's range test asks it
+pub is_between : (beyond n : ℕ) (x low high : ℤ) → low ≡ pos 0 -ℤ pos beyond → high ≡ pos (step * (n - 1)) +ℤ pos beyond → at_most low x && at_most x high ≡ near_axis beyond n x
+is_between beyond n x low high l h = rw (at_most_is low x, at_most_is x high, l, h) (near_is beyond n x)
 
 -- ---- its place
 

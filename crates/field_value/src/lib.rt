@@ -38,7 +38,7 @@ pub fn near_grid(beyond: u32, nx: usize, ny: usize, x: i32, y: i32) -> bool
     requires { (beyond ≤ most_beyond) × (1 ≤ nx) × (nx ≤ most_side) × (1 ≤ ny) × (ny ≤ most_side) }
     ensures { result ≡ near_grid beyond nx ny x y }
 {
-    near_axis(beyond, nx, x) && near_axis(beyond, ny, y)
+    near_axis(beyond, nx, x) & near_axis(beyond, ny, y)
 }
 
 // The place of a position on an axis of n points: itself, if it is on the axis, and else the nearer end.
@@ -47,6 +47,18 @@ pub fn place(n: usize, x: i32) -> u32
     ensures { result ≡ place n x }
 {
     x.clamp(0, last(n)) as u32
+}
+
+// ---- the values of a field, or a row of them, put into another that is as long
+
+// What std's copy_from_slice does, by a loop: the compiler makes memcpy of it, or vectors, and of that memmove, a name that the archive would then ask for.
+pub fn copy<T: Copy>(to: &mut [T], from: &[T])
+    requires { length to.old ≡ length from.now }
+    ensures { to.new ≡ from.now }
+{
+    for (k, value) in to.iter_mut().enumerate() {
+        *value = from[k];
+    }
 }
 
 // ---- the value there. A field is a slice, with the nx and ny beside it that its owner has for much else; what the three are to one another is the

@@ -62,7 +62,7 @@ fn scan_bad(t: &Terms, m: usize) -> bool
     ensures { result ≡ bad_scan (plan_in t.now) m }
 {
     let entry = t.entries[m];
-    !(1..=1024).contains(&entry.radius) || rises(t, m) || !(0..=2000000).contains(&entry.limit)
+    !(1..=1024).contains(&entry.radius) | rises(t, m) | !(0..=2000000).contains(&entry.limit)
 }
 
 // The buddy check, if it is on: B or L out of range.

@@ -1,6 +1,8 @@
 -- A correction pass over a stored grid, row after row, under the plan's rule.
 use Rattle.std.specs.Prelude.{ℕ, ◌+◌, ◌-◌, ◌*◌, ◌/◌, ◌%◌, ◌≤◌, ◌<◌, ◌≡◌, refl, ◌⊎◌, ◌&&◌, List, ltb, length, get_or, set, ℤ, pos, nat_abs, ◌+ℤ◌}
 use native.Mathlib.Omega.{arith}
+use native.Mathlib.Nat.{add-zero}
+use lib.IntN.{+ℤ_idr}
 use Rattle.std.proofs.Common.{mul-le-mul, mul-le-mul_left, mul-le-mul_right, suc-mul, mul_comm, sym, ap, ◌∙◌, inl, inr}
 use Rattle.std.proofs.Math.Path.{fun_ext}
 use Rattle.std.proofs.Math.Bool.{cond}
@@ -58,6 +60,16 @@ module _ (rule w inside over : ℕ) (by : Divides rule w inside over) where
 pub other_rule : (rule : ℕ) → (rule ≡ listing_rule → ⊥) → (z : List ℤ) (give : ℕ → ℕ → Sums) (n base : ℕ) → row_z rule z give n base ≡ row_z equation_rule z give n base
 unfolding row_z correction divisor
 other_rule rule other z give n base = fun_ext (λ k. rw (ne_eqb rule listing_rule other))
+
+-- a row that no station is near stays as it is
+module _ (give : ℕ → ℕ → Sums) {n : ℕ} (none : n ≡ 0) (base nx : ℕ) where
+  pub none_z : (rule : ℕ) (z : List ℤ) → Filled (pos 0) (row_z rule z give n base) base (base + nx) z z
+  unfolding row_z correction up_to
+  none_z rule z = record { same_length = refl; low = λ k h. refl; new = λ k h m. rw none (sym (+ℤ_idr (get_or z k (pos 0)))); rest = λ k h. refl }
+
+  pub none_s : (sup : List ℕ) (bit : ℕ) → Filled 0 (row_s sup give n bit base) base (base + nx) sup sup
+  unfolding row_s up_to
+  none_s sup bit = record { same_length = refl; low = λ k h. refl; new = λ k h m. rw none (sym (add-zero (get_or sup k 0))); rest = λ k h. refl }
 
 -- a point whose value and support can be set
 pub record PointReady (z : List ℤ) (sup : List ℕ) (p bit : ℕ) : Type 0 where

@@ -30,7 +30,7 @@ pub struct Sums {
 }
 
 // The sums with one more station, of that weight and difference d.
-fn added(s: Sums, weight: u32, d: i64) -> Sums
+pub fn added(s: Sums, weight: u32, d: i64) -> Sums
     requires { (s.w ≤ most_weights) × (nat_abs s.wd ≤ most_pulls) × (weight ≤ scale) × (nat_abs d ≤ most_limit) }
     ensures { (result.w ≡ s.w + weight) × (result.wd ≡ s.wd +ℤ pos weight *ℤ d) }
 {
@@ -106,7 +106,7 @@ fn with_bit(b: u8, w: u64, bit: u8) -> u8
 }
 
 // The squared distance of a station to grid row j; the squared radius for one that is not accepted. The verdicts are the caller's bytes.
-fn row_gap(verdict: u8, station: &Station, j: usize, r2: u32) -> u32
+pub fn row_gap(verdict: u8, station: &Station, j: usize, r2: u32) -> u32
     requires { (j < most_side) × (verdict ≡ 0 → nat_abs station.now.y ≤ most_along) }
     ensures { result ≡ row_gap verdict station.now.y j r2 }
 {
@@ -171,7 +171,7 @@ fn divisor<const RULE: u32>(w: u64, near: &[Near], i: usize, r2: u32) -> u64
 }
 
 // A point's new value and support, at its place in the grid, the sum of weight·D divided by w.
-fn set_point(z: &mut [i32], support: &mut [u8], p: usize, w: u64, wd: i64, bit: u8)
+pub fn set_point(z: &mut [i32], support: &mut [u8], p: usize, w: u64, wd: i64, bit: u8)
     requires { PointReady z.old support.old p bit × (w ≤ most_weights) × (nat_abs wd ≤ most_limit * w) }
     ensures { (z.new ≡ set z.old p (get_or z.old p (pos 0) +ℤ moved_by w wd))
         × (support.new ≡ set support.old p (get_or support.old p 0 + cond (ltb 0 w) bit 0)) }
@@ -201,7 +201,7 @@ fn correct_row<const MODE: u32, const RULE: u32>(
     }
 }
 
-// The same by a rule, which is a number of the call's: one that is not 2 is 1.
+// The same by a rule, which is a number of the call's: one that is not 2 is 1. A row that no station is near stays as it is, and its points are not gone over.
 fn correct_row_by<const MODE: u32>(
     z: &mut [i32],
     support: &mut [u8],
@@ -216,6 +216,9 @@ fn correct_row_by<const MODE: u32>(
     ensures { Filled (pos 0) (row_z rule z.old (near_share near.now r2) (length near.now) base) base (base + nx) z.old z.new
         × Filled 0 (row_s support.old (near_share near.now r2) (length near.now) bit base) base (base + nx) support.old support.new }
 {
+    if near.is_empty() {
+        return;
+    }
     if rule != request::LISTINGS {
         correct_row::<MODE, { request::EQUATIONS }>(z, support, base, nx, near, r2, bit);
         return;

@@ -35,7 +35,7 @@ pub fn begin(request: &Request, grid: &mut [i32], support: &mut [u8], verdict: &
     requires { Sound (request_of request.now) × Fits (request_of request.now) (length grid.old) (length support.old) (length verdict.old) }
     ensures { Reached request.now.terms request.now.guess.now request.now.stations.now 0 grid.new support.new verdict.new }
 {
-    grid.copy_from_slice(request.guess);
+    field_value::copy(grid, request.guess);
     support.fill(0);
     first_verdicts(verdict, &request.terms, request.stations);
 }

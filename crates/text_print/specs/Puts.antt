@@ -54,9 +54,12 @@ module _ {before : Writer} {text : List ℕ} {now : Writer} {rest : List ℕ} (s
   room_left h = room_then before s.so_far rest now (rw (← s.whole) h) s.puts
 
   module _ (t more : List ℕ) (e : rest ≡ t ++ more) where
-    -- room for what comes next
+    -- room for what comes next, and for all after it
+    pub room_both : HasRoom before text → now.at + length t + length more ≤ length now.out.now
+    room_both h = omega (arith, ap length e, length-append t more, room_left h)
+
     pub room_next : HasRoom before text → HasRoom now t
-    room_next h = room_first now t more (rw (← e) (room_left h))
+    room_next h = omega (arith, room_both h)
 
     pub put_next : {after : Writer} → Puts now t after → Left before text after more
     put_next w = record {

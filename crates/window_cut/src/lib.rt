@@ -73,6 +73,6 @@ pub fn part_of<T: Copy>(to: &mut [T], from: &[T], across: usize, part: Part)
     for j in 0..part.high {
         let at = (part.row + j) * across + part.column;
         let place = j * part.wide;
-        to[place..place + part.wide].copy_from_slice(&from[at..at + part.wide]);
+        field_value::copy(&mut to[place..place + part.wide], &from[at..at + part.wide]);
     }
 }

@@ -65,7 +65,7 @@ pub fn is_on_cut(nx: usize, ny: usize, c: Window, station: Station) -> bool
     requires { Shaped nx ny (nx * ny) × OnGrid most_side most_side (window_in c) }
     ensures { result ≡ on_window nx ny (window_in c) (station_of station) }
 {
-    on_span(nx, c.left, c.right, station.x) && on_span(ny, c.top, c.bottom, station.y)
+    on_span(nx, c.left, c.right, station.x) & on_span(ny, c.top, c.bottom, station.y)
 }
 
 // A position counted from the cut's lower corner, which is at `first` along this axis.

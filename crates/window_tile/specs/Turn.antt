@@ -20,7 +20,7 @@ abbrev pub points_before : List Ends → ℕ → ℕ
 points_before ws k = sum_to k (λ m. points_of (window_no ws m))
 
 -- of windows on a grid they are few, all together
-all_few : {nx ny len : ℕ} → Shaped nx ny len → (ws : List Ends) → OnScreen nx ny ws → points_of_all (windows_in ws) ≤ most_windows * most_points
+pub all_few : {nx ny len : ℕ} → Shaped nx ny len → (ws : List Ends) → OnScreen nx ny ws → points_of_all (windows_in ws) ≤ most_windows * most_points
 all_few shape ws on =
     rw (sum_tab points_of (length ws) (window_no ws))
     (le_trans (sum_most most_points (length ws) _ (λ k h. few_points (on.on k h) shape.few_columns shape.few_rows)) (mul-le-mul_right most_points on.few))
@@ -76,7 +76,7 @@ module _ (has : Window → Tile) (long : (w : Window) → FitsWindow w (length (
 
     module _ {k at m : ℕ} {grid : List ℤ} {support : List ℕ} (t : Turned g u k at grid support) (h : k < (length ws)) (points : m ≡ points_of (window_no ws k)) where
       -- its points are the m from `at` on
-      enough : at + m ≤ points_of_all (windows_in ws)
+      pub enough : at + m ≤ points_of_all (windows_in ws)
       enough = omega (arith, t.at_is, points, room k h)
 
       -- which are few

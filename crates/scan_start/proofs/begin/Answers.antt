@@ -16,4 +16,4 @@ pub returns : goal.returns
 returns c =
     let r = c.args.request.now in
     let none : c.fill.new.self ≡ replicate (length c.args.support.now) 0 = search rules in
-    begun r.terms r.guess.now r.stations.now c.requires.0 _ c.first_verdicts.ensures c.copy_from_slice.ensures.after c.requires.1.support_long none
+    begun r.terms r.guess.now r.stations.now c.requires.0 _ c.first_verdicts.ensures c.copy.ensures c.requires.1.support_long none

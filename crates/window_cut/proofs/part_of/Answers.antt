@@ -10,7 +10,7 @@ pub loop-j-preserved : goal.loop-j-preserved
 loop-j-preserved g c =
     let a = c.args in
     let (to, from) = row_ready a.across a.part a.from.now c.requires c.loop-j-test.true in
-    copied_next a.across a.part a.from.now c.loop-j.j c.loop-j.to _ _ (omega arith) (omega arith) (omega (arith, to)) from c.copy_from_slice.ensures.after c.loop-j.invariant
+    copied_next a.across a.part a.from.now c.loop-j.j c.loop-j.to _ _ (omega arith) (omega arith) (omega (arith, to)) from c.copy.ensures c.loop-j.invariant
 
 pub returns : goal.returns
 returns g c =
