@@ -65,7 +65,7 @@ pub fn lengths_of(call: &Call) -> Lengths
 pub fn shape_bad(nx: usize, ny: usize, len: usize) -> bool
     ensures { result ≡ bad_shape nx ny len }
 {
-    !(2..=64).contains(&nx) || !(2..=64).contains(&ny) || len != nx * ny
+    !(2..=64).contains(&nx) | !(2..=64).contains(&ny) || len != nx * ny
 }
 
 // 2: a window with left > right, top > bottom, or past the grid. Its ends are any numbers, so none is moved before it is compared.

@@ -1,5 +1,6 @@
 -- The stations near a grid row that are inside the radius at one of its points.
-use Rattle.std.specs.Prelude.{ℕ, ◌+◌, ◌-◌, ◌*◌, ◌≤◌, ◌≡◌, refl, Bool, cond, List, [], ◌∷◌, length, ltb, get_or, take, drop, sum_by, count_by, pos, nat_abs, ◌-ℤ◌}
+use Rattle.std.specs.Prelude.{ℕ, ◌+◌, ◌-◌, ◌*◌, ◌≤◌, ◌≡◌, refl, Bool, true, false, cond, List, [], ◌∷◌, length, ltb, get_or, take, drop, sum_by, count_by, pos, nat_abs, ◌-ℤ◌}
+use mir.Val.{bool_byte}
 use Rattle.std.proofs.Common.{arith, sym, ap, ◌∙◌}
 use Rattle.std.proofs.lemmas.List.Sums.{sum_by-cons}
 use Rattle.std.proofs.Math.Seq.{take-length}
@@ -25,6 +26,11 @@ pub record Placed (s : Near) : Type 0 where
 -- 1 for an entry that is inside at column i, and else 0
 unfoldable pub inside_in : (near : List Near) (r2 i t : ℕ) → ℕ
 inside_in near r2 i t = cond (ltb (distance (get_or near t nobody) i) r2) 1 0
+
+-- a test, as code counts it: one more where it holds
+pub counted : (b c : Bool) → b ≡ c → bool_byte b ≡ cond {A = ℕ} c 1 0
+counted true c e = rw (← e) refl
+counted false c e = rw (← e) refl
 
 -- a sum over a list is one over its index
 sum_at : (f : Near → ℕ) (xs : List Near) → sum_by f xs ≡ up_to 0 ◌+◌ (length xs) (λ t. f (get_or xs t nobody))

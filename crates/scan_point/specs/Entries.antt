@@ -21,7 +21,7 @@ use Rattle.scan_weight.specs.Along.{weight_by, beyond, calm, weight_by_most, by_
 use Rattle.scan_along.specs.Streak.{streak_at, still, q_at, Streaked, streaked, streaked_still}
 use Rattle.scan_lone.specs.declared.Near.{Near}
 use Rattle.scan_lone.specs.Inside.{nobody, distance, inside_in, Placed}
-use Rattle.scan_point.specs.Near.{Stations, x_at, y_at, wind_at, verdict_at, d_at, share_at, Slight, weighed_slight, Summed, summed_next, summed_small, row_gap, Ready, Gathered, near_is_accepted, near_gathered, accepted_shares}
+use Rattle.scan_point.specs.Near.{Stations, x_at, y_at, wind_at, verdict_at, d_at, share_at, Slight, weighed_slight, Summed, summed_next, summed_small, row_gap, Ready, Gathered, near_is_accepted, near_step, accepted_shares}
 
 -- what a station gives to the point in column i, and so the entry at t. In mode 0 its wind is a calm one, by which the weight is the round one
 abbrev pub share_of : Near → (r2 i : ℕ) → Sums
@@ -111,99 +111,105 @@ module _ {mode : ℕ} {near rest : List Near} (r2 i : ℕ) (few : length near �
 abbrev pub entry_at : (mode : ℕ) → Row → (gap : ℕ) → ℤ → (j : ℕ) → Near
 entry_at mode s gap d j = record { x = s.x; gap = gap; d = d; streak = cond (eqb mode wind_mode) (streak_at s j) still }
 
--- the next entry, of row k, which is near
-module _ (all : Stations) (r2 j : ℕ) (bounded : r2 ≤ most_square) (ok : Ready all) (known : all.mode ≤ wind_mode) (room : List Near)
-    (long : length room ≡ most_stations) (n k : ℕ) (turn : k < all.count) (few : n ≤ k) (close : row_gap (verdict_at all k) (y_at all k) j r2 < r2) where
+-- where row k is near
+module _ (all : Stations) (r2 j k : ℕ) where
   abbrev gap : ℕ
   gap = row_gap (verdict_at all k) (y_at all k) j r2
 
-  abbrev row : Row
-  row = get_or all.rows k no_row
-
   abbrev entry : Near
-  entry = entry_at all.mode row gap (d_at all k) j
+  entry = entry_at all.mode (get_or all.rows k no_row) gap (d_at all k) j
 
+  module _ (bounded : r2 ≤ most_square) (ok : Ready all) (known : all.mode ≤ wind_mode) (turn : k < all.count) (close : gap < r2) where
+    accepted : verdict_at all k ≡ 0
+    accepted = (near_is_accepted (verdict_at all k) (y_at all k) j r2 close).0
+
+    gap_is : gap ≡ square (y_at all k -ℤ pos (step * j))
+    gap_is = (near_is_accepted (verdict_at all k) (y_at all k) j r2 close).1
+
+    sized_along : all.mode ≡ wind_mode → Streaked entry.streak
+    sized_along e =
+        rw (eq-eqb all.mode wind_mode e)
+        (streaked _ (y_at all k -ℤ pos (step * j)) (calmed_fair (wind_at all k) (ok.inside k turn accepted).wind_fair) (omega (arith, gap_is, close, bounded)))
+
+    mode_is : (all.mode ≡ round_mode) ⊎ (all.mode ≡ wind_mode)
+    mode_is = go (lt_or_le all.mode wind_mode)
+      where
+        go : (all.mode < wind_mode) ⊎ (wind_mode ≤ all.mode) → (all.mode ≡ round_mode) ⊎ (all.mode ≡ wind_mode)
+        go (inl h) = inl (omega arith)
+        go (inr h) = inr (omega (arith, known))
+
+    entry_fine : Sized all.mode entry
+    entry_fine = go mode_is
+      where
+        go : (all.mode ≡ round_mode) ⊎ (all.mode ≡ wind_mode) → Sized all.mode entry
+        go (inl e) =
+            record {
+              placed = record { x_small = (ok.inside k turn accepted).x_small; y_small = omega arith };
+              d_small = (ok.inside k turn accepted).d_small;
+              streak = rw (ne_eqb all.mode wind_mode (λ (f : all.mode ≡ wind_mode). omega arith)) streaked_still;
+              round = λ f. rw (ne_eqb all.mode wind_mode (λ (f : all.mode ≡ wind_mode). omega arith)) refl;
+            }
+        go (inr e) =
+            record {
+              placed = record { x_small = (ok.inside k turn accepted).x_small; y_small = omega arith };
+              d_small = (ok.inside k turn accepted).d_small;
+              streak = sized_along e;
+              round = λ f. absurd (f e);
+            }
+
+    -- its weight at dx is that of its mode
+    weight_is : (dx : ℤ) → weight_by r2 (squares dx (y_at all k -ℤ pos (step * j))) entry.streak.strength (q_at entry.streak dx) ≡ weight_at all.mode r2 (wind_at all k) dx (y_at all k -ℤ pos (step * j))
+    weight_is dx = go mode_is
+      where
+        dy : ℤ
+        dy = y_at all k -ℤ pos (step * j)
+
+        go : (all.mode ≡ round_mode) ⊎ (all.mode ≡ wind_mode) → weight_by r2 (squares dx dy) entry.streak.strength (q_at entry.streak dx) ≡ weight_at all.mode r2 (wind_at all k) dx dy
+        go (inl e) =
+            rw (ne_eqb all.mode wind_mode (λ (f : all.mode ≡ wind_mode). omega arith))
+            (by_calm r2 (squares dx dy) 0 _ refl ∙ sym (ap (λ (m : ℕ). weight_at m r2 (wind_at all k) dx dy) e ∙ round_if_still round_mode r2 (wind_at all k) dx dy (still_in_mode_0 (wind_at all k) dx dy)))
+        go (inr e) =
+            rw (eq-eqb all.mode wind_mode e) (sym (ap (λ (m : ℕ). weight_at m r2 (wind_at all k) dx dy) e ∙ by_wind r2 (wind_at all k) dx dy))
+
+    entry_gives : (i : ℕ) → share_of entry r2 i ≡ share_at all r2 i j k
+    entry_gives i =
+        let dx : ℤ = x_at all k -ℤ pos (step * i) in
+        let dy : ℤ = y_at all k -ℤ pos (step * j) in
+        rw gap_is
+        (ap (λ (w : ℕ). weighed (inside r2 dx dy) w (d_at all k)) (weight_is dx)
+        ∙ sym (accepted_shares all r2 i j k accepted ∙ gift_weighed all.mode r2 (wind_at all k) (d_at all k) dx dy))
+
+-- the turn of row k, in which s is stored at n: the next entry, where the row is near
+module _ (all : Stations) (r2 j k : ℕ) (bounded : r2 ≤ most_square) (ok : Ready all) (known : all.mode ≤ wind_mode) (turn : k < all.count) (room : List Near)
+    (long : length room ≡ most_stations) (n : ℕ) (few : n ≤ k) (s : Near) (is : gap all r2 j k < r2 → s ≡ entry all r2 j k) where
   abbrev room' : List Near
-  room' = set room n entry
-
-  accepted : verdict_at all k ≡ 0
-  accepted = (near_is_accepted (verdict_at all k) (y_at all k) j r2 close).0
-
-  gap_is : gap ≡ square (y_at all k -ℤ pos (step * j))
-  gap_is = (near_is_accepted (verdict_at all k) (y_at all k) j r2 close).1
+  room' = set room n s
 
   -- the entries gathered before
   other : (t : ℕ) → t < n → get_or room' t nobody ≡ get_or room t nobody
-  other t h = get_or-set_other room n t entry nobody (λ (e : t ≡ n). omega arith)
+  other t h = get_or-set_other room n t s nobody (λ (e : t ≡ n). omega arith)
 
   kept_fine : (t : ℕ) → t < n → Sized all.mode (get_or room t nobody) → Sized all.mode (get_or room' t nobody)
-  kept_fine t h s = rw (other t h) s
+  kept_fine t h z = rw (other t h) z
 
   kept : (i t : ℕ) → t < n → near_share room' r2 i t ≡ near_share room r2 i t
   unfolding near_share
   kept i t h = rw (other t h) refl
 
   -- and this one
-  this : get_or room' n nobody ≡ entry
-  this = get_or-set_same room n entry nobody (omega (arith, long, few, turn, ok.few))
+  this : gap all r2 j k < r2 → get_or room' n nobody ≡ entry all r2 j k
+  this close = get_or-set_same room n s nobody (omega (arith, long, few, turn, ok.few)) ∙ is close
 
-  sized_along : all.mode ≡ wind_mode → Streaked entry.streak
-  sized_along e =
-      rw (eq-eqb all.mode wind_mode e)
-      (streaked _ (y_at all k -ℤ pos (step * j)) (calmed_fair (wind_at all k) (ok.inside k turn accepted).wind_fair) (omega (arith, gap_is, close, bounded)))
+  new_fine : gap all r2 j k < r2 → Sized all.mode (get_or room' n nobody)
+  new_fine close = rw (this close) (entry_fine all r2 j k bounded ok known turn close)
 
-  mode_is : (all.mode ≡ round_mode) ⊎ (all.mode ≡ wind_mode)
-  mode_is = go (lt_or_le all.mode wind_mode)
-    where
-      go : (all.mode < wind_mode) ⊎ (wind_mode ≤ all.mode) → (all.mode ≡ round_mode) ⊎ (all.mode ≡ wind_mode)
-      go (inl h) = inl (omega arith)
-      go (inr h) = inr (omega (arith, known))
-
-  new_fine : Sized all.mode (get_or room' n nobody)
-  new_fine = rw this (go mode_is)
-    where
-      go : (all.mode ≡ round_mode) ⊎ (all.mode ≡ wind_mode) → Sized all.mode entry
-      go (inl e) =
-          record {
-            placed = record { x_small = (ok.inside k turn accepted).x_small; y_small = omega arith };
-            d_small = (ok.inside k turn accepted).d_small;
-            streak = rw (ne_eqb all.mode wind_mode (λ (f : all.mode ≡ wind_mode). omega arith)) streaked_still;
-            round = λ f. rw (ne_eqb all.mode wind_mode (λ (f : all.mode ≡ wind_mode). omega arith)) refl;
-          }
-      go (inr e) =
-          record {
-            placed = record { x_small = (ok.inside k turn accepted).x_small; y_small = omega arith };
-            d_small = (ok.inside k turn accepted).d_small;
-            streak = sized_along e;
-            round = λ f. absurd (f e);
-          }
-
-  -- its weight at dx is that of its mode
-  weight_is : (dx : ℤ) → weight_by r2 (squares dx (y_at all k -ℤ pos (step * j))) entry.streak.strength (q_at entry.streak dx) ≡ weight_at all.mode r2 (wind_at all k) dx (y_at all k -ℤ pos (step * j))
-  weight_is dx = go mode_is
-    where
-      dy : ℤ
-      dy = y_at all k -ℤ pos (step * j)
-
-      go : (all.mode ≡ round_mode) ⊎ (all.mode ≡ wind_mode) → weight_by r2 (squares dx dy) entry.streak.strength (q_at entry.streak dx) ≡ weight_at all.mode r2 (wind_at all k) dx dy
-      go (inl e) =
-          rw (ne_eqb all.mode wind_mode (λ (f : all.mode ≡ wind_mode). omega arith))
-          (by_calm r2 (squares dx dy) 0 _ refl ∙ sym (ap (λ (m : ℕ). weight_at m r2 (wind_at all k) dx dy) e ∙ round_if_still round_mode r2 (wind_at all k) dx dy (still_in_mode_0 (wind_at all k) dx dy)))
-      go (inr e) =
-          rw (eq-eqb all.mode wind_mode e) (sym (ap (λ (m : ℕ). weight_at m r2 (wind_at all k) dx dy) e ∙ by_wind r2 (wind_at all k) dx dy))
-
-  new : (i : ℕ) → near_share room' r2 i n ≡ share_at all r2 i j k
+  new : gap all r2 j k < r2 → (i : ℕ) → near_share room' r2 i n ≡ share_at all r2 i j k
   unfolding near_share
-  new i =
-      let dx : ℤ = x_at all k -ℤ pos (step * i) in
-      let dy : ℤ = y_at all k -ℤ pos (step * j) in
-      rw (this, gap_is)
-      (ap (λ (w : ℕ). weighed (inside r2 dx dy) w (d_at all k)) (weight_is dx)
-      ∙ sym (accepted_shares all r2 i j k accepted ∙ gift_weighed all.mode r2 (wind_at all k) (d_at all k) dx dy))
+  new close i = rw (this close) (entry_gives all r2 j k bounded ok known turn close i)
 
   pub next_gathered : Gathered (near_share room r2) (λ t. Sized all.mode (get_or room t nobody)) n all r2 j k
-      → Gathered (near_share room' r2) (λ t. Sized all.mode (get_or room' t nobody)) (n + 1) all r2 j (k + 1)
-  next_gathered near = near_gathered near kept kept_fine new new_fine
+      → Gathered (near_share room' r2) (λ t. Sized all.mode (get_or room' t nobody)) (n + cond (ltb (gap all r2 j k) r2) 1 0) all r2 j (k + 1)
+  next_gathered near = near_step near kept kept_fine new new_fine
 
 -- ---- a row's entries are the first n of the room
 

@@ -117,9 +117,9 @@ pub fn row_gap(verdict: u8, station: &Station, j: usize, r2: u32) -> u32
     }
 }
 
-// What grid row j goes by of a station that is near it. In mode 0 no wind blows.
+// What grid row j goes by of a station that is near it. In mode 0 no wind blows, and any station may be asked of.
 fn gathered<const MODE: u32>(station: &Station, gap: u32, d: i64, j: usize) -> Near
-    requires { (j < most_side) × (nat_abs station.now.y ≤ most_along) × (is_no_wind (wind_in station.now) ≡ false → Fair (wind_in station.now)) }
+    requires { (j < most_side) × (MODE ≡ wind_mode → (nat_abs station.now.y ≤ most_along) × (is_no_wind (wind_in station.now) ≡ false → Fair (wind_in station.now))) }
     ensures { result ≡ entry_at MODE station.now gap d j }
 {
     let streak = if MODE == request::ALONG_WIND {
@@ -135,7 +135,9 @@ fn gathered<const MODE: u32>(station: &Station, gap: u32, d: i64, j: usize) -> N
     }
 }
 
-// Gathers the stations near grid row j, once for all its points, and says how many they are.
+// Gathers the stations near grid row j, once for all its points, and says how many they are. In mode 0 each is stored at the next free place, which only
+// a near one takes: a branch on each is often foretold wrongly where they stand in no order. Along the wind a far one is passed, since its wind would have
+// to be worked out.
 fn near_row<const MODE: u32>(
     room: &mut [Near; 512],
     stations: &[Station],
@@ -150,10 +152,11 @@ fn near_row<const MODE: u32>(
     let mut n: usize = 0;
     for (k, station) in stations.iter().enumerate() {
         let gap = row_gap(verdict[k], station, j, r2);
-        if gap < r2 {
+        let near = gap < r2;
+        if (MODE == request::ROUND) | near {
             room[n] = gathered::<MODE>(station, gap, d[k], j);
-            n += 1;
         }
+        n += near as usize;
     }
     n
 }

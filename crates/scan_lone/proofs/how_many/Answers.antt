@@ -1,19 +1,13 @@
 -- `scan_lone::how_many` meets its contract. The loop's invariant: those counted, with those to come, are all. Assumes nothing.
 use native.Mathlib.Omega.{arith}
-use mathlib.Core.Path.{◌≡◌, refl, ◌∙◌}
-use mir.Val.{bool_byte}
-use Rattle.std.proofs.Common.{ℕ, Bool, true, false, cond, ltb, count_by, drop, length-drop}
+use mathlib.Core.Path.{◌≡◌, ◌∙◌}
+use Rattle.std.proofs.Common.{Bool, ltb, count_by, drop, length-drop}
 use Rattle.std.proofs.lemmas.List.Sums.{count_by-le-length}
 use Rattle.std.proofs.lemmas.List.Elements.{All-take, All-drop}
 use Rattle.scan_lone.specs.declared.Near.{Near}
-use Rattle.scan_lone.specs.Inside.{distance, Placed, count_four, inside_counted}
+use Rattle.scan_lone.specs.Inside.{distance, Placed, counted, count_four, inside_counted}
 use Rattle.scan_lone.proofs.how_many.Goals as goal
 use Rattle.scan_lone.proofs.how_many.Goals.{In-len4-up, After-is_inside, After-is_inside-in-len4-up, After-is_inside-in-len4-up-2}
-
--- one more for each that is inside
-counted : (b c : Bool) → b ≡ c → bool_byte b ≡ cond {A = ℕ} c 1 0
-counted true c e = rw (← e) refl
-counted false c e = rw (← e) refl
 
 pub loop-rest-preserved : goal.loop-rest-preserved
 loop-rest-preserved c =

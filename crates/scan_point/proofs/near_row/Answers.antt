@@ -1,14 +1,18 @@
 -- `scan_point::near_row` meets its contract. The loop's invariant: the stations gathered give what the rows passed give. Assumes nothing.
-use Prim.Native.Nat.{ℕ, ◌<◌}
+use Prim.Native.Nat.{ℕ, ◌≤◌, ◌<◌}
 use native.Mathlib.Omega.{arith}
 use mir.Syntax.{w64}
 use Rattle.integers.specs.Words.{bits_back}
-use mathlib.Core.Path.{refl, sym, ◌∙◌}
-use Rattle.std.proofs.Common.{length-set}
-use Rattle.scan_point.specs.Near.{Stations, stations_with, y_at, verdict_at, d_at, row_gap, near_none, near_is_accepted, far_passed}
+use mathlib.Core.Path.{◌≡◌, refl, sym, ◌∙◌}
+use borrow.Author.Tests.{ne_eqb}
+use Rattle.std.proofs.Common.{length-set, ltb, ltb-true, ltb-false, le-ltb, add-zero}
+use Rattle.lists.specs.Tests.{or_false}
+use Rattle.scheme.specs.Units.{round_mode}
+use Rattle.scan_lone.specs.Inside.{counted}
+use Rattle.scan_point.specs.Near.{Stations, stations_with, x_at, y_at, wind_at, verdict_at, d_at, row_gap, Inside, near_none, near_is_accepted, far_passed}
 use Rattle.scan_point.specs.Entries.{next_gathered}
 use Rattle.scan_point.proofs.near_row.Goals as goal
-use Rattle.scan_point.proofs.near_row.Goals.{In-loop-k, Start, then-gap-r2, else-gap-r2}
+use Rattle.scan_point.proofs.near_row.Goals.{In-loop-k, Start, then-near, else-near}
 
 -- a turn, at row k
 module _ (g : _) (c : In-loop-k g) where
@@ -21,6 +25,13 @@ module _ (g : _) (c : In-loop-k g) where
   abbrev k : ℕ
   k = c.before.loop-k.k
 
+  abbrev gap : ℕ
+  gap = row_gap (verdict_at all k) (y_at all k) start.args.j start.args.r2
+
+  -- a station that is near is accepted
+  inside : gap < start.args.r2 → Inside (x_at all k) (y_at all k) (d_at all k) (wind_at all k)
+  inside close = start.requires.3.inside k c.loop-k-test.true (near_is_accepted (verdict_at all k) (y_at all k) start.args.j start.args.r2 close).0
+
 pub loop-k-init : goal.loop-k-init
 loop-k-init g c =
     let a = (goal.at.loop-k-init g c).Start.args in
@@ -28,25 +39,28 @@ loop-k-init g c =
 
 pub gathered-requires : goal.gathered-requires
 gathered-requires g c =
-    let t = (goal.at.gathered-requires g c).In-loop-k in
-    let p = (start g t).requires in
-    let i = p.3.inside (k g t) t.loop-k-test.true (near_is_accepted (verdict_at (all g t) (k g t)) (y_at (all g t) (k g t)) (start g t).args.j (start g t).args.r2 (omega (arith, c.if-gap-r2.true, c.before.row_gap-gap.ensures))).0 in
-    (p.2, i.y_small, i.wind_fair)
+    let t = (goal.at.gathered-requires g c).In-loop-k in (
+      (start g t).requires.2,
+      λ along.
+          let near = rw (ne_eqb g.row.MODE round_mode (λ (e : g.row.MODE ≡ round_mode). omega (arith, along))) at c.if-near.true in
+          let i = inside g t (omega (arith, ltb-true _ _ near, c.row_gap-gap.ensures)) in
+          (i.y_small, i.wind_fair),
+    )
 
 pub loop-k-preserved : goal.loop-k-preserved
 loop-k-preserved g c =
     let t = (goal.at.loop-k-preserved g c).In-loop-k in
+    let a = (start g t).args in
     let p = (start g t).requires in
     let l = t.before.loop-k in
     let is = c.row_gap-gap.ensures in
-    elim c.if-gap-r2.branch [
-      | then-gap-r2 w ↦
-          let long = sym (length-set l.room l.n _) ∙ rw w.room-is at c.if-gap-r2.array_long in
-          let close : row_gap (verdict_at (all g t) (k g t)) (y_at (all g t) (k g t)) (start g t).args.j (start g t).args.r2 < (start g t).args.r2 = omega (arith, w.if-gap-r2.true, is) in
-          let i = p.3.inside (k g t) t.loop-k-test.true (near_is_accepted _ _ _ _ close).0 in
-          let d-back = bits_back w64 (d_at (all g t) (k g t)) (omega (arith, i.d_small)) in
-          rw (w.room-is, w.n-is)
-          (rw (w.gathered.ensures, is, d-back)
-          (next_gathered (all g t) (start g t).args.r2 (start g t).args.j p.1 p.3 p.0 l.room long l.n (k g t) t.loop-k-test.true l.invariant.no_more close l.invariant))
-      | else-gap-r2 w ↦ rw (w.room-is, w.n-is) (far_passed l.invariant (λ i t h. refl) (λ t h s. s) (omega (arith, w.if-gap-r2.false, is)))
+    elim c.if-near.branch [
+      | then-near w ↦
+          let long = sym (length-set l.room l.n _) ∙ rw w.room-is at c.if-near.array_long in
+          let entry = λ (close : gap g t < a.r2). rw (is, bits_back w64 (d_at (all g t) (k g t)) (omega (arith, (inside g t close).d_small))) at w.gathered.ensures in
+          rw (w.room-is, is, counted (ltb (gap g t) a.r2) _ refl)
+          (next_gathered (all g t) a.r2 a.j (k g t) p.1 p.3 p.0 t.loop-k-test.true l.room long l.n l.invariant.no_more w.gathered.result entry l.invariant)
+      | else-near w ↦
+          let far : a.r2 ≤ gap g t = omega (arith, ltb-false c.row_gap-gap.result a.r2 (or_false _ _ w.if-near.false).1, is) in
+          rw (w.room-is, is, le-ltb (gap g t) a.r2 far, add-zero l.n) (far_passed l.invariant (λ i t h. refl) (λ t h s. s) far)
     ]
